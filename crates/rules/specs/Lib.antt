@@ -11,3 +11,4 @@ pub mod Fire
 pub mod Run
 pub mod Engine
 pub mod Cases
+pub mod FireExact
