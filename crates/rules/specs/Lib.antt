@@ -1,9 +1,11 @@
+-- The rules of the engine: first the definitions, in the order in which a reader meets the paper, then the theorems about them.
 pub mod Tree
 pub mod Refusals
 pub mod Limits
 pub mod Kinds
 pub mod Reader
 pub mod Checker
+pub mod Typing
 pub mod Integers
 pub mod States
 pub mod Rules
@@ -12,3 +14,6 @@ pub mod Run
 pub mod Engine
 pub mod Cases
 pub mod FireExact
+pub mod CheckerSound
+pub mod CheckerComplete
+pub mod CheckerExact
