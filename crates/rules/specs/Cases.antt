@@ -6,7 +6,16 @@ use mathlib.Core.List.{List, [], _∷_}
 use lib.IntN.{ℤ, pos, negsuc}
 use lib.ListN.{replicate}
 use Rattle.rules.specs.Refusals.{Withheld, Steps, ZeroDivisor, OutOfRange, NotAssignable, Unbound}
-use Rattle.rules.specs.Engine.{Answer, outcome, refused, number, nothing, engine}
+use Rattle.rules.specs.Refusals.{reason-number}
+use Rattle.rules.specs.Kinds.{kind-of, operand-fits}
+use Rattle.rules.specs.Reader.{node, read-expression, read-many, read-formal, read-command, read-root, nodes-of, read}
+use Rattle.rules.specs.Checker.{meaning-of, expression-code, expression-codes, has-name, shares-name, distinct, with-formals, command-ok, register-scope, root-is}
+use Rattle.rules.specs.Integers.{compute, compare, equal-integers, equal-truths, combine}
+use Rattle.rules.specs.States.{lookup, join, find, store-at, in-set, remove}
+use Rattle.rules.specs.Rules.{put-actuals, match-formals}
+use Rattle.rules.specs.Fire.{fire-expression, fire-command, fire-operator, fire-mark, fire-item, fire}
+use Rattle.rules.specs.Run.{priority, holds, first-holding, judge, run}
+use Rattle.rules.specs.Engine.{Answer, outcome, refused, number, nothing, check-image, register-environment, register-store, start, registers-from, engine}
 
 pub record Case : Type 0 where
   pub image : List ℕ
@@ -68,7 +77,7 @@ cases =
 
 -- The engine, lent 8,192 work words, gives what the row says.
 unfoldable pub Holds : Case → Type 0
-unfolding engine
+unfolding engine check-image read read-root read-command read-expression read-many read-formal node nodes-of kind-of operand-fits root-is register-scope command-ok expression-codes expression-code meaning-of has-name shares-name distinct with-formals start register-environment register-store run judge holds first-holding priority reason-number fire fire-item fire-expression fire-command fire-mark fire-operator compute compare equal-integers equal-truths combine lookup join find store-at in-set remove put-actuals match-formals registers-from
 Holds c =
     let called = engine (c .image) (c .registers) (c .budget) (replicate 8192 0) in
     (called .reply .answer ≡ c .answer) × (called .reply .steps ≡ c .steps) × (called .registers ≡ c .left)

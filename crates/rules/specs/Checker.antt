@@ -101,7 +101,6 @@ truth-only p a (suc zero) = fine a
 truth-only p a (suc (suc c)) = fault Mistyped p
 
 unfoldable pub expression-code : Scope → Expression → Judged ℕ
-unfolding meaning-of
 expression-code Γ (Num p n) = fine 0
 expression-code Γ (Boo p b) = fine 1
 expression-code Γ (Id p x) = bound-name p (meaning-of x Γ) >>= id-code p
@@ -128,7 +127,6 @@ abbrev pub same-code : (place : ℕ) → (wanted given : ℕ) → Judged Fine
 same-code p a b = cond (eqb a b) (fine ok) (fault Mistyped p)
 
 unfoldable pub expression-codes : Scope → List Expression → Judged (List ℕ)
-unfolding expression-code
 expression-codes Γ [] = fine []
 expression-codes Γ (e ∷ es) = expression-code Γ e >>= λ c. expression-codes Γ es >>= λ cs. fine (c ∷ cs)
 
@@ -156,13 +154,11 @@ has-name x (n ∷ Γ) = eqb (n .name) x || has-name x Γ
 
 -- Some name of the first scope stands in the second too.
 unfoldable pub shares-name : Scope → Scope → Bool
-unfolding has-name
 shares-name [] Γ = false
 shares-name (n ∷ Δ) Γ = has-name (n .name) Γ || shares-name Δ Γ
 
 -- A repeated Formal is 12 where it is met. `seen` holds the Formals before it, newest first.
 unfoldable pub distinct : (seen : Scope) → List Formal → Judged Fine
-unfolding has-name
 distinct seen [] = fine ok
 distinct seen (f ∷ fs) =
     let later = distinct (record { name = f .name; meaning = code (f .code) } ∷ seen) fs in
@@ -184,7 +180,6 @@ ref-code p (suc (suc (suc (suc (suc zero))))) = fine (code 7)
 ref-code p (suc (suc (suc (suc (suc (suc c)))))) = fault Mistyped p
 
 unfoldable mutual
-  unfolding expression-code expression-codes shares-name distinct with-formals
   pub command-ok : Scope → Command → Judged Fine
   command-ok Γ (Assign p x e) =
       expression-code Γ e >>= λ c.
@@ -232,6 +227,5 @@ pub data Passed : Type 0 where
   a-command : Passed
 
 unfoldable pub root-is : Scope → Root → Judged Passed
-unfolding expression-code command-ok
 root-is Γ (expression e) = expression-code Γ e >>= λ c. fine (expression-of-code c)
 root-is Γ (command c) = command-ok Γ c >>= λ done. fine a-command

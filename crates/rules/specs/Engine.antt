@@ -32,7 +32,6 @@ check-reading (image r t) = checked r t (root-is (register-scope r) t)
 
 -- Scope and types are walked only if the shape holds.
 unfoldable pub check-image : List ℕ → Checked
-unfolding read root-is register-scope
 check-image ws = check-reading (read ws)
 
 -- Start: the root on control, V empty, registers at cells 0 to r − 1, L empty.
@@ -49,7 +48,6 @@ register-store zero zs = []
 register-store (suc r) zs = record { where-at = r; contents = integer (getD zs r (pos 0)) } ∷ register-store r zs
 
 unfoldable pub start : ℕ → Root → List ℤ → State
-unfolding register-environment register-store
 start r t zs = state (root-item t ∷ []) [] (register-environment r) (register-store r zs) [] r
 
 -- The outcome of a run that ends: the value that is left, or none after a command.
@@ -82,7 +80,6 @@ as-register (some (truth b)) = pos 0
 as-register (some (location l)) = pos 0
 
 unfoldable pub registers-from : (first count : ℕ) → Store → List ℤ
-unfolding find
 registers-from i zero S = []
 registers-from i (suc k) S = as-register (find i S) ∷ registers-from (suc i) k S
 
@@ -126,7 +123,6 @@ run-checked (passed r t c) zs b ws =
 
 -- A run tests 22, 21, the image, 20, then steps. 21 and 22 touch nothing.
 unfoldable pub engine : (image : List ℕ) → (registers : List ℤ) → (budget : ℕ) → (work : List ℕ) → Called
-unfolding check-image run start registers-from cleared
 engine im zs b ws =
     let body = run-checked (check-image im) zs b (cleared ws) in
     let budgeted = cond (leb b most-budget) body (refusing Refusals.Budget 0 zs ws) in
@@ -152,7 +148,6 @@ pub record CheckCalled : Type 0 where
 
 -- The checker alone tests 22, then the image. 22 touches nothing; every other call clears the work words.
 unfoldable pub checker : (image : List ℕ) → (work : List ℕ) → CheckCalled
-unfolding check-image cleared
 checker im ws =
     let body : CheckCalled = record { answer = check-answer (check-image im); work = cleared ws } in
     cond (ltb (length ws) work-words) (record { answer = not-passed Refusals.Work 0; work = ws }) body

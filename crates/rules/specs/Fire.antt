@@ -136,7 +136,6 @@ after-test true l C = command (l .body) ∷ command (loop-node l) ∷ C
 after-test false l C = C
 
 unfoldable pub fire-expression : Expression → List Item → List Entry → Environment → Store → List ℕ → ℕ → Firing
-unfolding lookup find
 fire-expression (Num p k) C X E S L n = fires rule-Num (goes (state C (val (integer (pos k)) ∷ X) E S L n))
 fire-expression (Boo p b) C X E S L n = fires rule-Boo (goes (state C (val (truth b) ∷ X) E S L n))
 fire-expression (Id p x) C X E S L n =
@@ -154,7 +153,6 @@ fire-expression (Binary p o e₁ e₂) C X E S L n =
 fire-expression (Not p e) C X E S L n = fires rule-Not (goes (state (expression e ∷ mark not-mark ∷ C) X E S L n))
 
 unfoldable pub fire-command : Command → List Item → List Entry → Environment → Store → List ℕ → ℕ → Firing
-unfolding put-actuals
 fire-command (Assign p x e) C X E S L n =
     fires rule-Assign (goes (state (expression e ∷ mark assign-mark ∷ C) (name x ∷ X) E S L n))
 fire-command (Loop p e c) C X E S L n =
@@ -172,7 +170,6 @@ fire-declaration (DSeq p d₁ d₂) C X E S L n =
     fires rule-DSeq (goes (state (declaration d₁ ∷ declaration d₂ ∷ mark dseq-mark ∷ C) X E S L n))
 
 unfoldable pub fire-operator : Operator → List Item → List Entry → Environment → Store → List ℕ → ℕ → Firing
-unfolding compute compare equal-integers equal-truths combine
 fire-operator (arithmetic o) C X E S L n =
     take as-integer X (λ b Y. take as-integer Y (λ a Z. fires mark-arithmetic (pushed (compute o a b) C Z E S L n)))
 fire-operator Eq C X E S L n =
@@ -186,7 +183,6 @@ fire-operator (logic o) C X E S L n =
     fires mark-logic (goes (state C (val (truth (combine o a b)) ∷ Z) E S L n))))
 
 unfoldable pub fire-mark : Mark → List Item → List Entry → Environment → Store → List ℕ → ℕ → Firing
-unfolding lookup find store-at remove join match-formals fire-operator
 fire-mark (operator-mark o) C X E S L n = fire-operator o C X E S L n
 fire-mark not-mark C X E S L n = take as-truth X (λ a Y. fires mark-Not (goes (state C (val (truth (not a)) ∷ Y) E S L n)))
 fire-mark assign-mark C X E S L n =
@@ -216,7 +212,6 @@ fire-mark (call-mark p x k) C X E S L n =
     (goes (state (command (block (c .body)) ∷ mark (second-mark p n) ∷ C) (environment E ∷ locations L ∷ m .rest) (m .environment-with) S [] (n + k))))))
 
 unfoldable pub fire-item : Item → List Item → List Entry → Environment → Store → List ℕ → ℕ → Firing
-unfolding fire-expression fire-command fire-mark
 fire-item (expression e) C X E S L n = fire-expression e C X E S L n
 fire-item (command c) C X E S L n = fire-command c C X E S L n
 fire-item (declaration d) C X E S L n = fire-declaration d C X E S L n
@@ -225,6 +220,5 @@ fire-item (abstraction p fs b) C X E S L n = fires rule-Abs (goes (state C (bind
 fire-item (mark m) C X E S L n = fire-mark m C X E S L n
 
 unfoldable pub fire : State → Firing
-unfolding fire-item
 fire (state [] X E S L n) = stuck
 fire (state (i ∷ C) X E S L n) = fire-item i C X E S L n

@@ -257,7 +257,7 @@ module _ (C : List Item) (E : Environment) (S : Store) (L : List ℕ) (n : ℕ) 
   plain-value (location l) h = absurd h
 
   line-fires : (r : Rule) (i : Item) (X : List Entry) (e : Effect) → Table C E S L n r i X e → fire-item i C X E S L n ≡ fires r e
-  unfolding fire-item
+  unfolding fire-item fire-expression fire-command fire-mark fire-operator
   line-fires r i X e Rules.num = refl
   line-fires r i X e Rules.boo = refl
   line-fires r i X e (Rules.id-plain {v = v} h q) = rw (q, plain-value v h)

@@ -13,6 +13,9 @@ pub mod Fire
 pub mod Run
 pub mod Engine
 pub mod Cases
+pub mod Listing
+pub mod Shape
+pub mod ReaderComplete
 pub mod FireExact
 pub mod CheckerSound
 pub mod CheckerComplete

@@ -131,7 +131,6 @@ or-refuse r p (some a) f = f a
 -- The next node, with the checks of a node but its depth: missing (5), kind (3), wrong sort (5), operand (4).
 -- The place of a missing node is n: the next place, when all n nodes are read.
 unfoldable pub node : {K : Type 0} → (Kind → Option K) → Read (Header K)
-unfolding kind-of operand-fits
 node wants i [] = refused Refusals.Tree i
 node wants i (n ∷ ns) =
     or-refuse Refusals.Kind i (kind-of (n .kind)) (λ k.
@@ -162,7 +161,6 @@ expression-of h child = expression-by (h .kind) (h .place) (h .operand) child
 
 -- An expression, with this many levels of depth left for it and its descendants.
 unfoldable pub read-expression : ℕ → Read Expression
-unfolding node
 read-expression zero = node wants-expression >>= λ h. refuse Refusals.Depth (h .place)
 read-expression (suc d) = node wants-expression >>= λ h. expression-of h (read-expression d)
 
@@ -172,7 +170,6 @@ read-many zero one = give []
 read-many (suc n) one = one >>= λ a. read-many n one >>= λ rest. give (a ∷ rest)
 
 unfoldable pub read-formal : ℕ → Read Formal
-unfolding node
 read-formal zero = node wants-formal >>= λ h. refuse Refusals.Depth (h .place)
 read-formal (suc d) =
     node wants-formal >>= λ h.
@@ -198,7 +195,6 @@ bound-by ref-kind p w e f b = e >>= λ a. give (Ref p a)
 bound-by abs-kind p w e f b = read-many w f >>= λ fs. b >>= λ a. give (Abs p fs a)
 
 unfoldable mutual
-  unfolding node read-expression read-many read-formal
   pub read-command : ℕ → Read Command
   read-command zero = node wants-command >>= λ h. refuse Refusals.Depth (h .place)
   read-command (suc d) =
@@ -227,7 +223,6 @@ root-by (root-command k) p w e c d = command-by k p w e c d >>= λ a. give (comm
 
 -- The root is at depth 1.
 unfoldable pub read-root : ℕ → Read Root
-unfolding node read-expression read-command
 read-root zero = node wants-root >>= λ h. refuse Refusals.Depth (h .place)
 read-root (suc d) =
     node wants-root >>= λ h.
@@ -256,7 +251,6 @@ size-fits n r = ltb 0 n && leb n most-nodes && leb r most-registers
 
 -- Order of the shape checks: fewer than 2 words (1); n or r (2); length other than 2 + 2n (1); then the nodes.
 unfoldable pub read : List ℕ → Reading
-unfolding read-root nodes-of
 read [] = bad Refusals.Length 0
 read (n ∷ []) = bad Refusals.Length 0
 read (n ∷ r ∷ ws) =

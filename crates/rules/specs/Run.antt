@@ -31,7 +31,6 @@ same-reason r s = eqb (reason-number r) (reason-number s)
 -- A reason holds when its condition in the list is met, for 31 to 36 by the step.
 -- `spent`: the steps made equal the budget (30; control is not empty where a rule applies).
 unfoldable pub holds : (spent : Bool) → Effect → Reason → Bool
-unfolding reason-number
 holds spent (goes τ) Steps = spent
 holds spent (goes τ) ZeroDivisor = exceeded τ ZeroDivisor
 holds spent (goes τ) OutOfRange = exceeded τ OutOfRange
@@ -63,7 +62,6 @@ settle (fails r) none = withheld r
 settle (fails s) (some r) = withheld r
 
 unfoldable pub judge : (spent : Bool) → Effect → Verdict
-unfolding holds first-holding priority
 judge spent e = settle e (first-holding (holds spent e) priority)
 
 -- How a run ends, with the steps made and the last state: control empty; a step withheld; or no rule applies, which the
@@ -84,7 +82,6 @@ attempt (fires r e) k σ go = proceed (judge false e) k σ go
 -- The run goes on until the control stack is empty or a step is withheld. `left` is the budget less the steps made: where
 -- none is left, reason 30 has the lowest number and wins, and an empty control stack is a normal end all the same.
 unfoldable pub run : (left steps : ℕ) → State → Ending
-unfolding fire judge
 run zero k (state [] X E S L n) = ended k (state [] X E S L n)
 run zero k (state (i ∷ C) X E S L n) = stopped Steps k (state (i ∷ C) X E S L n)
 run (suc left) k (state [] X E S L n) = ended k (state [] X E S L n)

@@ -60,7 +60,6 @@ in-set l (k ∷ L) = eqb k l || in-set l L
 
 -- S/L: the store without the locations of L (002, before rule 24).
 unfoldable pub remove : List ℕ → Store → Store
-unfolding in-set
 remove L [] = []
 remove L (c ∷ S) = cond (in-set (c .where-at) L) (remove L S) (c ∷ remove L S)
 
