@@ -23,7 +23,7 @@ pub record Case : Type 0 where
   pub budget : ℕ
   pub answer : Answer
   pub steps : ℕ
-  pub left : List ℤ      -- the registers after
+  pub left : List ℤ  -- the registers after
 
 abbrev case : List ℕ → List ℤ → ℕ → Answer → ℕ → List ℤ → Case
 case im zs b a k ys = record { image = im; registers = zs; budget = b; answer = a; steps = k; left = ys }
@@ -90,7 +90,49 @@ AllHold (c ∷ cs) = Holds c × AllHold cs
 -- Cases A to L: the rules give, for each row of the table, the paper's answer, steps and registers.
 pub cases-hold : AllHold cases
 unfolding AllHold
-cases-hold =
-    ((refl, refl, refl), ((refl, refl, refl), ((refl, refl, refl), ((refl, refl, refl), ((refl, refl, refl), ((refl, refl, refl), ((refl, refl, refl),
-    ((refl, refl, refl), ((refl, refl, refl), ((refl, refl, refl), ((refl, refl, refl), ((refl, refl, refl), ((refl, refl, refl), ((refl, refl, refl), ((refl, refl, refl),
-    tt)))))))))))))))
+cases-hold = (
+  (refl, refl, refl),
+  (
+    (refl, refl, refl),
+    (
+      (refl, refl, refl),
+      (
+        (refl, refl, refl),
+        (
+          (refl, refl, refl),
+          (
+            (refl, refl, refl),
+            (
+              (refl, refl, refl),
+              (
+                (refl, refl, refl),
+                (
+                  (refl, refl, refl),
+                  (
+                    (refl, refl, refl),
+                    (
+                      (refl, refl, refl),
+                      (
+                        (refl, refl, refl),
+                        (
+                          (refl, refl, refl),
+                          (
+                            (refl, refl, refl),
+                            (
+                              (refl, refl, refl),
+                              tt,
+                            ),
+                          ),
+                        ),
+                      ),
+                    ),
+                  ),
+                ),
+              ),
+            ),
+          ),
+        ),
+      ),
+    ),
+  ),
+)

@@ -6,6 +6,7 @@ use mathlib.Core.List.{List, [], _∷_, _++_}
 use mathlib.Core.Option.{Option, none, some}
 use native.Mathlib.Nat.{le-of-suc-le-suc, not-suc-le-zero}
 use lib.Dec.{T, eqb, eqb→eq, eqb-refl}
+use Rattle.rules.specs.Basics.{false-test, or-cases, true-test}
 use Rattle.rules.specs.Tree.{Operator, arithmetic, Eq, order, logic, Expression, Formal, Command, Block, Declaration, Bound}
 use Rattle.rules.specs.Checker.{Meaning, code, function, Named, Scope, meaning-of, Judged, fault, fine, _>>=_, bound-name, id-code, deref-code, operator-code, expression-code, assignable, Fine, ok, same-code, expression-codes, same-count, same-codes, has-name, shares-name, distinct, with-formals, ref-code, command-ok, block-ok, declaration-gives, bound-means}
 use Rattle.rules.specs.Typing.{HasCode, ActualsFit, no-actuals, actual, Declares, here, there, Distinct, CommandOk, BlockOk, Gives, Means}
@@ -34,14 +35,6 @@ ref-fine p (suc (suc (suc (suc zero)))) h = refl
 ref-fine p (suc (suc (suc (suc (suc zero))))) h = refl
 ref-fine p (suc (suc (suc (suc (suc (suc c)))))) h =
     absurd (not-suc-le-zero (le-of-suc-le-suc (le-of-suc-le-suc (le-of-suc-le-suc (le-of-suc-le-suc (le-of-suc-le-suc h))))))
-
-true-test : (t : Bool) → T t → t ≡ true
-true-test true h = refl
-true-test false h = absurd h
-
-false-test : (t : Bool) → (T t → ⊥) → t ≡ false
-false-test true h = absurd (h tt)
-false-test false h = refl
 
 same-fine : (p c : ℕ) → same-code p c c ≡ fine ok
 same-fine p c = rw (true-test (eqb c c) (eqb-refl c))
@@ -81,10 +74,6 @@ unfolding codes-of
 codes-fine p [] = refl
 codes-fine p (f ∷ fs) = rw (same-fine p (f .code)) (codes-fine p fs)
 
-or-cases : {A : Type 0} (a b : Bool) → T (a || b) → (T a → A) → (T b → A) → A
-or-cases true b h f g = f tt
-or-cases false b h f g = g h
-
 tests-declared : (x : ℕ) (Γ : Scope) → T (has-name x Γ) → Declares x Γ
 unfolding has-name
 tests-declared x [] h = absurd h
@@ -110,6 +99,7 @@ assign-fine p c h = low (λ k. (assignable p (code (suc (suc k))) >>= λ wanted.
 
 mutual
   unfolding command-ok
+
   pub command-fine : {Γ : Scope} {c : Command} → CommandOk Γ c → command-ok Γ c ≡ fine ok
   command-fine (Typing.assign {Γ = Γ} {p = p} {c = c} {e = e} h l q) = rw (expression-fine Γ e c h, q) (assign-fine p c l)
   command-fine (Typing.loop {Γ = Γ} {e = e} {c = c} h k) = rw (expression-fine Γ e 1 h, command-fine k)

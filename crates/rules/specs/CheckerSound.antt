@@ -6,6 +6,7 @@ use mathlib.Core.List.{List, [], _∷_, _++_}
 use mathlib.Core.Option.{Option, none, some}
 use native.Mathlib.Omega.{arith}
 use lib.Dec.{T, eqb, eqb→eq, eqb-refl}
+use Rattle.rules.specs.Basics.{failed-test, or-left, or-right, passed-test}
 use Rattle.rules.specs.Tree.{Operator, arithmetic, Eq, order, logic, Expression, Num, Boo, Id, DeRef, ValRef, Binary, Not, Formal, Command, Assign, Loop, CSeq, block, Call, Block, Blk, Declaration, Bind, DSeq, Bound, plain, Ref, Abs}
 use Rattle.rules.specs.Checker.{Meaning, code, function, Named, Scope, meaning-of, Judged, fault, fine, _>>=_, bound-name, id-code, deref-code, valref-code, operator-code, truth-only, expression-code, assignable, Fine, ok, same-code, expression-codes, called, same-count, same-codes, has-name, shares-name, distinct, with-formals, ref-code, command-ok, block-ok, declaration-gives, bound-means}
 use Rattle.rules.specs.Typing.{HasCode, ActualsFit, no-actuals, actual, Declares, here, there, Distinct, CommandOk, BlockOk, Gives, Means}
@@ -117,12 +118,6 @@ cond-satisfies : {A : Type 0} (P : A → Type 0) (t : Bool) (x y : Judged A) →
 cond-satisfies P true x y h k = h refl
 cond-satisfies P false x y h k = k refl
 
-passed-test : {t : Bool} → t ≡ true → T t
-passed-test q = subst T (sym q) tt
-
-failed-test : {t : Bool} → t ≡ false → T t → ⊥
-failed-test q h = subst T q h
-
 same-satisfies : (p a b : ℕ) → Satisfies (λ done. a ≡ b) (same-code p a b)
 same-satisfies p a b = cond-satisfies (λ done. a ≡ b) (eqb a b) (fine ok) _ (λ q. eqb→eq a b (passed-test q)) (λ q. tt)
 
@@ -157,14 +152,6 @@ expressions-satisfy Γ [] = no-codes
 expressions-satisfy Γ (e ∷ es) =
     bind-satisfies (HasCode Γ e) _ (expression-code Γ e) _ (expression-satisfies Γ e) (λ c h.
     bind-satisfies (HaveCodes Γ es) _ (expression-codes Γ es) _ (expressions-satisfy Γ es) (λ cs k. codes-of h k))
-
-or-left : (a b : Bool) → T a → T (a || b)
-or-left true b h = tt
-or-left false b h = absurd h
-
-or-right : (a b : Bool) → T b → T (a || b)
-or-right true b h = tt
-or-right false b h = h
 
 declared-tests : (x : ℕ) (Γ : Scope) → Declares x Γ → T (has-name x Γ)
 unfolding has-name
@@ -211,6 +198,7 @@ assign-satisfies Γ p x e c m h q =
 
 mutual
   unfolding command-ok
+
   pub command-satisfies : (c : Command) (Γ : Scope) → Satisfies (λ done. CommandOk Γ c) (command-ok Γ c)
   command-satisfies (Assign p x e) Γ =
       bind-satisfies (HasCode Γ e) _ (expression-code Γ e) _ (expression-satisfies Γ e) (λ c h.

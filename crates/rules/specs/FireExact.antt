@@ -8,6 +8,7 @@ use mathlib.Core.List.{List, [], _∷_}
 use mathlib.Core.Option.{Option, none, some, Option·none-ne-some, Option·some-injective}
 use lib.IntN.{ℤ, pos}
 use lib.ListN.{length}
+use Rattle.rules.specs.Basics.{missing}
 use Rattle.rules.specs.Tree.{Operator, arithmetic, Eq, order, logic, Expression, Num, Boo, Id, DeRef, ValRef, Binary, Not, Formal, Command, Assign, Loop, CSeq, block, Call, Block, Blk, Declaration, Bind, DSeq}
 use Rattle.rules.specs.Integers.{compute, compare, combine}
 use Rattle.rules.specs.States.{Value, integer, truth, location, Bindable, value, closure, Environment, lookup, Store, find, Entry, bindable, name, node, environment, locations, val, Mark, operator-mark, not-mark, assign-mark, loop-mark, ref-mark, bind-mark, dseq-mark, first-mark, second-mark, call-mark, Item, expression, command, declaration, reference, abstraction, mark, State, state}
@@ -16,9 +17,6 @@ use Rattle.rules.specs.Rules as Rules
 use Rattle.rules.specs.Fire.{Firing, stuck, fires, given, take, as-bindable, as-value, as-integer, as-truth, as-name, LoopNode, loop-node, as-loop, as-environment, as-locations, bound-value, as-location, bound-location, Closure, bound-closure, id-value, after-test, fire-expression, fire-command, fire-declaration, fire-operator, fire-mark, fire-item, fire}
 
 -- ---- Each entry that a rule takes is of the form that its sort says.
-
-missing : {A B : Type 0} {a : A} → none ≡ some a → B
-missing {a = a} q = absurd (Option·none-ne-some a q)
 
 is-bindable : (e : Entry) (b : Bindable) → as-bindable e ≡ some b → e ≡ bindable b
 is-bindable (bindable c) b q = ap bindable (Option·some-injective c b q)

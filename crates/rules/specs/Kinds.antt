@@ -75,22 +75,22 @@ kind-of n = kind-in kinds n
 -- The operands of a kind are the numbers below this one; `none`: a Num takes any word.
 unfoldable pub operand-bound : Kind → Option ℕ
 operand-bound (expression-kind num) = none
-operand-bound (expression-kind boo) = some 2                 -- 0 false, 1 true
-operand-bound (expression-kind id) = some names              -- name
+operand-bound (expression-kind boo) = some 2  -- 0 false, 1 true
+operand-bound (expression-kind id) = some names  -- name
 operand-bound (expression-kind deref) = some names
 operand-bound (expression-kind valref) = some names
-operand-bound (expression-kind (binary o)) = some 1          -- 0
+operand-bound (expression-kind (binary o)) = some 1  -- 0
 operand-bound (expression-kind negation) = some 1
 operand-bound (command-kind assign) = some names
 operand-bound (command-kind loop) = some 1
 operand-bound (command-kind cseq) = some 1
 operand-bound (command-kind blk) = some 1
-operand-bound (command-kind call) = some (names * suc most-parameters)   -- name + 64 × count, count 0 to 8
+operand-bound (command-kind call) = some (names * suc most-parameters)  -- name + 64 × count, count 0 to 8
 operand-bound (declaration-kind bind) = some names
 operand-bound (declaration-kind dseq) = some 1
 operand-bound ref = some 1
-operand-bound abs = some (suc most-parameters)               -- count, 0 to 8
-operand-bound formal = some (names * codes)                  -- name + 64 × type code
+operand-bound abs = some (suc most-parameters)  -- count, 0 to 8
+operand-bound formal = some (names * codes)  -- name + 64 × type code
 
 abbrev pub below-bound : Option ℕ → ℕ → Bool
 below-bound none w = true

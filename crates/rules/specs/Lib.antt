@@ -13,9 +13,12 @@ pub mod Fire
 pub mod Run
 pub mod Engine
 pub mod Cases
+pub mod Basics
 pub mod Listing
 pub mod Shape
 pub mod ReaderComplete
+pub mod ReaderSound
+pub mod ReaderExact
 pub mod FireExact
 pub mod CheckerSound
 pub mod CheckerComplete

@@ -7,6 +7,7 @@ use mathlib.Core.Option.{Option, none, some}
 use native.Mathlib.Omega.{arith}
 use lib.Dec.{T, ltb, lt→ltb, eqb}
 use lib.ListN.{length}
+use Rattle.rules.specs.Basics.{append-assoc, true-test}
 use Rattle.rules.specs.Tree.{Operator, arithmetic, Eq, order, logic, Sum, Sub, Mul, Div, Lt, Le, Gt, Ge, And, Or, Expression, Boo, Formal, Command, block, Block, Declaration, Bound, plain, Root, expression, command}
 use Rattle.rules.specs.Limits.{names, codes, most-parameters}
 use Rattle.rules.specs.Kinds.{Kind, ExpressionKind, CommandKind, DeclarationKind, num, boo, id, deref, valref, binary, negation, assign, loop, cseq, blk, call, bind, dseq, expression-kind, command-kind, declaration-kind, ref, abs, formal, kind-of, operand-fits}
@@ -73,10 +74,6 @@ kind-known ref = refl
 kind-known abs = refl
 kind-known formal = refl
 
-true-test : (t : Bool) → T t → t ≡ true
-true-test true h = refl
-true-test false h = absurd h
-
 -- A node of a wanted kind whose operand fits is read.
 node-read : {K : Type 0} (wants : Kind → Option K) (k : Kind) (s : K) (w i : ℕ) (rest : List Node) → wants k ≡ some s → T (operand-fits k w) →
     node wants i (a-node (kind-number k) w ∷ rest) ≡ got (record { place = i; kind = s; operand = w }) (suc i) rest
@@ -86,10 +83,6 @@ node-read wants k s w i rest q h = rw (kind-known k, q, true-test (operand-fits 
 -- What follows a node, or a child, that is read.
 followed : {A B : Type 0} (m : Got A) (a : A) (i : ℕ) (rest : List Node) (f : A → Read B) → m ≡ got a i rest → then m f ≡ f a i rest
 followed m a i rest f q = ap (λ g. then g f) q
-
-append-assoc : (a b c : List Node) → (a ++ b) ++ c ≡ a ++ (b ++ c)
-append-assoc [] b c = refl
-append-assoc (n ∷ a) b c = ap {B = List Node} (λ r. n ∷ r) (append-assoc a b c)
 
 low-word : (b : Bool) → T (operand-fits (expression-kind boo) (truth-word b))
 unfolding operand-fits
@@ -132,10 +125,15 @@ opened (Shape.valref {d = d} {x = x} h) rest =
     record { levels = d; deep = refl; kind = valref; operand = x; children = rest; listed = refl; fits = lt→ltb x names h; reads = refl }
 opened (Shape.binary {d = d} {i = i} {j = j} {k = k} {o = o} {e₁ = e₁} {e₂ = e₂} h g) rest =
     record {
-      levels = d; deep = refl; kind = binary o; operand = 0; children = expression-nodes e₁ ++ (expression-nodes e₂ ++ rest);
+      levels = d;
+      deep = refl;
+      kind = binary o;
+      operand = 0;
+      children = expression-nodes e₁ ++ (expression-nodes e₂ ++ rest);
       listed = ap {B = List Node} (λ r. a-node (operator-number o) 0 ∷ r) (append-assoc (expression-nodes e₁) (expression-nodes e₂) rest);
       fits = tt;
-      reads = rw (opened-read d (suc i) j e₁ (expression-nodes e₂ ++ rest) (opened h (expression-nodes e₂ ++ rest)), opened-read d j k e₂ rest (opened g rest)) }
+      reads = rw (opened-read d (suc i) j e₁ (expression-nodes e₂ ++ rest) (opened h (expression-nodes e₂ ++ rest)), opened-read d j k e₂ rest (opened g rest));
+    }
 opened (Shape.negation {d = d} {i = i} {j = j} {e = e} h) rest =
     record { levels = d; deep = refl; kind = negation; operand = 0; children = expression-nodes e ++ rest; listed = refl; fits = tt; reads = rw (opened-read d (suc i) j e rest (opened h rest)) }
 
@@ -148,9 +146,11 @@ many-read : {A : Type 0} (Shaped : (place next : ℕ) → A → Type 0) (one : R
 unfolding read-many all-nodes
 many-read Shaped one nodes each i j as′ rest none-left = refl
 many-read Shaped one nodes each i j as′ rest (one-more {j = k} {a = a} {rest = more} h g) =
-    rw (append-assoc (nodes a) (all-nodes nodes more) rest,
-        each i k a (all-nodes nodes more ++ rest) h,
-        many-read Shaped one nodes each k j more rest g)
+    rw (
+      append-assoc (nodes a) (all-nodes nodes more) rest,
+      each i k a (all-nodes nodes more ++ rest) h,
+      many-read Shaped one nodes each k j more rest g,
+    )
 
 -- name + 64 × the other, taken apart again
 name-back : (x k : ℕ) → x < names → name-part (x + names * k) ≡ x
@@ -202,8 +202,12 @@ ref-fits = tt
 formal-read : (d i j : ℕ) (f : Formal) (rest : List Node) → ShapedFormal d i j f → read-formal d i (formal-nodes f ++ rest) ≡ got f j rest
 unfolding read-formal
 formal-read d i j f rest (Shape.formal {i = k} q h g) =
-    rw (node-read wants-formal formal _ (f .name + names * f .code) k rest refl (formal-fits (f .name) (f .code) h g),
-        name-back (f .name) (f .code) h, upper-back (f .name) (f .code) h, ← q)
+    rw (
+      node-read wants-formal formal _ (f .name + names * f .code) k rest refl (formal-fits (f .name) (f .code) h g),
+      name-back (f .name) (f .code) h,
+      upper-back (f .name) (f .code) h,
+      ← q,
+    )
 
 plain-read : {d i j : ℕ} {e : Expression} → ShapedExpression d i j e → (rest : List Node) → read-bound d i (expression-nodes e ++ rest) ≡ got (plain e) j rest
 unfolding read-bound
@@ -230,67 +234,100 @@ opened-command-read d i j c nodes rest o =
 
 mutual
   unfolding command-nodes read-command
+
   opened-command : {d i j : ℕ} {c : Command} → ShapedCommand d i j c → (rest : List Node) → OpenedCommand d i j c (command-nodes c) rest
   opened-command (Shape.assign {d = d} {x = x} {e = e} h g) rest =
       record { levels = d; deep = refl; kind = assign; operand = x; children = expression-nodes e ++ rest; listed = refl; fits = assign-fits x h; reads = rw (expression-read g rest) }
   opened-command (Shape.loop {d = d} {j = j} {k = k} {e = e} {c = c} h g) rest =
       record {
-        levels = d; deep = refl; kind = loop; operand = 0; children = expression-nodes e ++ (command-nodes c ++ rest);
+        levels = d;
+        deep = refl;
+        kind = loop;
+        operand = 0;
+        children = expression-nodes e ++ (command-nodes c ++ rest);
         listed = ap {B = List Node} (λ r. a-node 21 0 ∷ r) (append-assoc (expression-nodes e) (command-nodes c) rest);
         fits = loop-fits;
-        reads = rw (expression-read h (command-nodes c ++ rest), opened-command-read d j k c (command-nodes c) rest (opened-command g rest)) }
+        reads = rw (expression-read h (command-nodes c ++ rest), opened-command-read d j k c (command-nodes c) rest (opened-command g rest));
+      }
   opened-command (Shape.cseq {d = d} {i = i} {j = j} {k = k} {c₁ = c₁} {c₂ = c₂} h g) rest =
       record {
-        levels = d; deep = refl; kind = cseq; operand = 0; children = command-nodes c₁ ++ (command-nodes c₂ ++ rest);
+        levels = d;
+        deep = refl;
+        kind = cseq;
+        operand = 0;
+        children = command-nodes c₁ ++ (command-nodes c₂ ++ rest);
         listed = ap {B = List Node} (λ r. a-node 22 0 ∷ r) (append-assoc (command-nodes c₁) (command-nodes c₂) rest);
         fits = cseq-fits;
         reads =
-          rw (opened-command-read d (suc i) j c₁ (command-nodes c₁) (command-nodes c₂ ++ rest) (opened-command h (command-nodes c₂ ++ rest)),
-              opened-command-read d j k c₂ (command-nodes c₂) rest (opened-command g rest)) }
+            rw (
+              opened-command-read d (suc i) j c₁ (command-nodes c₁) (command-nodes c₂ ++ rest) (opened-command h (command-nodes c₂ ++ rest)),
+              opened-command-read d j k c₂ (command-nodes c₂) rest (opened-command g rest),
+            );
+      }
   opened-command (Shape.block-of h) rest = opened-block h rest
   opened-command (Shape.call {d = d} {i = i} {j = j} {x = x} {es = es} h g m) rest =
       record {
-        levels = d; deep = refl; kind = call; operand = x + names * length es; children = all-nodes expression-nodes es ++ rest;
-        listed = refl; fits = call-fits x (length es) h g;
+        levels = d;
+        deep = refl;
+        kind = call;
+        operand = x + names * length es;
+        children = all-nodes expression-nodes es ++ rest;
+        listed = refl;
+        fits = call-fits x (length es) h g;
         reads =
-          rw (name-back x (length es) h, upper-back x (length es) h,
-              many-read (ShapedExpression d) (read-expression d) expression-nodes (λ k l e more s. expression-read s more) (suc i) j es rest m) }
+            rw (
+              name-back x (length es) h,
+              upper-back x (length es) h,
+              many-read (ShapedExpression d) (read-expression d) expression-nodes (λ k l e more s. expression-read s more) (suc i) j es rest m,
+            );
+      }
 
   -- a Blk as a command
   opened-block : {d i j : ℕ} {b : Block} → ShapedBlock d i j b → (rest : List Node) → OpenedCommand d i j (block b) (block-nodes b) rest
   opened-block (Shape.blk {d = d} {j = j} {k = k} {dec = dec} {c = c} h g) rest =
       record {
-        levels = d; deep = refl; kind = blk; operand = 0; children = declaration-nodes dec ++ (command-nodes c ++ rest);
+        levels = d;
+        deep = refl;
+        kind = blk;
+        operand = 0;
+        children = declaration-nodes dec ++ (command-nodes c ++ rest);
         listed = ap {B = List Node} (λ r. a-node 23 0 ∷ r) (append-assoc (declaration-nodes dec) (command-nodes c) rest);
         fits = blk-fits;
-        reads = rw (declaration-read h (command-nodes c ++ rest), opened-command-read d j k c (command-nodes c) rest (opened-command g rest)) }
+        reads = rw (declaration-read h (command-nodes c ++ rest), opened-command-read d j k c (command-nodes c) rest (opened-command g rest));
+      }
 
   -- a Blk as the last child of an Abs
   pub block-read : {d i j : ℕ} {b : Block} → ShapedBlock d i j b → (rest : List Node) → read-block d i (block-nodes b ++ rest) ≡ got b j rest
   block-read (Shape.blk {d = d} {i = i} {j = j} {k = k} {dec = dec} {c = c} h g) rest =
-      rw (node-read wants-blk (command-kind blk) blk-kind 0 i ((declaration-nodes dec ++ command-nodes c) ++ rest) refl blk-fits,
-          append-assoc (declaration-nodes dec) (command-nodes c) rest,
-          declaration-read h (command-nodes c ++ rest),
-          opened-command-read d j k c (command-nodes c) rest (opened-command g rest))
+      rw (
+        node-read wants-blk (command-kind blk) blk-kind 0 i ((declaration-nodes dec ++ command-nodes c) ++ rest) refl blk-fits,
+        append-assoc (declaration-nodes dec) (command-nodes c) rest,
+        declaration-read h (command-nodes c ++ rest),
+        opened-command-read d j k c (command-nodes c) rest (opened-command g rest),
+      )
 
   pub declaration-read : {d i j : ℕ} {dec : Declaration} → ShapedDeclaration d i j dec → (rest : List Node) → read-declaration d i (declaration-nodes dec ++ rest) ≡ got dec j rest
   declaration-read (Shape.bind {i = i} {x = x} {b = b} h g) rest =
       rw (node-read wants-declaration (declaration-kind bind) bind x i (bound-nodes b ++ rest) refl (bind-fits x h), bound-read g rest)
   declaration-read (Shape.dseq {i = i} {d₁ = d₁} {d₂ = d₂} h g) rest =
-      rw (node-read wants-declaration (declaration-kind dseq) dseq 0 i ((declaration-nodes d₁ ++ declaration-nodes d₂) ++ rest) refl dseq-fits,
-          append-assoc (declaration-nodes d₁) (declaration-nodes d₂) rest,
-          declaration-read h (declaration-nodes d₂ ++ rest),
-          declaration-read g rest)
+      rw (
+        node-read wants-declaration (declaration-kind dseq) dseq 0 i ((declaration-nodes d₁ ++ declaration-nodes d₂) ++ rest) refl dseq-fits,
+        append-assoc (declaration-nodes d₁) (declaration-nodes d₂) rest,
+        declaration-read h (declaration-nodes d₂ ++ rest),
+        declaration-read g rest,
+      )
 
   pub bound-read : {d i j : ℕ} {b : Bound} → ShapedBound d i j b → (rest : List Node) → read-bound d i (bound-nodes b ++ rest) ≡ got b j rest
   bound-read (Shape.plain-of {d = d} {i = i} {j = j} {e = e} h) rest = plain-read h rest
   bound-read (Shape.ref {d = d} {i = i} {j = j} {e = e} h) rest =
       rw (node-read wants-bound ref _ 0 i (expression-nodes e ++ rest) refl ref-fits, expression-read h rest)
   bound-read (Shape.abs {d = d} {i = i} {j = j} {fs = fs} {b = b} g m h) rest =
-      rw (node-read wants-bound abs _ (length fs) i ((all-nodes formal-nodes fs ++ block-nodes b) ++ rest) refl (abs-fits (length fs) g),
-          append-assoc (all-nodes formal-nodes fs) (block-nodes b) rest,
-          many-read (ShapedFormal d) (read-formal d) formal-nodes (λ k l f more s. formal-read d k l f more s) (suc i) j fs (block-nodes b ++ rest) m,
-          block-read h rest)
+      rw (
+        node-read wants-bound abs _ (length fs) i ((all-nodes formal-nodes fs ++ block-nodes b) ++ rest) refl (abs-fits (length fs) g),
+        append-assoc (all-nodes formal-nodes fs) (block-nodes b) rest,
+        many-read (ShapedFormal d) (read-formal d) formal-nodes (λ k l f more s. formal-read d k l f more s) (suc i) j fs (block-nodes b ++ rest) m,
+        block-read h rest,
+      )
 
 -- The reader reads back the root's listing, whatever follows it.
 pub root-read : {d i j : ℕ} {t : Root} → ShapedRoot d i j t → (rest : List Node) → read-root d i (root-nodes t ++ rest) ≡ got t j rest

@@ -4,12 +4,12 @@ use Prim.Native.Nat.{ℕ}
 
 -- By the run: why a step is withheld. A "reason" is the paper's term for these seven.
 pub data Reason : Type 0 where
-  Steps : Reason           -- 30: steps made equal the budget and control is not empty
-  ZeroDivisor : Reason     -- 31
-  OutOfRange : Reason      -- 32: the result is outside the integers
-  Cells : Reason           -- 33: a 257th cell
-  Bindings : Reason        -- 34: a 513th binding
-  ValueEntries : Reason    -- 35: a 513th value entry
+  Steps : Reason  -- 30: steps made equal the budget and control is not empty
+  ZeroDivisor : Reason  -- 31
+  OutOfRange : Reason  -- 32: the result is outside the integers
+  Cells : Reason  -- 33: a 257th cell
+  Bindings : Reason  -- 34: a 513th binding
+  ValueEntries : Reason  -- 35: a 513th value entry
   ControlEntries : Reason  -- 36: a 513th control entry
 
 pub data Refusal : Type 0 where

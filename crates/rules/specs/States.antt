@@ -65,11 +65,11 @@ remove L (c ∷ S) = cond (in-set (c .where-at) L) (remove L S) (c ∷ remove L 
 
 -- An entry of the value stack.
 pub data Entry : Type 0 where
-  bindable : Bindable → Entry          -- a value or a closure
+  bindable : Bindable → Entry  -- a value or a closure
   name : ℕ → Entry
-  node : Command → Entry               -- a Loop
+  node : Command → Entry  -- a Loop
   environment : Environment → Entry
-  locations : List ℕ → Entry           -- a location set
+  locations : List ℕ → Entry  -- a location set
 
 abbrev pub val : Value → Entry
 val v = bindable (value v)
@@ -78,8 +78,8 @@ val v = bindable (value v)
 pub data Mark : Type 0 where
   operator-mark : Operator → Mark
   not-mark assign-mark loop-mark ref-mark bind-mark dseq-mark : Mark
-  first-mark : Mark                                        -- a block's, after its declaration
-  second-mark : (place bindings : ℕ) → Mark                -- where the Blk or Call at this place is left, with the live bindings to go back to
+  first-mark : Mark  -- a block's, after its declaration
+  second-mark : (place bindings : ℕ) → Mark  -- where the Blk or Call at this place is left, with the live bindings to go back to
   call-mark : (place name count : ℕ) → Mark
 
 -- An entry of the control stack: a node or a mark.
@@ -87,8 +87,8 @@ pub data Item : Type 0 where
   expression : Expression → Item
   command : Command → Item
   declaration : Declaration → Item
-  reference : (place : ℕ) → Expression → Item              -- Ref
-  abstraction : (place : ℕ) → List Formal → Block → Item   -- Abs
+  reference : (place : ℕ) → Expression → Item  -- Ref
+  abstraction : (place : ℕ) → List Formal → Block → Item  -- Abs
   mark : Mark → Item
 
 -- What a Bind puts on control for what it binds.
