@@ -5,7 +5,7 @@ use mathlib.Core.List.{List, [], _∷_}
 use mathlib.Core.Option.{Option, none, some}
 use lib.Dec.{eqb, ltb}
 use Rattle.rules.specs.Tree.{Operator, arithmetic, Eq, order, logic, Sum, Sub, Mul, Div, Lt, Le, Gt, Ge, And, Or}
-use Rattle.rules.specs.Limits.{names, codes, most-parameters}
+use Rattle.rules.specs.Limits.{words, names, codes, most-parameters}
 
 pub data ExpressionKind : Type 0 where
   num boo id deref valref : ExpressionKind
@@ -72,30 +72,26 @@ unfoldable pub kind-of : ℕ → Option Kind
 unfolding kind-in kinds
 kind-of n = kind-in kinds n
 
--- The operands of a kind are the numbers below this one; `none`: a Num takes any word.
-unfoldable pub operand-bound : Kind → Option ℕ
-operand-bound (expression-kind num) = none
-operand-bound (expression-kind boo) = some 2  -- 0 false, 1 true
-operand-bound (expression-kind id) = some names  -- name
-operand-bound (expression-kind deref) = some names
-operand-bound (expression-kind valref) = some names
-operand-bound (expression-kind (binary o)) = some 1  -- 0
-operand-bound (expression-kind negation) = some 1
-operand-bound (command-kind assign) = some names
-operand-bound (command-kind loop) = some 1
-operand-bound (command-kind cseq) = some 1
-operand-bound (command-kind blk) = some 1
-operand-bound (command-kind call) = some (names * suc most-parameters)  -- name + 64 × count, count 0 to 8
-operand-bound (declaration-kind bind) = some names
-operand-bound (declaration-kind dseq) = some 1
-operand-bound ref = some 1
-operand-bound abs = some (suc most-parameters)  -- count, 0 to 8
-operand-bound formal = some (names * codes)  -- name + 64 × type code
-
-abbrev pub below-bound : Option ℕ → ℕ → Bool
-below-bound none w = true
-below-bound (some b) w = ltb w b
+-- The operands of a kind are the numbers below this one.
+unfoldable pub operand-bound : Kind → ℕ
+operand-bound (expression-kind num) = words  -- the number: any word of 32 bits
+operand-bound (expression-kind boo) = 2  -- 0 false, 1 true
+operand-bound (expression-kind id) = names  -- name
+operand-bound (expression-kind deref) = names
+operand-bound (expression-kind valref) = names
+operand-bound (expression-kind (binary o)) = 1  -- 0
+operand-bound (expression-kind negation) = 1
+operand-bound (command-kind assign) = names
+operand-bound (command-kind loop) = 1
+operand-bound (command-kind cseq) = 1
+operand-bound (command-kind blk) = 1
+operand-bound (command-kind call) = names * suc most-parameters  -- name + 64 × count, count 0 to 8
+operand-bound (declaration-kind bind) = names
+operand-bound (declaration-kind dseq) = 1
+operand-bound ref = 1
+operand-bound abs = suc most-parameters  -- count, 0 to 8
+operand-bound formal = names * codes  -- name + 64 × type code
 
 unfoldable pub operand-fits : Kind → ℕ → Bool
 unfolding operand-bound
-operand-fits k w = below-bound (operand-bound k) w
+operand-fits k w = ltb w (operand-bound k)

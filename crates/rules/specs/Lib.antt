@@ -23,3 +23,4 @@ pub mod FireExact
 pub mod CheckerSound
 pub mod CheckerComplete
 pub mod CheckerExact
+pub mod ImageExact

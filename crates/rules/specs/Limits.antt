@@ -8,6 +8,10 @@ most-nodes = 2000
 abbrev pub most-registers : ℕ
 most-registers = 16
 
+-- words are of 32 bits, unsigned
+abbrev pub words : ℕ
+words = 4294967296
+
 -- names are 0 to 63
 abbrev pub names : ℕ
 names = 64

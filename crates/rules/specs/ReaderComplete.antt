@@ -9,7 +9,7 @@ use lib.Dec.{T, ltb, lt→ltb, eqb}
 use lib.ListN.{length}
 use Rattle.rules.specs.Basics.{append-assoc, true-test}
 use Rattle.rules.specs.Tree.{Operator, arithmetic, Eq, order, logic, Sum, Sub, Mul, Div, Lt, Le, Gt, Ge, And, Or, Expression, Boo, Formal, Command, block, Block, Declaration, Bound, plain, Root, expression, command}
-use Rattle.rules.specs.Limits.{names, codes, most-parameters}
+use Rattle.rules.specs.Limits.{words, names, codes, most-parameters}
 use Rattle.rules.specs.Kinds.{Kind, ExpressionKind, CommandKind, DeclarationKind, num, boo, id, deref, valref, binary, negation, assign, loop, cseq, blk, call, bind, dseq, expression-kind, command-kind, declaration-kind, ref, abs, formal, kind-of, operand-fits}
 use Rattle.rules.specs.Reader.{Node, Got, refused, got, Read, then, _>>=_, give, Header, node, wants-expression, wants-command, wants-declaration, wants-blk, wants-bound, wants-formal, wants-root, read-expression, read-many, read-formal, read-command, read-block, read-declaration, read-bound, read-root, name-part, upper-part, expression-by, command-by, blk-kind, plain-kind, root-expression, root-command}
 use Rattle.rules.specs.Listing.{a-node, operator-number, truth-word, expression-nodes, formal-nodes, all-nodes, command-nodes, block-nodes, declaration-nodes, bound-nodes, root-nodes}
@@ -113,8 +113,8 @@ opened-read d i j e rest o =
 
 opened : {d i j : ℕ} {e : Expression} → ShapedExpression d i j e → (rest : List Node) → Opened d i j e rest
 unfolding expression-nodes operand-fits
-opened (Shape.num {d = d} {n = n}) rest =
-    record { levels = d; deep = refl; kind = num; operand = n; children = rest; listed = refl; fits = tt; reads = refl }
+opened (Shape.num {d = d} {n = n} h) rest =
+    record { levels = d; deep = refl; kind = num; operand = n; children = rest; listed = refl; fits = lt→ltb n words h; reads = refl }
 opened (Shape.boo {d = d} {i = i} {b = b}) rest =
     record { levels = d; deep = refl; kind = boo; operand = truth-word b; children = rest; listed = refl; fits = low-word b; reads = ap (λ t. got (Boo i t) (suc i) rest) (truth-back b) }
 opened (Shape.id {d = d} {x = x} h) rest =

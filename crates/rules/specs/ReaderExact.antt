@@ -36,7 +36,7 @@ counted-two i j k a b h g = omega (arith, length-append a b, h, g)
 
 expression-counted : (d i j : ℕ) (e : Expression) → ShapedExpression d i j e → j ≡ i + length (expression-nodes e)
 unfolding expression-nodes
-expression-counted d i j e Shape.num = omega arith
+expression-counted d i j e (Shape.num h) = omega arith
 expression-counted d i j e Shape.boo = omega arith
 expression-counted d i j e (Shape.id h) = omega arith
 expression-counted d i j e (Shape.deref h) = omega arith
@@ -91,7 +91,7 @@ root-counted (Shape.root-command h) = command-counted h
 
 expression-some : (d i j : ℕ) (e : Expression) → ShapedExpression d i j e → 0 < length (expression-nodes e)
 unfolding expression-nodes
-expression-some d i j e Shape.num = omega arith
+expression-some d i j e (Shape.num h) = omega arith
 expression-some d i j e Shape.boo = omega arith
 expression-some d i j e (Shape.id h) = omega arith
 expression-some d i j e (Shape.deref h) = omega arith

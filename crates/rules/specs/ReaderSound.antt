@@ -11,7 +11,7 @@ use lib.ListN.{length}
 use Rattle.rules.specs.Basics.{append-assoc, missing, passed-test}
 use Rattle.rules.specs.Tree.{Operator, Expression, Num, Boo, Id, DeRef, ValRef, Binary, Not, Formal, Command, Assign, Loop, CSeq, block, Call, Block, Blk, Declaration, Bind, DSeq, Bound, plain, Ref, Abs, Root, expression, command}
 use Rattle.rules.specs.Refusals.{Refusal}
-use Rattle.rules.specs.Limits.{names, codes, most-parameters}
+use Rattle.rules.specs.Limits.{words, names, codes, most-parameters}
 use Rattle.rules.specs.Kinds.{Kind, ExpressionKind, CommandKind, DeclarationKind, num, boo, id, deref, valref, binary, negation, assign, loop, cseq, blk, call, bind, dseq, expression-kind, command-kind, declaration-kind, ref, abs, formal, Row, kinds, kind-in, kind-of, operand-fits}
 use Rattle.rules.specs.Reader.{Node, Got, refused, got, Read, then, _>>=_, give, Header, node, wants-expression, wants-command, wants-declaration, BlkKind, blk-kind, wants-blk, BoundKind, plain-kind, ref-kind, abs-kind, wants-bound, FormalKind, formal-kind, wants-formal, RootKind, root-expression, root-command, wants-root, or-refuse, name-part, upper-part, expression-by, command-by, declaration-by, bound-by, root-by, read-expression, read-many, read-formal, read-command, read-block, read-declaration, read-bound, read-root}
 use Rattle.rules.specs.Listing.{a-node, operator-number, truth-word, expression-nodes, formal-nodes, all-nodes, command-nodes, block-nodes, declaration-nodes, bound-nodes, root-nodes}
@@ -235,7 +235,7 @@ expression-by-answers : (d i : ℕ) (ns : List Node) → ((j : ℕ) (ms : List N
     (k : ExpressionKind) (w : ℕ) (rest : List Node) → T (operand-fits (expression-kind k) w) → ns ≡ a-node (expression-number k) w ∷ rest →
     Answers (ExpressionRead (suc d) i ns) (expression-by k i w (read-expression d) (suc i) rest)
 unfolding operand-fits expression-nodes
-expression-by-answers d i ns child num w rest t q = (Shape.num, q)
+expression-by-answers d i ns child num w rest t q = (Shape.num (ltb→lt w words t), q)
 expression-by-answers d i ns child boo w rest t q = (Shape.boo, q ∙ ap {B = List Node} (λ x. a-node 2 x ∷ rest) (sym (truth-word-back w t)))
 expression-by-answers d i ns child id w rest t q = (Shape.id (ltb→lt w names t), q)
 expression-by-answers d i ns child deref w rest t q = (Shape.deref (ltb→lt w names t), q)

@@ -7,10 +7,10 @@ use mathlib.Core.Bool.{Bool}
 use mathlib.Core.List.{List, [], _∷_}
 use lib.ListN.{length}
 use Rattle.rules.specs.Tree.{Operator, Expression, Num, Boo, Id, DeRef, ValRef, Binary, Not, Formal, Command, Assign, Loop, CSeq, block, Call, Block, Blk, Declaration, Bind, DSeq, Bound, plain, Ref, Abs, Root, expression, command}
-use Rattle.rules.specs.Limits.{names, codes, most-parameters}
+use Rattle.rules.specs.Limits.{words, names, codes, most-parameters}
 
 pub data ShapedExpression : (depth place next : ℕ) → Expression → Type 0 where
-  num : {d i n : ℕ} → ShapedExpression (suc d) i (suc i) (Num i n)
+  num : {d i n : ℕ} → n < words → ShapedExpression (suc d) i (suc i) (Num i n)
   boo : {d i : ℕ} {b : Bool} → ShapedExpression (suc d) i (suc i) (Boo i b)
   id : {d i x : ℕ} → x < names → ShapedExpression (suc d) i (suc i) (Id i x)
   deref : {d i x : ℕ} → x < names → ShapedExpression (suc d) i (suc i) (DeRef i x)
