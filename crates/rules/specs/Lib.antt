@@ -24,3 +24,10 @@ pub mod CheckerSound
 pub mod CheckerComplete
 pub mod CheckerExact
 pub mod ImageExact
+pub mod History
+pub mod Claim
+pub mod World
+pub mod Stores
+pub mod Continuation
+pub mod Progress
+pub mod ExpressionSteps
