@@ -96,7 +96,7 @@ register-world (suc r) = 0 ∷ register-world r
 
 -- The value stack has this shape; `open` holds the states in which the open Blks and Calls came to the top, newest first.
 pub data ValuesTyped (r : ℕ) : Environment → World → List ℕ → List Entry → StackShape → (open-states : List State) → Type 0 where
-  nothing-left : {E : Environment} {W : World} → W ≡ register-world r → ValuesTyped r E W [] [] end []
+  nothing-left : {E : Environment} {W : World} {L : List ℕ} → W ≡ register-world r → L ≡ [] → ValuesTyped r E W L [] end []
   value-on : {E : Environment} {W : World} {L : List ℕ} {X : List Entry} {Θ : StackShape} {P : List State} {b : Bindable} {m : Meaning} →
       BindableTyped W b m → ValuesTyped r E W L X Θ P → ValuesTyped r E W L (bindable b ∷ X) (value-of m Θ) P
   name-on : {E : Environment} {W : World} {L : List ℕ} {X : List Entry} {Θ : StackShape} {P : List State} {x : ℕ} →

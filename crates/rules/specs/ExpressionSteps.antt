@@ -56,9 +56,9 @@ small-in-range : (n : ℕ) → n < words → T (in-range (pos n))
 small-in-range n h = lt→ltb n 9223372036854775808 (omega arith)
 
 module _ (a : Passed) (r : ℕ) (C : List Item) (X : List Entry) (E : Environment) (S : Store) (L : List ℕ) (n : ℕ) (h : History)
-    (Γ : Scope) (Θ : StackShape) (W : World)
-    (names : EnvironmentTyped W E Γ) (cells : StoreTyped S W) (values : ValuesTyped r E W L X Θ (open-states (h .past)))
-    (types : h .made-types ≡ world-made W) where
+    (Γ : Scope) (Θ : StackShape) (W : World) (P : List State)
+    (names : EnvironmentTyped W E Γ) (cells : StoreTyped S W) (values : ValuesTyped r E W L X Θ P)
+    (types : h .made-types ≡ world-made W) (pending : open-states (h .past) ≡ P) where
 
   abbrev Here : Expression → Type 0
   Here e = Progress a r (state (expression e ∷ C) X E S L n) h
@@ -67,7 +67,7 @@ module _ (a : Passed) (r : ℕ) (C : List Item) (X : List Entry) (E : Environmen
   push : {e : Expression} {v : Value} {c : ℕ} (rule : Rule) → Table C E S L n rule (expression e) X (goes (state C (val v ∷ X) E S L n)) →
       ValueTyped W v c → ControlTyped a C Γ (value-of (code c) Θ) →
       ((M : Made) → M ≡ world-made W → AllHoldTheirTypes M S (expression-cells e E S)) → Here e
-  push rule line t k hold = same-store rule refl refl line names cells types k (value-on (value-typed t) values) hold
+  push rule line t k hold = same-store rule refl refl line names cells types pending k (value-on (value-typed t) values) hold
 
   -- A live cell holds the type it was made with, by any history of this world.
   holds-its-type : (l c : ℕ) → code-at l W ≡ some c → (M : Made) → M ≡ world-made W → HoldsItsType M S l
@@ -104,7 +104,7 @@ module _ (a : Passed) (r : ℕ) (C : List Item) (X : List Entry) (E : Environmen
   binary-step : (p : ℕ) (o : Operator) (e₁ e₂ : Expression) (c₁ c₂ c : ℕ) → OperatorTyped o c₁ c₂ c → HasCode Γ e₁ c₁ → HasCode Γ e₂ c₂ →
       SmallExpression e₁ × SmallExpression e₂ → ControlTyped a C Γ (value-of (code c) Θ) → Here (Binary p o e₁ e₂)
   binary-step p o e₁ e₂ c₁ c₂ c t g₁ g₂ s k =
-      same-store Rules.rule-Binary refl refl Rules.binary names cells types
+      same-store Rules.rule-Binary refl refl Rules.binary names cells types pending
       (expression-typed g₁ (s .0) (expression-typed g₂ (s .1) (operator-mark-typed t k))) values (λ M m. tt)
 
   pub expression-step : (e : Expression) (c : ℕ) → HasCode Γ e c → SmallExpression e → ControlTyped a C Γ (value-of (code c) Θ) → Here e
@@ -121,4 +121,4 @@ module _ (a : Passed) (r : ℕ) (C : List Item) (X : List Entry) (E : Environmen
   expression-step e c (Typing.equal-of {p = p} {c = d} {e₁ = e₁} {e₂ = e₂} l g₁ g₂) s k = binary-step p Eq e₁ e₂ d d 1 (equal-typed l) g₁ g₂ s k
   expression-step e c (Typing.logic-of {p = p} {o = o} {e₁ = e₁} {e₂ = e₂} g₁ g₂) s k = binary-step p (logic o) e₁ e₂ 1 1 1 logic-typed g₁ g₂ s k
   expression-step e c (Typing.not-of g) s k =
-      same-store Rules.rule-Not refl refl Rules.negation names cells types (expression-typed g s (not-mark-typed k)) values (λ M m. tt)
+      same-store Rules.rule-Not refl refl Rules.negation names cells types pending (expression-typed g s (not-mark-typed k)) values (λ M m. tt)

@@ -31,3 +31,6 @@ pub mod Stores
 pub mod Continuation
 pub mod Progress
 pub mod ExpressionSteps
+pub mod CommandSteps
+pub mod MarkSteps
+pub mod FrameSteps
