@@ -34,3 +34,5 @@ pub mod ExpressionSteps
 pub mod CommandSteps
 pub mod MarkSteps
 pub mod FrameSteps
+pub mod Judging
+pub mod WholeRun

@@ -1,0 +1,107 @@
+-- What `judge` says: the step is made exactly when no reason holds, and otherwise withheld for the lowest that does.
+-- Assumes nothing.
+use Prim.Native.Nat.{ℕ, _≤_}
+use mathlib.Core.Path.{_≡_, refl, sym, ap, _∙_, subst}
+use mathlib.Core.Logic.{_⊎_, inl, inr}
+use mathlib.Core.Bool.{Bool, true, false, cond}
+use mathlib.Core.List.{List, [], _∷_}
+use mathlib.Core.Option.{Option, none, some, Option·some-injective, Option·some-ne-none, Option·none-ne-some}
+use native.Mathlib.Nat.{le-refl}
+use lib.Dec.{T, lit≤}
+use Rattle.rules.specs.Basics.{missing, passed-test, failed-test}
+use Rattle.rules.specs.Refusals.{Reason, Steps, ZeroDivisor, OutOfRange, Cells, Bindings, ValueEntries, ControlEntries, reason-number}
+use Rattle.rules.specs.States.{State}
+use Rattle.rules.specs.Rules.{Effect, goes, fails}
+use Rattle.rules.specs.Run.{priority, holds, first-holding, Verdict, made, withheld, settle, judge}
+
+abbrev InList : Reason → List Reason → Type 0
+InList r [] = ⊥
+InList r (s ∷ ss) = (s ≡ r) ⊎ InList r ss
+
+-- Every reason is asked.
+all-asked : (r : Reason) → InList r priority
+unfolding priority
+all-asked Steps = inl refl
+all-asked ZeroDivisor = inr (inl refl)
+all-asked OutOfRange = inr (inr (inl refl))
+all-asked Cells = inr (inr (inr (inl refl)))
+all-asked Bindings = inr (inr (inr (inr (inl refl))))
+all-asked ValueEntries = inr (inr (inr (inr (inr (inl refl)))))
+all-asked ControlEntries = inr (inr (inr (inr (inr (inr (inl refl))))))
+
+-- The reasons are asked in the order of their numbers.
+abbrev AtLeast : ℕ → List Reason → Type 0
+AtLeast n [] = Unit {0}
+AtLeast n (s ∷ ss) = (n ≤ reason-number s) × AtLeast n ss
+
+abbrev Ascending : List Reason → Type 0
+Ascending [] = Unit {0}
+Ascending (s ∷ ss) = AtLeast (reason-number s) ss × Ascending ss
+
+priority-ascends : Ascending priority
+unfolding priority reason-number
+priority-ascends =
+    ((lit≤ tt, (lit≤ tt, (lit≤ tt, (lit≤ tt, (lit≤ tt, (lit≤ tt, tt)))))),
+    ((lit≤ tt, (lit≤ tt, (lit≤ tt, (lit≤ tt, (lit≤ tt, tt))))),
+    ((lit≤ tt, (lit≤ tt, (lit≤ tt, (lit≤ tt, tt)))),
+    ((lit≤ tt, (lit≤ tt, (lit≤ tt, tt))),
+    ((lit≤ tt, (lit≤ tt, tt)),
+    ((lit≤ tt, tt),
+    (tt, tt)))))))
+
+least-in : (n : ℕ) (rs : List Reason) (r : Reason) → AtLeast n rs → InList r rs → n ≤ reason-number r
+least-in n [] r h i = absurd i
+least-in n (s ∷ ss) r h (inl q) = subst (λ k. n ≤ reason-number k) q (h .0)
+least-in n (s ∷ ss) r h (inr i) = least-in n ss r (h .1) i
+
+module _ (f : Reason → Bool) where
+  none-holds : (rs : List Reason) → first-holding f rs ≡ none → (r : Reason) → InList r rs → T (f r) → ⊥
+  unfolding first-holding
+  none-holds [] q r i t = i
+  none-holds (s ∷ ss) q r i t = choose (f s) refl q i (λ p j. none-holds ss p r j t)
+    where
+      choose : (b : Bool) → f s ≡ b → cond b (some s) (first-holding f ss) ≡ none → InList r (s ∷ ss) → (first-holding f ss ≡ none → InList r ss → ⊥) → ⊥
+      choose true u p j later = Option·some-ne-none s p
+      choose false u p (inl e) later = failed-test u (subst (λ k. T (f k)) (sym e) t)
+      choose false u p (inr j) later = later p j
+
+  some-holds : (rs : List Reason) (x : Reason) → first-holding f rs ≡ some x → T (f x)
+  unfolding first-holding
+  some-holds [] x q = missing q
+  some-holds (s ∷ ss) x q = choose (f s) refl q (some-holds ss x)
+    where
+      choose : (b : Bool) → f s ≡ b → cond b (some s) (first-holding f ss) ≡ some x → (first-holding f ss ≡ some x → T (f x)) → T (f x)
+      choose true u p later = subst (λ k. T (f k)) (Option·some-injective s x p) (passed-test u)
+      choose false u p later = later p
+
+  lowest-holds : (rs : List Reason) (x : Reason) → first-holding f rs ≡ some x → Ascending rs → (r : Reason) → InList r rs → T (f r) → reason-number x ≤ reason-number r
+  unfolding first-holding
+  lowest-holds [] x q a r i t = absurd i
+  lowest-holds (s ∷ ss) x q a r i t = choose (f s) refl q i (λ p j. lowest-holds ss x p (a .1) r j t)
+    where
+      at-first : InList r (s ∷ ss) → reason-number s ≤ reason-number r
+      at-first (inl e) = subst (λ k. reason-number s ≤ reason-number k) e (le-refl (reason-number s))
+      at-first (inr j) = least-in (reason-number s) ss r (a .0) j
+      choose : (b : Bool) → f s ≡ b → cond b (some s) (first-holding f ss) ≡ some x → InList r (s ∷ ss) → (first-holding f ss ≡ some x → InList r ss → reason-number x ≤ reason-number r) → reason-number x ≤ reason-number r
+      choose true u p j later = subst (λ k. reason-number k ≤ reason-number r) (Option·some-injective s x p) (at-first j)
+      choose false u p (inl e) later = absurd (failed-test u (subst (λ k. T (f k)) (sym e) t))
+      choose false u p (inr j) later = later p j
+
+-- How a step is judged.
+pub data Judgement (spent : Bool) (e : Effect) : Type 0 where
+  no-reason : ((r : Reason) → T (holds spent e r) → ⊥) → judge spent e ≡ settle e none → Judgement spent e
+  for-reason : (x : Reason) → T (holds spent e x) → ((r : Reason) → T (holds spent e r) → reason-number x ≤ reason-number r) → judge spent e ≡ withheld x → Judgement spent e
+
+settled : (e : Effect) (x : Reason) → settle e (some x) ≡ withheld x
+settled (goes τ) x = refl
+settled (fails y) x = refl
+
+pub judged : (spent : Bool) (e : Effect) → Judgement spent e
+unfolding judge
+judged spent e = by-first (first-holding (holds spent e) priority) refl
+  where
+    by-first : (o : Option Reason) → first-holding (holds spent e) priority ≡ o → Judgement spent e
+    by-first none q = no-reason (λ r. none-holds (holds spent e) priority q r (all-asked r)) (ap (settle e) q)
+    by-first (some x) q =
+        for-reason x (some-holds (holds spent e) priority x q) (λ r. lowest-holds (holds spent e) priority x q priority-ascends r (all-asked r))
+        (ap (settle e) q ∙ settled e x)
