@@ -6,8 +6,9 @@ use Prim.Native.Nat.{ℕ, zero, suc, _≤_}
 use mathlib.Core.Bool.{Bool, true, false, cond, _||_}
 use mathlib.Core.List.{List, [], _∷_, _++_}
 use mathlib.Core.Option.{Option, none, some}
-use lib.Dec.{eqb}
+use lib.Dec.{eqb, ltb}
 use Rattle.rules.specs.Tree.{Operator, arithmetic, Eq, order, logic, Expression, Num, Boo, Id, DeRef, ValRef, Binary, Not, Formal, Command, Assign, Loop, CSeq, block, Call, Block, Blk, Declaration, Bind, DSeq, Bound, plain, Ref, Abs, Root, expression, command}
+use Rattle.rules.specs.Limits.{plain-codes}
 use Rattle.rules.specs.Refusals.{Refusal, Unbound, Mistyped, Repeated, NotAssignable, BadCall}
 
 -- What a name means: a value of a type code, or a function with its Formals.
@@ -110,13 +111,12 @@ expression-code Γ (Binary p o e₁ e₂) =
     expression-code Γ e₁ >>= λ a. expression-code Γ e₂ >>= λ b. operator-code o p a b
 expression-code Γ (Not p e) = expression-code Γ e >>= truth-only p 1
 
--- The value that may be assigned: to code 2 an integer, to code 3 a truth; any other name is not assignable (13).
+-- The code of the value that may be assigned: 2 less than the name's, and plain, so the name has code 2 or 3; any other name is
+-- not assignable (13).
 abbrev pub assignable : (place : ℕ) → Meaning → Judged ℕ
 assignable p (code zero) = fault NotAssignable p
 assignable p (code (suc zero)) = fault NotAssignable p
-assignable p (code (suc (suc zero))) = fine 0
-assignable p (code (suc (suc (suc zero)))) = fine 1
-assignable p (code (suc (suc (suc (suc c))))) = fault NotAssignable p
+assignable p (code (suc (suc c))) = cond (ltb c plain-codes) (fine c) (fault NotAssignable p)
 assignable p (function fs) = fault NotAssignable p
 
 -- A command is fine or not: there is one answer.

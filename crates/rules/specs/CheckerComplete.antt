@@ -5,9 +5,10 @@ use mathlib.Core.Bool.{Bool, true, false, cond, _||_}
 use mathlib.Core.List.{List, [], _∷_, _++_}
 use mathlib.Core.Option.{Option, none, some}
 use native.Mathlib.Nat.{le-of-suc-le-suc, not-suc-le-zero}
-use lib.Dec.{T, eqb, eqb→eq, eqb-refl}
+use lib.Dec.{T, eqb, ltb, eqb→eq, eqb-refl, lt→ltb}
 use Rattle.rules.specs.Basics.{false-test, or-cases, true-test}
 use Rattle.rules.specs.Tree.{Operator, arithmetic, Eq, order, logic, Expression, Formal, Command, Block, Declaration, Bound}
+use Rattle.rules.specs.Limits.{plain-codes}
 use Rattle.rules.specs.Checker.{Meaning, code, function, Named, Scope, meaning-of, Judged, fault, fine, _>>=_, bound-name, id-code, deref-code, operator-code, expression-code, assignable, Fine, ok, same-code, expression-codes, same-count, same-codes, has-name, shares-name, distinct, with-formals, ref-code, command-ok, block-ok, declaration-gives, bound-means}
 use Rattle.rules.specs.Typing.{HasCode, ActualsFit, no-actuals, actual, Declares, here, there, Distinct, CommandOk, BlockOk, Gives, Means}
 use Rattle.rules.specs.Typing as Typing
@@ -94,8 +95,8 @@ distinct-fine seen fs (Typing.formal {f = f} {fs = gs} h k) =
     rw (false-test (has-name (f .name) seen) (λ t. h (tests-declared (f .name) seen t)))
     (distinct-fine (record { name = f .name; meaning = code (f .code) } ∷ seen) gs k)
 
-assign-fine : (p c : ℕ) → c < 2 → (assignable p (code (suc (suc c))) >>= λ wanted. same-code p wanted c) ≡ fine ok
-assign-fine p c h = low (λ k. (assignable p (code (suc (suc k))) >>= λ wanted. same-code p wanted k) ≡ fine ok) refl refl c h
+assign-fine : (p c : ℕ) → c < plain-codes → (assignable p (code (suc (suc c))) >>= λ wanted. same-code p wanted c) ≡ fine ok
+assign-fine p c h = rw (true-test (ltb c plain-codes) (lt→ltb c plain-codes h)) (same-fine p c)
 
 mutual
   unfolding command-ok

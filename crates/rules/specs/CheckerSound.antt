@@ -5,9 +5,10 @@ use mathlib.Core.Bool.{Bool, true, false, cond, _||_}
 use mathlib.Core.List.{List, [], _∷_, _++_}
 use mathlib.Core.Option.{Option, none, some}
 use native.Mathlib.Omega.{arith}
-use lib.Dec.{T, eqb, eqb→eq, eqb-refl}
+use lib.Dec.{T, eqb, ltb, eqb→eq, eqb-refl, ltb→lt}
 use Rattle.rules.specs.Basics.{failed-test, or-left, or-right, passed-test}
 use Rattle.rules.specs.Tree.{Operator, arithmetic, Eq, order, logic, Expression, Num, Boo, Id, DeRef, ValRef, Binary, Not, Formal, Command, Assign, Loop, CSeq, block, Call, Block, Blk, Declaration, Bind, DSeq, Bound, plain, Ref, Abs}
+use Rattle.rules.specs.Limits.{plain-codes}
 use Rattle.rules.specs.Checker.{Meaning, code, function, Named, Scope, meaning-of, Judged, fault, fine, _>>=_, bound-name, id-code, deref-code, valref-code, operator-code, truth-only, expression-code, assignable, Fine, ok, same-code, expression-codes, called, same-count, same-codes, has-name, shares-name, distinct, with-formals, ref-code, command-ok, block-ok, declaration-gives, bound-means}
 use Rattle.rules.specs.Typing.{HasCode, ActualsFit, no-actuals, actual, Declares, here, there, Distinct, CommandOk, BlockOk, Gives, Means}
 use Rattle.rules.specs.Typing as Typing
@@ -121,12 +122,12 @@ cond-satisfies P false x y h k = k refl
 same-satisfies : (p a b : ℕ) → Satisfies (λ done. a ≡ b) (same-code p a b)
 same-satisfies p a b = cond-satisfies (λ done. a ≡ b) (eqb a b) (fine ok) _ (λ q. eqb→eq a b (passed-test q)) (λ q. tt)
 
-assignable-satisfies : (p : ℕ) (m : Meaning) → Satisfies (λ c. (c < 2) × (m ≡ code (suc (suc c)))) (assignable p m)
+assignable-satisfies : (p : ℕ) (m : Meaning) → Satisfies (λ c. (c < plain-codes) × (m ≡ code (suc (suc c)))) (assignable p m)
 assignable-satisfies p (code zero) = tt
 assignable-satisfies p (code (suc zero)) = tt
-assignable-satisfies p (code (suc (suc zero))) = (omega arith, refl)
-assignable-satisfies p (code (suc (suc (suc zero)))) = (omega arith, refl)
-assignable-satisfies p (code (suc (suc (suc (suc c))))) = tt
+assignable-satisfies p (code (suc (suc c))) =
+    cond-satisfies (λ d. (d < plain-codes) × (code (suc (suc c)) ≡ code (suc (suc d)))) (ltb c plain-codes) (fine c) _
+    (λ q. (ltb→lt c plain-codes (passed-test q), refl)) (λ q. tt)
 assignable-satisfies p (function fs) = tt
 
 called-satisfies : (p : ℕ) (m : Meaning) → Satisfies (λ fs. m ≡ function fs) (called p m)
@@ -192,7 +193,7 @@ call-satisfies Γ p x es cs m h q =
 assign-satisfies : (Γ : Scope) (p x : ℕ) (e : Expression) (c : ℕ) (m : Meaning) → HasCode Γ e c → meaning-of x Γ ≡ some m →
     Satisfies (λ done. CommandOk Γ (Assign p x e)) (assignable p m >>= λ wanted. same-code p wanted c)
 assign-satisfies Γ p x e c m h q =
-    bind-satisfies (λ w. (w < 2) × (m ≡ code (suc (suc w)))) _ (assignable p m) _ (assignable-satisfies p m) (λ w k.
+    bind-satisfies (λ w. (w < plain-codes) × (m ≡ code (suc (suc w)))) _ (assignable p m) _ (assignable-satisfies p m) (λ w k.
     each (same-code p w c) (λ t. Typing.assign (subst (HasCode Γ e) (sym t) h) (k .0) (q ∙ ap {B = Option Meaning} some (k .1)))
     (same-satisfies p w c))
 

@@ -1,7 +1,7 @@
 -- Demand 3, stated: one claim about all states of a run, in the words of the paper ("The mission", demand 3, and "Agreement
 -- between supplier and tester"). This file names the automaton's definitions and nothing of the proof. WholeRun.antt proves it.
 -- Assumes nothing.
-use Prim.Native.Nat.{ℕ, zero, suc, _≤_}
+use Prim.Native.Nat.{ℕ, zero, suc, _≤_, _<_}
 use mathlib.Core.Path.{_≡_}
 use mathlib.Core.Bool.{Bool, true, false}
 use mathlib.Core.List.{List, [], _∷_}
@@ -10,13 +10,13 @@ use lib.Dec.{T, eqb}
 use lib.IntN.{ℤ}
 use lib.ListN.{length}
 use Rattle.rules.specs.Tree.{Expression, Num, Boo, Id, DeRef, ValRef, Binary, Not, Root}
-use Rattle.rules.specs.Refusals.{Reason, reason-number}
+use Rattle.rules.specs.Refusals.{Reason, Steps, ZeroDivisor, OutOfRange, Cells, Bindings, ValueEntries, ControlEntries, reason-number}
 use Rattle.rules.specs.Limits.{most-budget}
 use Rattle.rules.specs.Integers.{in-range}
 use Rattle.rules.specs.Checker.{Passed}
-use Rattle.rules.specs.States.{Value, integer, truth, location, Bindable, value, closure, Environment, lookup, Store, find, Entry, bindable, name, node, environment, locations, Mark, operator-mark, not-mark, assign-mark, loop-mark, ref-mark, bind-mark, dseq-mark, first-mark, second-mark, call-mark, Item, expression, command, declaration, reference, abstraction, mark, State, state, control-of, values-of, environment-of, store-of, locations-of, live-cells}
-use Rattle.rules.specs.Rules.{Rule, Effect, goes, Applies}
-use Rattle.rules.specs.Run.{holds, judge, made, withheld}
+use Rattle.rules.specs.States.{Value, integer, truth, location, Bindable, value, closure, Environment, lookup, Store, find, Entry, bindable, name, node, environment, locations, Mark, operator-mark, not-mark, assign-mark, loop-mark, ref-mark, bind-mark, dseq-mark, first-mark, second-mark, call-mark, Item, expression, command, declaration, reference, abstraction, mark, State, state, control-of, values-of, environment-of, store-of, locations-of, bindings-of, live-cells}
+use Rattle.rules.specs.Rules.{Rule, Effect, goes, fails, Applies}
+use Rattle.rules.specs.Run.{judge, made, withheld}
 use Rattle.rules.specs.Engine.{check-image, passed, start}
 use Rattle.rules.specs.History.{Made, made-with, type-of, History, latest, leaves, note, first-history, Reach}
 
@@ -116,36 +116,50 @@ abbrev pub LeavingRestores : Option ℕ → History → State → Type 0
 LeavingRestores none h τ = Unit {0}
 LeavingRestores (some p) h τ = Restores p h τ
 
+-- ---- "A reason holds when its condition in the list is met, for 31 to 36 by the step."
+
+pub data ReasonHolds (budget steps : ℕ) (e : Effect) : Reason → Type 0 where
+  -- 30 steps made equal the budget and control is not empty (it is not where a rule applies)
+  budget-used : steps ≡ budget → ReasonHolds budget steps e Steps
+  -- 31 zero divisor, 32 result outside the integers
+  divisor-zero : e ≡ fails ZeroDivisor → ReasonHolds budget steps e ZeroDivisor
+  result-outside : e ≡ fails OutOfRange → ReasonHolds budget steps e OutOfRange
+  -- 33 a 257th cell, 34 a 513th binding, 35 a 513th value entry, 36 a 513th control entry, in the state after the step
+  cells-full : (τ : State) → e ≡ goes τ → 256 < length (store-of τ) → ReasonHolds budget steps e Cells
+  bindings-full : (τ : State) → e ≡ goes τ → 512 < bindings-of τ → ReasonHolds budget steps e Bindings
+  values-full : (τ : State) → e ≡ goes τ → 512 < length (values-of τ) → ReasonHolds budget steps e ValueEntries
+  control-full : (τ : State) → e ≡ goes τ → 512 < length (control-of τ) → ReasonHolds budget steps e ControlEntries
+
 -- ---- "its step is made if no reason of 30 to 36 holds and otherwise withheld for one that does"
 
 -- The step of this effect is made.
-pub record StepMade (spent : Bool) (σ : State) (h : History) (e : Effect) : Type 0 where
+pub record StepMade (budget steps : ℕ) (σ : State) (h : History) (e : Effect) : Type 0 where
   pub after : State
   pub goes-there : e ≡ goes after
   -- "if no reason of 30 to 36 holds"
-  pub no-reason : (r : Reason) → T (holds spent e r) → ⊥
-  pub is-made : judge spent e ≡ made after
+  pub no-reason : (r : Reason) → ReasonHolds budget steps e r → ⊥
+  pub is-made : judge (eqb steps budget) e ≡ made after
   -- "every cell read or set is live and holds the type it was made with", after the step
   pub cells-after : AllHoldTheirTypes (note σ h after .made-types) (store-of after) (touched σ)
   -- "each leaving of a block or call restores .."
   pub restored : LeavingRestores (leaves σ) h after
 
 -- The step of this effect is withheld.
-pub record StepWithheld (spent : Bool) (e : Effect) : Type 0 where
+pub record StepWithheld (budget steps : ℕ) (e : Effect) : Type 0 where
   pub reason : Reason
   -- "for one that does"
-  pub reason-holds : T (holds spent e reason)
+  pub reason-holds : ReasonHolds budget steps e reason
   -- the lowest of those that hold ("At a step the lowest number wins")
-  pub lowest : (r : Reason) → T (holds spent e r) → reason-number reason ≤ reason-number r
-  pub is-withheld : judge spent e ≡ withheld reason
+  pub lowest : (r : Reason) → ReasonHolds budget steps e r → reason-number reason ≤ reason-number r
+  pub is-withheld : judge (eqb steps budget) e ≡ withheld reason
 
-pub data StepOutcome (spent : Bool) (σ : State) (h : History) (e : Effect) : Type 0 where
-  step-is-made : StepMade spent σ h e → StepOutcome spent σ h e
-  step-is-withheld : StepWithheld spent e → StepOutcome spent σ h e
+pub data StepOutcome (budget steps : ℕ) (σ : State) (h : History) (e : Effect) : Type 0 where
+  step-is-made : StepMade budget steps σ h e → StepOutcome budget steps σ h e
+  step-is-withheld : StepWithheld budget steps e → StepOutcome budget steps σ h e
 
--- ---- The claim about one state with control not empty. `spent`: the steps made equal the budget.
+-- ---- The claim about one state with control not empty, with these steps made.
 
-pub record StateClaim (spent : Bool) (σ : State) (h : History) : Type 0 where
+pub record StateClaim (budget steps : ℕ) (σ : State) (h : History) : Type 0 where
   -- "exactly one rule applies": this rule, with this effect ..
   pub rule : Rule
   pub effect : Effect
@@ -155,7 +169,7 @@ pub record StateClaim (spent : Bool) (σ : State) (h : History) : Type 0 where
   -- "every cell read or set is live and holds the type it was made with", before the step
   pub cells-before : AllHoldTheirTypes (h .made-types) (store-of σ) (touched σ)
   -- "its step is made if no reason of 30 to 36 holds and otherwise withheld for one that does"
-  pub outcome : StepOutcome spent σ h effect
+  pub outcome : StepOutcome budget steps σ h effect
 
 -- Integers are −2^63 to 2^63 − 1: so is each starting value.
 abbrev pub AllInRange : List ℤ → Type 0
@@ -170,4 +184,4 @@ WholeRunClaim =
     (registers : List ℤ) → length registers ≡ r → AllInRange registers →
     (budget : ℕ) → budget ≤ most-budget →
     (steps : ℕ) (σ : State) (h : History) → Reach budget (start r t registers) r steps σ h →
-    (control-of σ ≡ [] → ⊥) → StateClaim (eqb steps budget) σ h
+    (control-of σ ≡ [] → ⊥) → StateClaim budget steps σ h

@@ -1,18 +1,20 @@
 -- What `judge` says: the step is made exactly when no reason holds, and otherwise withheld for the lowest that does.
 -- Assumes nothing.
-use Prim.Native.Nat.{ℕ, _≤_}
+use Prim.Native.Nat.{ℕ, _≤_, _<_}
 use mathlib.Core.Path.{_≡_, refl, sym, ap, _∙_, subst}
 use mathlib.Core.Logic.{_⊎_, inl, inr}
 use mathlib.Core.Bool.{Bool, true, false, cond}
 use mathlib.Core.List.{List, [], _∷_}
 use mathlib.Core.Option.{Option, none, some, Option·some-injective, Option·some-ne-none, Option·none-ne-some}
 use native.Mathlib.Nat.{le-refl}
-use lib.Dec.{T, lit≤}
+use lib.Dec.{T, eqb, ltb, eqb→eq, eqb-refl, ltb→lt, lt→ltb, lit≤}
+use lib.ListN.{length}
 use Rattle.rules.specs.Basics.{missing, passed-test, failed-test}
 use Rattle.rules.specs.Refusals.{Reason, Steps, ZeroDivisor, OutOfRange, Cells, Bindings, ValueEntries, ControlEntries, reason-number}
-use Rattle.rules.specs.States.{State}
+use Rattle.rules.specs.States.{State, control-of, values-of, store-of, bindings-of}
 use Rattle.rules.specs.Rules.{Effect, goes, fails}
-use Rattle.rules.specs.Run.{priority, holds, first-holding, Verdict, made, withheld, settle, judge}
+use Rattle.rules.specs.Claim.{ReasonHolds, budget-used, divisor-zero, result-outside, cells-full, bindings-full, values-full, control-full}
+use Rattle.rules.specs.Run.{same-reason, priority, holds, first-holding, Verdict, made, withheld, settle, judge}
 
 abbrev InList : Reason → List Reason → Type 0
 InList r [] = ⊥
@@ -105,3 +107,57 @@ judged spent e = by-first (first-holding (holds spent e) priority) refl
     by-first (some x) q =
         for-reason x (some-holds (holds spent e) priority x q) (λ r. lowest-holds (holds spent e) priority x q priority-ascends r (all-asked r))
         (ap (settle e) q ∙ settled e x)
+
+-- ---- The test of a reason and its condition are the same.
+
+-- the reason with a given number, of the two that an arithmetic mark meets
+zero-divisor-only : (x : Reason) → T (same-reason x ZeroDivisor) → x ≡ ZeroDivisor
+unfolding reason-number
+zero-divisor-only Steps t = absurd t
+zero-divisor-only ZeroDivisor t = refl
+zero-divisor-only OutOfRange t = absurd t
+zero-divisor-only Cells t = absurd t
+zero-divisor-only Bindings t = absurd t
+zero-divisor-only ValueEntries t = absurd t
+zero-divisor-only ControlEntries t = absurd t
+
+out-of-range-only : (x : Reason) → T (same-reason x OutOfRange) → x ≡ OutOfRange
+unfolding reason-number
+out-of-range-only Steps t = absurd t
+out-of-range-only ZeroDivisor t = absurd t
+out-of-range-only OutOfRange t = refl
+out-of-range-only Cells t = absurd t
+out-of-range-only Bindings t = absurd t
+out-of-range-only ValueEntries t = absurd t
+out-of-range-only ControlEntries t = absurd t
+
+pub holds→reason : (budget steps : ℕ) (e : Effect) (r : Reason) → T (holds (eqb steps budget) e r) → ReasonHolds budget steps e r
+unfolding holds
+holds→reason budget steps (goes τ) Steps t = budget-used (eqb→eq steps budget t)
+holds→reason budget steps (goes τ) ZeroDivisor t = absurd t
+holds→reason budget steps (goes τ) OutOfRange t = absurd t
+holds→reason budget steps (goes τ) Cells t = cells-full τ refl (ltb→lt 256 (length (store-of τ)) t)
+holds→reason budget steps (goes τ) Bindings t = bindings-full τ refl (ltb→lt 512 (bindings-of τ) t)
+holds→reason budget steps (goes τ) ValueEntries t = values-full τ refl (ltb→lt 512 (length (values-of τ)) t)
+holds→reason budget steps (goes τ) ControlEntries t = control-full τ refl (ltb→lt 512 (length (control-of τ)) t)
+holds→reason budget steps (fails x) Steps t = budget-used (eqb→eq steps budget t)
+holds→reason budget steps (fails x) ZeroDivisor t = divisor-zero (ap fails (zero-divisor-only x t))
+holds→reason budget steps (fails x) OutOfRange t = result-outside (ap fails (out-of-range-only x t))
+holds→reason budget steps (fails x) Cells t = absurd t
+holds→reason budget steps (fails x) Bindings t = absurd t
+holds→reason budget steps (fails x) ValueEntries t = absurd t
+holds→reason budget steps (fails x) ControlEntries t = absurd t
+
+used-up : (budget steps : ℕ) → steps ≡ budget → T (eqb steps budget)
+used-up budget steps q = subst (λ k. T (eqb steps k)) q (eqb-refl steps)
+
+pub reason→holds : (budget steps : ℕ) (e : Effect) (r : Reason) → ReasonHolds budget steps e r → T (holds (eqb steps budget) e r)
+unfolding holds reason-number
+reason→holds budget steps (goes τ) r (budget-used q) = used-up budget steps q
+reason→holds budget steps (fails x) r (budget-used q) = used-up budget steps q
+reason→holds budget steps e r (divisor-zero q) = subst (λ f. T (holds (eqb steps budget) f ZeroDivisor)) (sym q) tt
+reason→holds budget steps e r (result-outside q) = subst (λ f. T (holds (eqb steps budget) f OutOfRange)) (sym q) tt
+reason→holds budget steps e r (cells-full τ q h) = subst (λ f. T (holds (eqb steps budget) f Cells)) (sym q) (lt→ltb 256 (length (store-of τ)) h)
+reason→holds budget steps e r (bindings-full τ q h) = subst (λ f. T (holds (eqb steps budget) f Bindings)) (sym q) (lt→ltb 512 (bindings-of τ) h)
+reason→holds budget steps e r (values-full τ q h) = subst (λ f. T (holds (eqb steps budget) f ValueEntries)) (sym q) (lt→ltb 512 (length (values-of τ)) h)
+reason→holds budget steps e r (control-full τ q h) = subst (λ f. T (holds (eqb steps budget) f ControlEntries)) (sym q) (lt→ltb 512 (length (control-of τ)) h)

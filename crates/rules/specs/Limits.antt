@@ -20,6 +20,10 @@ names = 64
 abbrev pub codes : ℕ
 codes = 8
 
+-- codes 0 and 1, an integer and a truth, are plain; a code above them is a location's
+abbrev pub plain-codes : ℕ
+plain-codes = 2
+
 -- actuals of a Call, Formals of an Abs: 0 to 8
 abbrev pub most-parameters : ℕ
 most-parameters = 8

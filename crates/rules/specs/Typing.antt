@@ -6,6 +6,7 @@ use mathlib.Core.Bool.{Bool}
 use mathlib.Core.List.{List, [], _∷_, _++_}
 use mathlib.Core.Option.{Option, none, some}
 use Rattle.rules.specs.Tree.{Arithmetic, Order, Logic, Operator, arithmetic, Eq, order, logic, Expression, Num, Boo, Id, DeRef, ValRef, Binary, Not, Formal, Command, Assign, Loop, CSeq, block, Call, Block, Blk, Declaration, Bind, DSeq, Bound, plain, Ref, Abs, Root, expression, command}
+use Rattle.rules.specs.Limits.{plain-codes}
 use Rattle.rules.specs.Checker.{Meaning, code, function, Named, Scope, meaning-of, with-formals, Passed, expression-of-code, a-command}
 
 -- Γ ⊢ e ∶ c: in this scope the expression has this type code.
@@ -50,7 +51,7 @@ mutual
   pub data CommandOk : Scope → Command → Type 0 where
     -- Assign: the name bound, code 2 or 3, and the value's code 2 less.
     assign : {Γ : Scope} {p x c : ℕ} {e : Expression} →
-        HasCode Γ e c → c < 2 → meaning-of x Γ ≡ some (code (suc (suc c))) → CommandOk Γ (Assign p x e)
+        HasCode Γ e c → c < plain-codes → meaning-of x Γ ≡ some (code (suc (suc c))) → CommandOk Γ (Assign p x e)
     -- Loop: its test is 1.
     loop : {Γ : Scope} {p : ℕ} {e : Expression} {c : Command} → HasCode Γ e 1 → CommandOk Γ c → CommandOk Γ (Loop p e c)
     cseq : {Γ : Scope} {p : ℕ} {c₁ c₂ : Command} → CommandOk Γ c₁ → CommandOk Γ c₂ → CommandOk Γ (CSeq p c₁ c₂)

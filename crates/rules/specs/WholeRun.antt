@@ -32,7 +32,7 @@ use Rattle.rules.specs.ExpressionSteps.{expression-step}
 use Rattle.rules.specs.CommandSteps.{command-step, declaration-step, reference-step, abstraction-step}
 use Rattle.rules.specs.MarkSteps.{operator-step, not-step, assign-step, loop-step, ref-step, bind-step, dseq-step}
 use Rattle.rules.specs.FrameSteps.{first-step, second-step, call-step}
-use Rattle.rules.specs.Judging.{Judgement, no-reason, for-reason, judged}
+use Rattle.rules.specs.Judging.{Judgement, no-reason, for-reason, judged, holds→reason, reason→holds}
 
 -- ---- Where the invariant holds and control is not empty, a rule applies and its step keeps the invariant.
 
@@ -169,25 +169,28 @@ unfolding holds reason-number
 fault-holds spent x zero-divisor = tt
 fault-holds spent x out-of-range = tt
 
-outcome-of : (a : Passed) (r : ℕ) (spent : Bool) (σ : State) (h : History) (e : Effect) → Next a r σ h e → Judgement spent e → StepOutcome spent σ h e
-outcome-of a r spent σ h (goes τ) n (no-reason f q) =
-    step-is-made (record { after = τ; goes-there = refl; no-reason = f; is-made = q; cells-after = n .cells-after; restored = n .restored })
-outcome-of a r spent σ h (fails x) n (no-reason f q) = absurd (f x (fault-holds spent x n))
-outcome-of a r spent σ h e n (for-reason x t l q) = step-is-withheld (record { reason = x; reason-holds = t; lowest = l; is-withheld = q })
+outcome-of : (a : Passed) (r budget steps : ℕ) (σ : State) (h : History) (e : Effect) → Next a r σ h e → Judgement (eqb steps budget) e → StepOutcome budget steps σ h e
+outcome-of a r budget steps σ h (goes τ) n (no-reason f q) =
+    step-is-made
+    (record { after = τ; goes-there = refl; no-reason = λ x t. f x (reason→holds budget steps (goes τ) x t); is-made = q; cells-after = n .cells-after; restored = n .restored })
+outcome-of a r budget steps σ h (fails x) n (no-reason f q) = absurd (f x (fault-holds (eqb steps budget) x n))
+outcome-of a r budget steps σ h e n (for-reason x t l q) =
+    step-is-withheld
+    (record { reason = x; reason-holds = holds→reason budget steps e x t; lowest = λ y s. l y (reason→holds budget steps e y s); is-withheld = q })
 
-pub claim : (a : Passed) (r : ℕ) (spent : Bool) (σ : State) (h : History) → Invariant a r σ h → (control-of σ ≡ [] → ⊥) → StateClaim spent σ h
-claim a r spent σ h inv left =
+pub claim : (a : Passed) (r budget steps : ℕ) (σ : State) (h : History) → Invariant a r σ h → (control-of σ ≡ [] → ⊥) → StateClaim budget steps σ h
+claim a r budget steps σ h inv left =
     let p = progress a r σ h inv left in
     record {
       rule = p .rule; effect = p .effect; applies = p .applies;
       only = λ x e l. one-rule σ x (p .rule) e (p .effect) l (p .applies);
       cells-before = p .cells-before;
-      outcome = outcome-of a r spent σ h (p .effect) (p .next) (judged spent (p .effect)) }
+      outcome = outcome-of a r budget steps σ h (p .effect) (p .next) (judged (eqb steps budget) (p .effect)) }
 
 -- Demand 3: in every state of the run of a passed image exactly one rule applies, its step is made or withheld as the paper says,
 -- cells are live and hold their types, and each leaving restores what it found.
 pub whole-run : WholeRunClaim
 whole-run image r t a passes registers count ranged budget few steps σ h reached left =
-    claim a r (eqb steps budget) σ h
+    claim a r budget steps σ h
     (reach-invariant a r budget (start r t registers) (start-invariant image r t a (check-exact image r t a .0 passes) registers ranged) steps σ h reached)
     left
