@@ -32,7 +32,6 @@ module _ (a : Passed) (r : ℕ) (C : List Item) (X : List Entry) (E : Environmen
     (Γ : Scope) (Θ : StackShape) (W : World) (P : List State)
     (names : EnvironmentTyped W E Γ) (cells : StoreTyped S W) (values : ValuesTyped r E W L X Θ P)
     (types : h .made-types ≡ world-made W) (pending : open-states (h .past) ≡ P) where
-
   abbrev Here : Item → Type 0
   Here i = Progress a r (state (i ∷ C) X E S L n) h
 

@@ -17,13 +17,13 @@ use Rattle.rules.specs.Stores.{StoreTyped, Grown, world-cells, world-mad
 -- The shape of the value stack, top first.
 pub data StackShape : Type 0 where
   end : StackShape
-  value-of : Meaning → StackShape → StackShape                        -- a value or closure of this meaning
-  name-of : ℕ → StackShape → StackShape                               -- this name
+  value-of : Meaning → StackShape → StackShape  -- a value or closure of this meaning
+  name-of : ℕ → StackShape → StackShape  -- this name
   loop-of : (place : ℕ) → Expression → Command → StackShape → StackShape
-  declared : Scope → StackShape → StackShape                          -- the environment of a finished declaration
-  calling : (place : ℕ) → StackShape → StackShape                     -- no entry: the actuals of this Call run
-  opened : (place : ℕ) → Scope → StackShape → StackShape              -- L of the block at this place, whose declaration runs
-  frame : (place : ℕ) → Scope → StackShape → StackShape               -- E and L of the block or call at this place, whose command runs
+  declared : Scope → StackShape → StackShape  -- the environment of a finished declaration
+  calling : (place : ℕ) → StackShape → StackShape  -- no entry: the actuals of this Call run
+  opened : (place : ℕ) → Scope → StackShape → StackShape  -- L of the block at this place, whose declaration runs
+  frame : (place : ℕ) → Scope → StackShape → StackShape  -- E and L of the block or call at this place, whose command runs
 
 -- A Ref runs only in a declaration: names and finished environments alone lie above the opened block.
 pub data Declaring : StackShape → Type 0 where

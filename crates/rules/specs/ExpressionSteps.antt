@@ -35,6 +35,7 @@ bound-value-typed {W} {E} x c h q = take (lookup-typed x (code c) h q)
   where
     of-value : (b : Bindable) → lookup x E ≡ some b → BindableTyped W b (code c) → Bound-value W E x c
     of-value b f (value-typed {v = v} t) = record { what = v; found = f; typed = t }
+
     take : Bound-as W E x (code c) → Bound-value W E x c
     take o = of-value (o .what) (o .found) (o .typed)
 
@@ -49,6 +50,7 @@ bound-cell-typed {W} {E} x c h q = take (bound-value-typed x (suc (suc c)) h q)
   where
     of-location : (v : Value) → lookup x E ≡ some (value v) → ValueTyped W v (suc (suc c)) → Bound-cell W E x c
     of-location v f (location-typed {l = l} p) = record { cell = l; found = f; has-code = p }
+
     take : Bound-value W E x (suc (suc c)) → Bound-cell W E x c
     take o = of-location (o .what) (o .found) (o .typed)
 
@@ -59,7 +61,6 @@ module _ (a : Passed) (r : ℕ) (C : List Item) (X : List Entry) (E : Environmen
     (Γ : Scope) (Θ : StackShape) (W : World) (P : List State)
     (names : EnvironmentTyped W E Γ) (cells : StoreTyped S W) (values : ValuesTyped r E W L X Θ P)
     (types : h .made-types ≡ world-made W) (pending : open-states (h .past) ≡ P) where
-
   abbrev Here : Expression → Type 0
   Here e = Progress a r (state (expression e ∷ C) X E S L n) h
 

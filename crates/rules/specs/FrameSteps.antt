@@ -50,12 +50,14 @@ newest-open p [] e P q t = absurd (empty-cons q)
     IsEmpty : List State → Type 0
     IsEmpty [] = Unit {0}
     IsEmpty (x ∷ xs) = ⊥
+
     empty-cons : [] ≡ e ∷ P → ⊥
     empty-cons r = subst IsEmpty r tt
 newest-open p (x ∷ es) e P q t = choose (node-on-top (x .was)) (x .compared) refl refl q (λ r. newest-open p es e P r t)
   where
     here-is : (k : ℕ) → x .was ≡ e → node-on-top (x .was) ≡ some k → eqb k p ≡ true
     here-is k w u = ap (is-place p) (sym u ∙ ap node-on-top w ∙ t) ∙ true-test (eqb p p) (eqb-refl p)
+
     choose : (o : Option ℕ) (b : Bool) → node-on-top (x .was) ≡ o → x .compared ≡ b →
         cond (is-some o && not b) (x .was ∷ open-states es) (open-states es) ≡ e ∷ P →
         (open-states es ≡ e ∷ P → Newest p es e P) → Newest p (x ∷ es) e P
@@ -69,7 +71,8 @@ newest-open p (x ∷ es) e P q t = choose (node-on-top (x .was)) (x .compared) r
         let w : x .was ≡ e = cons-head r in
         record {
           is-latest = rw (u, v, here-is k w u) (ap {B = Option State} some w);
-          then-open = rw (u, v, here-is k w u, u) (cons-tail r) }
+          then-open = rw (u, v, here-is k w u, u) (cons-tail r);
+        }
 
 -- ---- A call's actuals are bound to its Formals.
 
@@ -106,19 +109,24 @@ left-past C X E S L n p m h τ q = q
 
 module _ (a : Passed) (r : ℕ) (C : List Item) (E : Environment) (S : Store) (n : ℕ) (h : History) (Γ : Scope) (W : World)
     (names : EnvironmentTyped W E Γ) (cells : StoreTyped S W) (types : h .made-types ≡ world-made W) where
-
   -- The first mark: E goes on the value stack in the place of the declaration's environment, whose names are added to it.
   pub first-step : (p : ℕ) (Δ : Scope) (L : List ℕ) (X : List Entry) (Θ : StackShape) (P : List State) → open-states (h .past) ≡ P →
       ControlTyped a C (Δ ++ Γ) (frame p Γ Θ) → ValuesTyped r E W L X (declared Δ (opened p Γ Θ)) P →
       Progress a r (state (mark first-mark ∷ C) X E S L n) h
   first-step p Δ L X Θ P pending k (declared-on {D = D} {X = Y} d (opened-on e g entered values)) =
       record {
-        rule = Rules.mark-first; effect = goes (state C (environment E ∷ Y) (join D E) S L n); applies = Rules.first-at; cells-before = tt;
+        rule = Rules.mark-first;
+        effect = goes (state C (environment E ∷ Y) (join D E) S L n);
+        applies = Rules.first-at;
+        cells-before = tt;
         next = record {
           invariant =
-            quiet-invariant a r (mark first-mark) C X E S L n h refl refl C (environment E ∷ Y) (join D E) S L n pending k (join-typed d names) cells
-            (frame-on e g entered values) (kept (h .made-types) S W types cells);
-          cells-after = tt; restored = tt } }
+              quiet-invariant a r (mark first-mark) C X E S L n h refl refl C (environment E ∷ Y) (join D E) S L n pending k (join-typed d names) cells
+              (frame-on e g entered values) (kept (h .made-types) S W types cells);
+          cells-after = tt;
+          restored = tt;
+        };
+      }
 
   -- The second mark restores what its block or call found.
   pub second-step : (p m : ℕ) (Γ₀ : Scope) (L : List ℕ) (X : List Entry) (Θ : StackShape) (P : List State) → open-states (h .past) ≡ P →
@@ -128,19 +136,32 @@ module _ (a : Passed) (r : ℕ) (C : List Item) (E : Environment) (S : Store) (n
       let newest = newest-open p (h .past) e Q pending (entered .top) in
       let cells′ = remove-grown cells g in
       record {
-        rule = Rules.mark-second; effect = goes (state C Y F (remove L S) K m); applies = Rules.second-at; cells-before = tt;
+        rule = Rules.mark-second;
+        effect = goes (state C Y F (remove L S) K m);
+        applies = Rules.second-at;
+        cells-before = tt;
         next = record {
           invariant = record {
-            scope = Γ₀; shape = Θ; world = U; control = k; names = names₀; cells = cells′;
+            scope = Γ₀;
+            shape = Θ;
+            world = U;
+            control = k;
+            names = names₀;
+            cells = cells′;
             values = subst (ValuesTyped r F U K Y Θ) (sym (left-past C X E S L n p m h (state C Y F (remove L S) K m) (newest .then-open))) values;
-            types = ap (λ M. remake M (remove L S)) types ∙ remade W cells′ (λ l c q. grown-keeps l c g q) };
+            types = ap (λ M. remake M (remove L S)) types ∙ remade W cells′ (λ l c q. grown-keeps l c g q);
+          };
           cells-after = tt;
           restored = record {
-            entered = e; is-latest = newest .is-latest;
+            entered = e;
+            is-latest = newest .is-latest;
             same-environment = sym (entered .environment-then);
             same-locations = sym (entered .locations-then);
             same-values = sym (entered .values-then);
-            same-cells = store-cells cells′ ∙ sym (entered .cells-then) } } }
+            same-cells = store-cells cells′ ∙ sym (entered .cells-then);
+          };
+        };
+      }
 
   -- The call's mark: L and E go on the value stack, and the function's Blk runs in the closure's environment plus Formals.
   enter-step : (p x k : ℕ) (fs : List Formal) (b : Block) (F : Environment) (Γ₁ : Scope) (L : List ℕ) (X : List Entry) (Θ : StackShape) (P : List State) → open-states (h .past) ≡ P →
@@ -156,12 +177,15 @@ module _ (a : Passed) (r : ℕ) (C : List Item) (E : Environment) (S : Store) (n
         cells-before = tt;
         next = record {
           invariant =
-            quiet-invariant a r (mark (call-mark p x k)) C X E S L n h refl refl
-            (command (block b) ∷ mark (second-mark p n) ∷ C) (environment E ∷ locations L ∷ m .matched .rest) (m .matched .environment-with) S [] (n + k)
-            (pending ∙ called .opened-by)
-            (command-typed (Typing.block-of ok) small (second-mark-typed control)) (m .names-typed) cells
-            (frame-on names same (called .entered) (called .below)) (kept (h .made-types) S W types cells);
-          cells-after = tt; restored = tt } }
+              quiet-invariant a r (mark (call-mark p x k)) C X E S L n h refl refl
+              (command (block b) ∷ mark (second-mark p n) ∷ C) (environment E ∷ locations L ∷ m .matched .rest) (m .matched .environment-with) S [] (n + k)
+              (pending ∙ called .opened-by)
+              (command-typed (Typing.block-of ok) small (second-mark-typed control)) (m .names-typed) cells
+              (frame-on names same (called .entered) (called .below)) (kept (h .made-types) S W types cells);
+          cells-after = tt;
+          restored = tt;
+        };
+      }
 
   closure-step : (p x k : ℕ) (fs : List Formal) (b : Bindable) (L : List ℕ) (X : List Entry) (Θ : StackShape) (P : List State) → open-states (h .past) ≡ P →
       lookup x E ≡ some b → BindableTyped W b (function fs) → length fs ≡ k → ControlTyped a C Γ Θ → ValuesTyped r E W L X (actuals fs (calling p Θ)) P →

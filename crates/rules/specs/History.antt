@@ -56,7 +56,7 @@ pub record Earlier : Type 0 where
 
 pub record History : Type 0 where
   pub made-types : Made
-  pub past : List Earlier   -- newest first
+  pub past : List Earlier  -- newest first
 
 -- The place of the Blk or Call that is on top of control, if one is.
 abbrev pub command-place : Command → Option ℕ
@@ -133,7 +133,8 @@ abbrev pub note : State → History → State → History
 note σ h τ =
     record {
       made-types = remake (h .made-types) (store-of τ);
-      past = record { was = σ; compared = false } ∷ past-of-leaving (leaves σ) (h .past) }
+      past = record { was = σ; compared = false } ∷ past-of-leaving (leaves σ) (h .past);
+    }
 
 abbrev pub first-history : ℕ → History
 first-history r = record { made-types = made-registers r; past = [] }

@@ -31,6 +31,7 @@ reading-passes ws (image r t) q = judged-passes ws r t (read-exact ws r t .0 q) 
 -- An image passes with code c, or as a command, exactly when it meets the rules.
 pub check-exact : (ws : List ℕ) (r : ℕ) (t : Root) (c : Passed) → (check-image ws ≡ passed r t c) ↔ Meets ws r t c
 unfolding check-image
-check-exact ws r t c =
-    (λ q. subst (Passes ws) q (reading-passes ws (read ws) refl),
-        λ h. ap check-reading (read-exact ws r t .1 (h .shape)) ∙ ap (checked r t) (root-exact (register-scope r) t c .1 (h .types)))
+check-exact ws r t c = (
+  λ q. subst (Passes ws) q (reading-passes ws (read ws) refl),
+  λ h. ap check-reading (read-exact ws r t .1 (h .shape)) ∙ ap (checked r t) (root-exact (register-scope r) t c .1 (h .types)),
+)

@@ -42,14 +42,25 @@ Ascending (s ∷ ss) = AtLeast (reason-number s) ss × Ascending ss
 
 priority-ascends : Ascending priority
 unfolding priority reason-number
-priority-ascends =
-    ((lit≤ tt, (lit≤ tt, (lit≤ tt, (lit≤ tt, (lit≤ tt, (lit≤ tt, tt)))))),
-    ((lit≤ tt, (lit≤ tt, (lit≤ tt, (lit≤ tt, (lit≤ tt, tt))))),
-    ((lit≤ tt, (lit≤ tt, (lit≤ tt, (lit≤ tt, tt)))),
-    ((lit≤ tt, (lit≤ tt, (lit≤ tt, tt))),
-    ((lit≤ tt, (lit≤ tt, tt)),
-    ((lit≤ tt, tt),
-    (tt, tt)))))))
+priority-ascends = (
+  (lit≤ tt, (lit≤ tt, (lit≤ tt, (lit≤ tt, (lit≤ tt, (lit≤ tt, tt)))))),
+  (
+    (lit≤ tt, (lit≤ tt, (lit≤ tt, (lit≤ tt, (lit≤ tt, tt))))),
+    (
+      (lit≤ tt, (lit≤ tt, (lit≤ tt, (lit≤ tt, tt)))),
+      (
+        (lit≤ tt, (lit≤ tt, (lit≤ tt, tt))),
+        (
+          (lit≤ tt, (lit≤ tt, tt)),
+          (
+            (lit≤ tt, tt),
+            (tt, tt),
+          ),
+        ),
+      ),
+    ),
+  ),
+)
 
 least-in : (n : ℕ) (rs : List Reason) (r : Reason) → AtLeast n rs → InList r rs → n ≤ reason-number r
 least-in n [] r h i = absurd i
@@ -84,6 +95,7 @@ module _ (f : Reason → Bool) where
       at-first : InList r (s ∷ ss) → reason-number s ≤ reason-number r
       at-first (inl e) = subst (λ k. reason-number s ≤ reason-number k) e (le-refl (reason-number s))
       at-first (inr j) = least-in (reason-number s) ss r (a .0) j
+
       choose : (b : Bool) → f s ≡ b → cond b (some s) (first-holding f ss) ≡ some x → InList r (s ∷ ss) → (first-holding f ss ≡ some x → InList r ss → reason-number x ≤ reason-number r) → reason-number x ≤ reason-number r
       choose true u p j later = subst (λ k. reason-number k ≤ reason-number r) (Option·some-injective s x p) (at-first j)
       choose false u p (inl e) later = absurd (failed-test u (subst (λ k. T (f k)) (sym e) t))

@@ -36,3 +36,5 @@ pub mod MarkSteps
 pub mod FrameSteps
 pub mod Judging
 pub mod WholeRun
+pub mod Ends
+pub mod RunEnds

@@ -63,7 +63,6 @@ module _ (a : Passed) (r : ℕ) (C : List Item) (E : Environment) (S : Store) (L
     (Γ : Scope) (W : World) (P : List State)
     (names : EnvironmentTyped W E Γ) (cells : StoreTyped S W)
     (types : h .made-types ≡ world-made W) (pending : open-states (h .past) ≡ P) where
-
   abbrev Here : Item → List Entry → Type 0
   Here i X = Progress a r (state (i ∷ C) X E S L n) h
 
@@ -72,18 +71,23 @@ module _ (a : Passed) (r : ℕ) (C : List Item) (E : Environment) (S : Store) (L
   arithmetic-next o y z X Θ (number v) t k values =
       record {
         invariant =
-          quiet-invariant a r (mark (operator-mark (arithmetic o))) C (val (integer z) ∷ val (integer y) ∷ X) E S L n h refl refl
-          C (val (integer v) ∷ X) E S L n pending k names cells (value-on (value-typed (integer-typed t)) values) (kept (h .made-types) S W types cells);
+            quiet-invariant a r (mark (operator-mark (arithmetic o))) C (val (integer z) ∷ val (integer y) ∷ X) E S L n h refl refl
+            C (val (integer v) ∷ X) E S L n pending k names cells (value-on (value-typed (integer-typed t)) values) (kept (h .made-types) S W types cells);
         cells-after = tt;
-        restored = tt }
+        restored = tt;
+      }
   arithmetic-next o y z X Θ (failed x) t k values = t
 
   arithmetic-step : (o : Arithmetic) (X : List Entry) (Θ : StackShape) → ControlTyped a C Γ (value-of (code 0) Θ) →
       ValuesTyped r E W L X (value-of (code 0) (value-of (code 0) Θ)) P → Here (mark (operator-mark (arithmetic o))) X
   arithmetic-step o X Θ k (value-on (value-typed (integer-typed {z = z} s)) (value-on {X = Y} (value-typed (integer-typed {z = y} t)) values)) =
       record {
-        rule = Rules.mark-arithmetic; effect = pushed (compute o y z) C Y E S L n; applies = Rules.arithmetic-at; cells-before = tt;
-        next = arithmetic-next o y z Y Θ (compute o y z) (compute-ok o y z) k values }
+        rule = Rules.mark-arithmetic;
+        effect = pushed (compute o y z) C Y E S L n;
+        applies = Rules.arithmetic-at;
+        cells-before = tt;
+        next = arithmetic-next o y z Y Θ (compute o y z) (compute-ok o y z) k values;
+      }
 
   equal-step : (c : ℕ) (X : List Entry) (Θ : StackShape) → c < 2 → ControlTyped a C Γ (value-of (code 1) Θ) →
       ValuesTyped r E W L X (value-of (code c) (value-of (code c) Θ)) P → Here (mark (operator-mark Eq)) X
@@ -140,16 +144,20 @@ module _ (a : Passed) (r : ℕ) (C : List Item) (E : Environment) (S : Store) (L
       let f = find-typed (b .cell) c cells (b .has-code) in
       let cells′ = store-at-typed (b .cell) c v cells (b .has-code) l t in
       record {
-        rule = Rules.mark-Assign; effect = goes (state C X E (store-at (b .cell) v S) L n); applies = Rules.assign-at (b .found) (f .found);
+        rule = Rules.mark-Assign;
+        effect = goes (state C X E (store-at (b .cell) v S) L n);
+        applies = Rules.assign-at (b .found) (f .found);
         cells-before = rw (b .found) (subst (λ M. HoldsItsType M S (b .cell)) (sym types) (cell-holds (b .cell) c cells (b .has-code)), tt);
         next = record {
           invariant =
-            quiet-invariant a r (mark assign-mark) C (val v ∷ name x ∷ X) E S L n h refl refl C X E (store-at (b .cell) v S) L n pending k names cells′ values
-            (kept (h .made-types) (store-at (b .cell) v S) W types cells′);
+              quiet-invariant a r (mark assign-mark) C (val v ∷ name x ∷ X) E S L n h refl refl C X E (store-at (b .cell) v S) L n pending k names cells′ values
+              (kept (h .made-types) (store-at (b .cell) v S) W types cells′);
           cells-after =
-            rw (b .found)
-            (subst (λ M. HoldsItsType M (store-at (b .cell) v S) (b .cell)) (sym (kept (h .made-types) (store-at (b .cell) v S) W types cells′)) (cell-holds (b .cell) c cells′ (b .has-code)), tt);
-          restored = tt } }
+              rw (b .found)
+              (subst (λ M. HoldsItsType M (store-at (b .cell) v S) (b .cell)) (sym (kept (h .made-types) (store-at (b .cell) v S) W types cells′)) (cell-holds (b .cell) c cells′ (b .has-code)), tt);
+          restored = tt;
+        };
+      }
 
   pub assign-step : (x c : ℕ) (X : List Entry) (Θ : StackShape) → c < 2 → meaning-of x Γ ≡ some (code (suc (suc c))) → ControlTyped a C Γ Θ →
       ValuesTyped r E W L X (value-of (code c) (name-of x Θ)) P → Here (mark assign-mark) X
@@ -162,23 +170,26 @@ module _ (a : Passed) (r : ℕ) (C : List Item) (E : Environment) (S : Store) (L
       record {
         rule = Rules.mark-Ref;
         effect = goes (state C (val (location (length S)) ∷ X) E (record { where-at = length S; contents = v } ∷ S) (length S ∷ L) n);
-        applies = Rules.ref-at; cells-before = tt;
+        applies = Rules.ref-at;
+        cells-before = tt;
         next =
-          subst (λ l. Advance a r (state (mark ref-mark ∷ C) (val v ∷ X) E S L n) h (state C (val (location l) ∷ X) E (record { where-at = l; contents = v } ∷ S) (l ∷ L) n))
-          (sym (store-length cells)) made-at }
+            subst (λ l. Advance a r (state (mark ref-mark ∷ C) (val v ∷ X) E S L n) h (state C (val (location l) ∷ X) E (record { where-at = l; contents = v } ∷ S) (l ∷ L) n))
+            (sym (store-length cells)) made-at;
+      }
     where
       made-at : Advance a r (state (mark ref-mark ∷ C) (val v ∷ X) E S L n) h
           (state C (val (location (length W)) ∷ X) E (record { where-at = length W; contents = v } ∷ S) (length W ∷ L) n)
       made-at =
           record {
             invariant =
-              quiet-invariant a r (mark ref-mark) C (val v ∷ X) E S L n h refl refl
-              C (val (location (length W)) ∷ X) E (record { where-at = length W; contents = v } ∷ S) (length W ∷ L) n pending k
-              (environment-older names c) (one-cell refl t cells)
-              (value-on (value-typed (location-typed (code-newest W c))) (grow-values c d values))
-              (ap (λ M. remake M (record { where-at = length W; contents = v } ∷ S)) types ∙ remade-new cells t);
+                quiet-invariant a r (mark ref-mark) C (val v ∷ X) E S L n h refl refl
+                C (val (location (length W)) ∷ X) E (record { where-at = length W; contents = v } ∷ S) (length W ∷ L) n pending k
+                (environment-older names c) (one-cell refl t cells)
+                (value-on (value-typed (location-typed (code-newest W c))) (grow-values c d values))
+                (ap (λ M. remake M (record { where-at = length W; contents = v } ∷ S)) types ∙ remade-new cells t);
             cells-after = tt;
-            restored = tt }
+            restored = tt;
+          }
 
   pub ref-step : (c : ℕ) (X : List Entry) (Θ : StackShape) → Declaring Θ → ControlTyped a C Γ (value-of (code (suc (suc c))) Θ) →
       ValuesTyped r E W L X (value-of (code c) Θ) P → Here (mark ref-mark) X

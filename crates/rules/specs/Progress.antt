@@ -52,9 +52,15 @@ module _ (a : Passed) (r : ℕ) (i : Item) (C : List Item) (X : List Entry) (E :
       Invariant a r (state C′ X′ E′ S′ L′ n′) (note (state (i ∷ C) X E S L n) h (state C′ X′ E′ S′ L′ n′))
   quiet-invariant C′ X′ E′ S′ L′ n′ {Γ} {Θ} {W} q c e s v m =
       record {
-        scope = Γ; shape = Θ; world = W; control = c; names = e; cells = s;
+        scope = Γ;
+        shape = Θ;
+        world = W;
+        control = c;
+        names = e;
+        cells = s;
         values = subst (ValuesTyped r E′ W L′ X′ Θ) (sym (quiet-open i C X E S L n h (state C′ X′ E′ S′ L′ n′) opens left ∙ q)) v;
-        types = m }
+        types = m;
+      }
 
 -- A store of the same world keeps the types.
 pub kept : (M : _) (S : Store) (W : World) → M ≡ world-made W → StoreTyped S W → remake M S ≡ world-made W
@@ -71,12 +77,16 @@ pub same-store : {a : Passed} {r : ℕ} {i : Item} {C C′ : List Item} {X X′ 
     Progress a r (state (i ∷ C) X E S L n) h
 same-store {a} {r} {i} {C} {C′} {X} {X′} {E} {S} {L} {n} {n′} {h} {W = W} rule opens left line names cells types pending control values hold =
     record {
-      rule = rule; effect = goes (state C′ X′ E S L n′); applies = line;
+      rule = rule;
+      effect = goes (state C′ X′ E S L n′);
+      applies = line;
       cells-before = hold (h .made-types) types;
       next = record {
         invariant = quiet-invariant a r i C X E S L n h opens left C′ X′ E S L n′ pending control names cells values (kept (h .made-types) S W types cells);
         cells-after = hold (remake (h .made-types) S) (kept (h .made-types) S W types cells);
-        restored = subst (λ o. LeavingRestores o h (state C′ X′ E S L n′)) (sym left) tt } }
+        restored = subst (λ o. LeavingRestores o h (state C′ X′ E S L n′)) (sym left) tt;
+      };
+    }
 
 -- A step at a Blk or Call puts its own state with the open ones.
 pub opening-open : (i : Item) (C : List Item) (X : List Entry) (E : Environment) (S : Store) (L : List ℕ) (n : ℕ) (h : History) (τ : State) (p : ℕ) →
@@ -95,15 +105,25 @@ pub opening-step : {a : Passed} {r : ℕ} {i : Item} {C C′ : List Item} {X X�
     Progress a r (state (i ∷ C) X E S L n) h
 opening-step {a} {r} {i} {C} {C′} {X} {X′} {E} {S} {L} {L′} {n} {h} {Γ} {Θ} {W} {P} p rule opens left line names cells types pending control values hold =
     record {
-      rule = rule; effect = goes (state C′ X′ E S L′ n); applies = line;
+      rule = rule;
+      effect = goes (state C′ X′ E S L′ n);
+      applies = line;
       cells-before = hold (h .made-types);
       next = record {
         invariant = record {
-          scope = Γ; shape = Θ; world = W; control = control; names = names; cells = cells;
+          scope = Γ;
+          shape = Θ;
+          world = W;
+          control = control;
+          names = names;
+          cells = cells;
           values =
-            subst (ValuesTyped r E W L′ X′ Θ)
-            (sym (opening-open i C X E S L n h (state C′ X′ E S L′ n) p opens left ∙ ap {B = List State} (λ R. state (i ∷ C) X E S L n ∷ R) pending))
-            (values (record { top = opens; environment-then = refl; locations-then = refl; values-then = refl; cells-then = store-cells cells }));
-          types = kept (h .made-types) S W types cells };
+              subst (ValuesTyped r E W L′ X′ Θ)
+              (sym (opening-open i C X E S L n h (state C′ X′ E S L′ n) p opens left ∙ ap {B = List State} (λ R. state (i ∷ C) X E S L n ∷ R) pending))
+              (values (record { top = opens; environment-then = refl; locations-then = refl; values-then = refl; cells-then = store-cells cells }));
+          types = kept (h .made-types) S W types cells;
+        };
         cells-after = hold (remake (h .made-types) S);
-        restored = subst (λ o. LeavingRestores o h (state C′ X′ E S L′ n)) (sym left) tt } }
+        restored = subst (λ o. LeavingRestores o h (state C′ X′ E S L′ n)) (sym left) tt;
+      };
+    }

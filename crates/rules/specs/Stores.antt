@@ -88,6 +88,7 @@ remove-unused k L h (one-cell {s = s} {S = S} {W = W} e v g) =
   where
     clash : k ≡ s .where-at → s .where-at ≡ length W → suc (length W) ≤ k → ⊥
     clash p q r = omega arith
+
     shorter : suc (length W) ≤ k → length W ≤ k
     shorter r = omega arith
 
@@ -152,8 +153,13 @@ pub remade : {S : Store} {U : World} (W : World) → StoreTyped S U → ((l c : 
 unfolding remake world-made
 remade W no-cells keeps = refl
 remade W (one-cell {s = s} {S = S} {c = c} {W = U} e v h) keeps =
-    rw (e, code-is-made (length U) c W (keeps (length U) c (code-newest U c)), made-is (length U) W, keeps (length U) c (code-newest U c),
-        remade W h (λ l d q. keeps l d (code-older l U d c q)))
+    rw (
+      e,
+      code-is-made (length U) c W (keeps (length U) c (code-newest U c)),
+      made-is (length U) W,
+      keeps (length U) c (code-newest U c),
+      remade W h (λ l d q. keeps l d (code-older l U d c q)),
+    )
 
 -- A new cell is made with its first value's type.
 pub remade-new : {S : Store} {W : World} {v : Value} {c : ℕ} → StoreTyped S W → ValueTyped W v c →

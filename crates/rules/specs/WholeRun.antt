@@ -96,7 +96,7 @@ mutual
   small-bound (Shape.ref h) = small-expression h
   small-bound (Shape.abs l f h) = small-block h
 
-world-length : (r : ℕ) → length (register-world r) ≡ r
+pub world-length : (r : ℕ) → length (register-world r) ≡ r
 unfolding register-world
 world-length zero = refl
 world-length (suc r) = ap suc (world-length r)
@@ -134,12 +134,15 @@ pub start-invariant : (image : List ℕ) (r : ℕ) (t : Root) (a : Passed) → M
 unfolding start open-states
 start-invariant image r t a m zs h =
     record {
-      scope = register-scope r; shape = end; world = register-world r;
+      scope = register-scope r;
+      shape = end;
+      world = register-world r;
       control = start-control a r t (m .shape .shape) (m .types);
       names = registers-named r;
       cells = registers-stored r zs h;
       values = nothing-left refl refl;
-      types = registers-made r }
+      types = registers-made r;
+    }
 
 -- ---- So it holds in every state of the run.
 
@@ -182,10 +185,13 @@ pub claim : (a : Passed) (r budget steps : ℕ) (σ : State) (h : History) → I
 claim a r budget steps σ h inv left =
     let p = progress a r σ h inv left in
     record {
-      rule = p .rule; effect = p .effect; applies = p .applies;
+      rule = p .rule;
+      effect = p .effect;
+      applies = p .applies;
       only = λ x e l. one-rule σ x (p .rule) e (p .effect) l (p .applies);
       cells-before = p .cells-before;
-      outcome = outcome-of a r budget steps σ h (p .effect) (p .next) (judged (eqb steps budget) (p .effect)) }
+      outcome = outcome-of a r budget steps σ h (p .effect) (p .next) (judged (eqb steps budget) (p .effect));
+    }
 
 -- Demand 3: in every state of the run of a passed image exactly one rule applies, its step is made or withheld as the paper says,
 -- cells are live and hold their types, and each leaving restores what it found.
