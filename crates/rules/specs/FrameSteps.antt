@@ -116,12 +116,12 @@ module _ (a : Passed) (r : ℕ) (C : List Item) (E : Environment) (S : Store) (n
   first-step p Δ L X Θ P pending k (declared-on {D = D} {X = Y} d (opened-on e g entered values)) =
       record {
         rule = Rules.mark-first;
-        effect = goes (state C (environment E ∷ Y) (join D E) S L n);
+        effect = _;
         applies = Rules.first-at;
         cells-before = tt;
         next = record {
           invariant =
-              quiet-invariant a r (mark first-mark) C X E S L n h refl refl C (environment E ∷ Y) (join D E) S L n pending k (join-typed d names) cells
+              quiet-invariant a r (mark first-mark) C X E S L n h refl refl _ _ _ _ _ _ pending k (join-typed d names) cells
               (frame-on e g entered values) (kept (h .made-types) S W types cells);
           cells-after = tt;
           restored = tt;
@@ -137,7 +137,7 @@ module _ (a : Passed) (r : ℕ) (C : List Item) (E : Environment) (S : Store) (n
       let cells′ = remove-grown cells g in
       record {
         rule = Rules.mark-second;
-        effect = goes (state C Y F (remove L S) K m);
+        effect = _;
         applies = Rules.second-at;
         cells-before = tt;
         next = record {
@@ -172,13 +172,12 @@ module _ (a : Passed) (r : ℕ) (C : List Item) (E : Environment) (S : Store) (n
       let called = calling-open (m .rest-typed) in
       record {
         rule = Rules.mark-Call;
-        effect = goes (state (command (block b) ∷ mark (second-mark p n) ∷ C) (environment E ∷ locations L ∷ m .matched .rest) (m .matched .environment-with) S [] (n + k));
+        effect = _;
         applies = Rules.call-at found (subst (λ j. match-formals j fs X F ≡ some (m .matched)) counted (m .matches));
         cells-before = tt;
         next = record {
           invariant =
-              quiet-invariant a r (mark (call-mark p x k)) C X E S L n h refl refl
-              (command (block b) ∷ mark (second-mark p n) ∷ C) (environment E ∷ locations L ∷ m .matched .rest) (m .matched .environment-with) S [] (n + k)
+              quiet-invariant a r (mark (call-mark p x k)) C X E S L n h refl refl _ _ _ _ _ _
               (pending ∙ called .opened-by)
               (command-typed (Typing.block-of ok) small (second-mark-typed control)) (m .names-typed) cells
               (frame-on names same (called .entered) (called .below)) (kept (h .made-types) S W types cells);

@@ -83,7 +83,7 @@ module _ (a : Passed) (r : ℕ) (C : List Item) (E : Environment) (S : Store) (L
   arithmetic-step o X Θ k (value-on (value-typed (integer-typed {z = z} s)) (value-on {X = Y} (value-typed (integer-typed {z = y} t)) values)) =
       record {
         rule = Rules.mark-arithmetic;
-        effect = pushed (compute o y z) C Y E S L n;
+        effect = _;
         applies = Rules.arithmetic-at;
         cells-before = tt;
         next = arithmetic-next o y z Y Θ (compute o y z) (compute-ok o y z) k values;
@@ -145,7 +145,7 @@ module _ (a : Passed) (r : ℕ) (C : List Item) (E : Environment) (S : Store) (L
       let cells′ = store-at-typed (b .cell) c v cells (b .has-code) l t in
       record {
         rule = Rules.mark-Assign;
-        effect = goes (state C X E (store-at (b .cell) v S) L n);
+        effect = _;
         applies = Rules.assign-at (b .found) (f .found);
         cells-before = rw (b .found) (subst (λ M. HoldsItsType M S (b .cell)) (sym types) (cell-holds (b .cell) c cells (b .has-code)), tt);
         next = record {
@@ -169,7 +169,7 @@ module _ (a : Passed) (r : ℕ) (C : List Item) (E : Environment) (S : Store) (L
   make-step c v X Θ d t k values =
       record {
         rule = Rules.mark-Ref;
-        effect = goes (state C (val (location (length S)) ∷ X) E (record { where-at = length S; contents = v } ∷ S) (length S ∷ L) n);
+        effect = _;
         applies = Rules.ref-at;
         cells-before = tt;
         next =
