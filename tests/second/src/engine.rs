@@ -1,0 +1,129 @@
+//! What the host calls: `check` and `run`, with the order of refusals, the
+//! registers and the work words (the paper's "What the engine says no with").
+
+use crate::checker::{self, Passed};
+use crate::execution::Execution;
+use crate::reader;
+use crate::refusal::{self, Refusal};
+use crate::state::{State, ValueEntry};
+use crate::store::{Location, Value};
+use crate::tree::{Code, Routine};
+
+/// The greatest budget.
+pub const MOST_BUDGET: u64 = 1_000_000;
+/// The work words a call needs and, unless it answers 21 or 22, clears.
+pub const WORK_WORDS: usize = 8_192;
+
+/// The checker's answer.
+#[derive(Clone, Copy, Debug, PartialEq, Eq)]
+pub enum Answer {
+    /// The root is an expression of this code.
+    Code(Code),
+    Command,
+    Refused(Refusal),
+}
+
+/// The run's answer: an outcome or a refusal, and the steps made.
+#[derive(Clone, Copy, Debug, PartialEq, Eq)]
+pub struct Reply {
+    pub outcome: Outcome,
+    pub steps: u64,
+}
+
+#[derive(Clone, Copy, Debug, PartialEq, Eq)]
+pub enum Outcome {
+    Number(i64),
+    Truth(bool),
+    Cell(Location),
+    None,
+    Refused(Refusal),
+}
+
+/// The checker alone tests 22, then the image.
+pub fn check(image: &[u32], work_length: usize) -> Answer {
+    if work_length < WORK_WORDS {
+        return Answer::Refused(Refusal::whole(refusal::WORK));
+    }
+    match pass(image) {
+        Ok((_, Passed::Code(code))) => Answer::Code(code),
+        Ok((_, Passed::Command)) => Answer::Command,
+        Err(refusal) => Answer::Refused(refusal),
+    }
+}
+
+/// A run tests 22, 21, the image, 20, then steps. 1 to 22 report 0 steps and
+/// keep the registers; 30 to 36 report the steps made and leave the registers
+/// as before the withheld step.
+pub fn run(image: &[u32], registers: &mut [i64], budget: u64, work_length: usize) -> Reply {
+    if work_length < WORK_WORDS {
+        return refused(Refusal::whole(refusal::WORK), 0);
+    }
+    if budget > MOST_BUDGET {
+        return refused(Refusal::whole(refusal::BUDGET), 0);
+    }
+    let routine = match pass(image) {
+        Ok((routine, _)) => routine,
+        Err(refusal) => return refused(refusal, 0),
+    };
+    if registers.len() != routine.registers as usize {
+        return refused(Refusal::whole(refusal::REGISTERS), 0);
+    }
+    let mut execution = Execution::start(&routine, registers, budget);
+    let reason = execution.finish(|_| {});
+    registers.copy_from_slice(&execution.state().registers(registers.len()));
+    match reason {
+        Some(reason) => refused(Refusal::whole(reason), execution.steps()),
+        None => Reply { outcome: outcome(execution.state()), steps: execution.steps() },
+    }
+}
+
+/// What becomes of the work words in a call that answers so: 21 and 22 touch
+/// nothing; every other call ends with the first 8,192 words 0 and the rest
+/// untouched.
+pub fn settle_work(work: &mut [u64], refusal: Option<Refusal>) {
+    match refusal.map(|refusal| refusal.number) {
+        Some(refusal::BUDGET | refusal::WORK) => {}
+        _ => work[..WORK_WORDS].fill(0),
+    }
+}
+
+impl Answer {
+    pub fn refusal(self) -> Option<Refusal> {
+        match self {
+            Answer::Refused(refusal) => Some(refusal),
+            _ => None,
+        }
+    }
+}
+
+impl Reply {
+    pub fn refusal(self) -> Option<Refusal> {
+        match self.outcome {
+            Outcome::Refused(refusal) => Some(refusal),
+            _ => None,
+        }
+    }
+}
+
+/// The image's own refusals: shape, then scope and types.
+pub fn pass(image: &[u32]) -> Result<(Routine, Passed), Refusal> {
+    let routine = reader::read(image)?;
+    let passed = checker::judge(&routine)?;
+    Ok((routine, passed))
+}
+
+fn refused(refusal: Refusal, steps: u64) -> Reply {
+    Reply { outcome: Outcome::Refused(refusal), steps }
+}
+
+/// The outcome of a run that ended normally: V is empty for a command, or holds
+/// the expression's one value.
+fn outcome(state: &State) -> Outcome {
+    match state.values.as_slice() {
+        [] => Outcome::None,
+        [ValueEntry::Value(Value::Integer(integer))] => Outcome::Number(*integer),
+        [ValueEntry::Value(Value::Truth(truth))] => Outcome::Truth(*truth),
+        [ValueEntry::Value(Value::Location(location))] => Outcome::Cell(*location),
+        other => panic!("a run ended with {other:?} on V"),
+    }
+}

@@ -1,0 +1,168 @@
+//! One fault put into an image: each refusal of the image is reached by some of
+//! these, at many places. What the answer is, the reader and checker say.
+
+use super::random::Random;
+use crate::kinds::{by_number, Kind, MOST_DEPTH, NAMES, TABLE};
+
+/// An image of the right length, taken apart.
+struct Parts {
+    registers: u32,
+    nodes: Vec<(u32, u32)>,
+}
+
+impl Parts {
+    fn of(image: &[u32]) -> Parts {
+        let (kinds, operands) = image[2..].split_at(image[0] as usize);
+        let nodes = kinds.iter().copied().zip(operands.iter().copied()).collect();
+        Parts { registers: image[1], nodes }
+    }
+
+    fn image(&self) -> Vec<u32> {
+        let mut words = vec![self.nodes.len() as u32, self.registers];
+        words.extend(self.nodes.iter().map(|(kind, _)| kind));
+        words.extend(self.nodes.iter().map(|(_, operand)| operand));
+        words
+    }
+
+    /// The places of the nodes of some kinds.
+    fn places(&self, wanted: impl Fn(Kind) -> bool) -> Vec<usize> {
+        let kind = |place: &usize| by_number(self.nodes[*place].0).expect("a kind").kind;
+        (0..self.nodes.len()).filter(|place| wanted(kind(place))).collect()
+    }
+}
+
+/// A well-shaped image with one fault, or one change that may be none.
+pub fn damage(random: &mut Random, image: &[u32]) -> Vec<u32> {
+    if random.chance(1, 6) {
+        return damage_counts(random, image);
+    }
+    let mut parts = Parts::of(image);
+    let place = random.below(parts.nodes.len());
+    match random.below(12) {
+        0 => {
+            parts.nodes[place].0 = *random.pick(&[0, 18, 19, 25, 29, 32, 39, 43, 1 << 16, u32::MAX])
+        }
+        1 => parts.nodes[place].0 = random.pick(&TABLE).number,
+        2 => parts.nodes[place].1 = operand_too_great(random, parts.nodes[place].0),
+        3 => rename(random, &mut parts),
+        4 => retype(random, &mut parts),
+        5 => {
+            parts.nodes.remove(place);
+        }
+        6 => {
+            let node = (random.pick(&TABLE).number, random.below(64) as u32);
+            let place = if random.chance(1, 2) { parts.nodes.len() } else { place };
+            parts.nodes.insert(place, node);
+        }
+        7 => deepen(random, &mut parts),
+        8 => parts.registers = random.below(17) as u32,
+        9 => repeat_a_name(random, &mut parts),
+        10 => change_a_call(random, &mut parts),
+        _ => swap_kinds(random, &mut parts),
+    }
+    parts.image()
+}
+
+/// Faults of the first two words and of the length.
+fn damage_counts(random: &mut Random, image: &[u32]) -> Vec<u32> {
+    let mut words = image.to_vec();
+    match random.below(5) {
+        0 => words.truncate(random.below(image.len())),
+        1 => words.extend(vec![0; random.between(1, 3)]),
+        2 => words[0] = *random.pick(&[0, 2_001, 2_002, u32::MAX, 1 << 31]),
+        3 => words[1] = *random.pick(&[17, 18, 64, u32::MAX]),
+        _ => words[0] = random.between(1, 2_000) as u32,
+    }
+    words
+}
+
+fn operand_too_great(random: &mut Random, kind: u32) -> u32 {
+    let greatest = by_number(kind).expect("a kind").greatest_operand;
+    let above = *random.pick(&[1, 2, 64, 1 << 20, u32::MAX]);
+    greatest.saturating_add(above)
+}
+
+/// Another name where a name stands.
+fn rename(random: &mut Random, parts: &mut Parts) {
+    use Kind::*;
+    let commands = random.chance(1, 2);
+    let named = parts.places(|kind| match kind {
+        Assign | Call | Bind => true,
+        Id | DeRef | ValRef | Formal => !commands,
+        _ => false,
+    });
+    if !named.is_empty() {
+        // Half of the time the name of some other node, else any.
+        let other = parts.nodes[*random.pick(&named)].1 % NAMES;
+        let any = random.below(NAMES as usize) as u32;
+        let name = if random.chance(1, 2) { other } else { any };
+        let operand = &mut parts.nodes[*random.pick(&named)].1;
+        *operand = *operand / NAMES * NAMES + name;
+    }
+}
+
+/// An expression of another code: a leaf, or a Formal's code.
+fn retype(random: &mut Random, parts: &mut Parts) {
+    use Kind::*;
+    let leaves = parts.places(|kind| matches!(kind, Num | Boo | Id | DeRef | ValRef | Formal));
+    let place = *random.pick(&leaves);
+    let (kind, operand) = &mut parts.nodes[place];
+    if by_number(*kind).expect("a kind").kind == Formal {
+        *operand = *operand % NAMES + NAMES * random.below(8) as u32;
+    } else {
+        *kind = *random.pick(&[1, 2, 3, 16, 17]);
+        *operand = random.below(2) as u32;
+    }
+}
+
+/// Nots above some expression, until a node is too deep or nearly so.
+fn deepen(random: &mut Random, parts: &mut Parts) {
+    let expressions = parts.places(|kind| matches!(kind, Kind::Num | Kind::Boo | Kind::Id));
+    if !expressions.is_empty() {
+        let place = *random.pick(&expressions);
+        let levels = random.between(MOST_DEPTH as usize - 15, MOST_DEPTH as usize + 2);
+        parts.nodes.splice(place..place, vec![(15, 0); levels]);
+    }
+}
+
+/// One Bind or Formal takes the name of another.
+fn repeat_a_name(random: &mut Random, parts: &mut Parts) {
+    let wanted = *random.pick(&[Kind::Bind, Kind::Formal]);
+    let named = parts.places(|kind| kind == wanted);
+    if named.len() >= 2 {
+        let (from, to) = (random.below(named.len()), random.below(named.len()));
+        let name = parts.nodes[named[from]].1 % NAMES;
+        let operand = &mut parts.nodes[named[to]].1;
+        *operand = *operand / NAMES * NAMES + name;
+    }
+}
+
+/// One actual more or less, or a Call of something else.
+fn change_a_call(random: &mut Random, parts: &mut Parts) {
+    let calls = parts.places(|kind| kind == Kind::Call);
+    if calls.is_empty() {
+        return;
+    }
+    let place = *random.pick(&calls);
+    let operand = parts.nodes[place].1;
+    match random.below(3) {
+        0 if operand / NAMES < 8 => {
+            parts.nodes[place].1 += NAMES;
+            parts.nodes.insert(place + 1, (1, 0));
+        }
+        1 if operand / NAMES > 0 => parts.nodes[place].1 -= NAMES,
+        _ => {
+            let name = random.below(NAMES as usize) as u32;
+            parts.nodes[place].1 = operand / NAMES * NAMES + name;
+        }
+    }
+}
+
+/// One operator for another: the shape holds and the types may not.
+fn swap_kinds(random: &mut Random, parts: &mut Parts) {
+    let operators = parts.places(|kind| matches!(kind, Kind::Binary(_)));
+    if !operators.is_empty() {
+        let place = *random.pick(&operators);
+        parts.nodes[place].0 = random.between(4, 14) as u32;
+    }
+}

@@ -1,0 +1,390 @@
+//! Well-typed trees of every kind: nested blocks, functions with Formals of all
+//! codes, aliases, loops that end and loops that do not.
+//!
+//! A tree is written downwards with a room: the nodes and the levels it may
+//! still take. Whoever hands a room on leaves at least the least room there.
+
+use super::random::Random;
+use super::scope::{Meaning, Scope};
+use crate::build::*;
+use crate::kinds::{CODES, MOST_COUNT, NAMES};
+use crate::tree::*;
+
+/// The nodes and levels a subtree may take.
+#[derive(Clone, Copy, Debug)]
+pub struct Room {
+    pub nodes: usize,
+    pub levels: usize,
+}
+
+impl Room {
+    /// The room below a node, for one of its children.
+    fn below(self, nodes: usize) -> Room {
+        Room { nodes, levels: self.levels - 1 }
+    }
+
+    fn holds(self, least: Room) -> bool {
+        self.nodes >= least.nodes && self.levels >= least.levels
+    }
+}
+
+const fn room(nodes: usize, levels: usize) -> Room {
+    Room { nodes, levels }
+}
+
+/// Blk(Bind(x, Ref(leaf)), Assign(x, leaf)) can always be written.
+pub const LEAST_COMMAND: Room = room(6, 4);
+const LEAST_DECLARATION: Room = room(2, 2);
+const LEAST_BLOCK: Room = room(1 + 2 + 6, 5);
+/// The nodes a counted loop needs around its body.
+const COUNTED: usize = 13;
+/// The nodes that cells of all three levels need around the rest.
+const LEVELS: usize = 12;
+/// The most names one declaration binds.
+const MOST_NAMES: usize = 40;
+
+enum Choice {
+    Assign,
+    Call,
+    Sequence,
+    Loop,
+    CountedLoop,
+    Block,
+    Levels,
+}
+
+enum Binding {
+    Plain,
+    Cell,
+    Function,
+    Sequence,
+}
+
+/// How readily a tree runs into 31 and 32.
+#[derive(Clone, Copy, Debug, PartialEq, Eq)]
+pub enum Temper {
+    /// Numbers stay small and divisors are not 0: most runs go on for long.
+    Calm,
+    /// Any numbers and divisors.
+    Wild,
+    /// Faults stand in many places, so that the first one met tells in which
+    /// order things run.
+    Faulty,
+}
+
+pub struct Generator<'r> {
+    pub random: &'r mut Random,
+    pub temper: Temper,
+}
+
+impl Generator<'_> {
+    /// A root: a command, or now and then an expression.
+    pub fn root(&mut self, scope: &Scope, room: Room) -> Root {
+        if self.random.chance(1, 8) {
+            let code = self.code(scope, 2);
+            Root::Expression(self.expression(scope, code, room))
+        } else {
+            Root::Command(self.command(scope, room))
+        }
+    }
+
+    /// An expression of a code that the scope can make.
+    pub fn expression(&mut self, scope: &Scope, code: Code, room: Room) -> Expression {
+        let grow =
+            room.nodes >= 3 && room.levels >= 2 && self.random.chance(room.nodes, 4 + room.nodes);
+        if code >= 2 || !grow {
+            return self.leaf(scope, code);
+        }
+        if code == 0 && self.temper == Temper::Faulty && self.random.chance(1, 6) {
+            let zero_divisor = div(num(1), num(0));
+            let out_of_range = mul(num(u32::MAX), num(u32::MAX));
+            return if self.random.chance(1, 2) { zero_divisor } else { out_of_range };
+        }
+        if code == 1 && self.random.chance(1, 5) {
+            return not(self.expression(scope, 1, room.below(room.nodes - 1)));
+        }
+        let left = self.random.between(1, room.nodes - 2);
+        let (left, right) = (room.below(left), room.below(room.nodes - 1 - left));
+        let (operator, operands) = self.operator(code);
+        let first = self.expression(scope, operands, left);
+        let second = match operator {
+            Operator::Div if self.temper == Temper::Calm || self.random.chance(1, 2) => {
+                num(self.random.between(1, 9) as u32)
+            }
+            Operator::Mul if self.temper == Temper::Calm => num(self.random.below(3) as u32),
+            _ => self.expression(scope, operands, right),
+        };
+        binary(operator, first, second)
+    }
+
+    /// An operator with this result, and the code of both operands.
+    fn operator(&mut self, result: Code) -> (Operator, Code) {
+        use Operator::*;
+        if result == 0 {
+            (*self.random.weighted(&[(4, Sum), (4, Sub), (2, Mul), (2, Div)]), 0)
+        } else {
+            *self.random.pick(&[
+                (Eq, 0),
+                (Eq, 1),
+                (Lt, 0),
+                (Le, 0),
+                (Gt, 0),
+                (Ge, 0),
+                (And, 1),
+                (Or, 1),
+            ])
+        }
+    }
+
+    fn leaf(&mut self, scope: &Scope, code: Code) -> Expression {
+        let mut choices = Vec::new();
+        for (name, named) in scope.codes() {
+            if named == code + 2 || (named < 2 && named == code) {
+                choices.push(id(name));
+            }
+            if named >= 2 && named == code {
+                choices.push(deref(name));
+            }
+            if named == code + 4 {
+                choices.push(valref(name));
+            }
+        }
+        if code == 0 {
+            choices.extend(scope.counters().into_iter().map(id));
+        }
+        if code < 2 && (choices.is_empty() || self.random.chance(1, 3)) {
+            return self.constant(code);
+        }
+        self.random.pick(&choices).clone()
+    }
+
+    fn constant(&mut self, code: Code) -> Expression {
+        if code == 1 {
+            return boo(self.random.chance(1, 2));
+        }
+        let most = if self.temper == Temper::Calm { 6 } else { 10 };
+        num([0, 1, 2, 3, 5, 7, 10, 1000, 1 << 31, u32::MAX][self.random.below(most)])
+    }
+
+    /// A code up to `most` that the scope can make: a plain one in half of the
+    /// cases, else any.
+    fn code(&mut self, scope: &Scope, most: Code) -> Code {
+        if self.random.chance(1, 2) {
+            return self.random.below(2) as Code;
+        }
+        let codes: Vec<Code> = (0..=most).filter(|code| scope.can_make(*code)).collect();
+        *self.random.pick(&codes)
+    }
+
+    /// A command. The room is at least `LEAST_COMMAND`.
+    pub fn command(&mut self, scope: &Scope, room: Room) -> Command {
+        let choices = self.choices(scope, room);
+        if choices.is_empty() {
+            return self.least_command(scope);
+        }
+        match self.random.weighted(&choices) {
+            Choice::Assign => {
+                let (name, code) = *self.random.pick(&scope.assignable());
+                let nodes = (room.nodes - 1).min(40);
+                assign(name, self.expression(scope, code, room.below(nodes)))
+            }
+            Choice::Call => self.call(scope, room),
+            Choice::Sequence => {
+                let (least, most) = (LEAST_COMMAND.nodes, room.nodes - 1 - LEAST_COMMAND.nodes);
+                let first = self.random.between(least, most);
+                let (first, second) = (room.below(first), room.below(room.nodes - 1 - first));
+                cseq(self.command(scope, first), self.command(scope, second))
+            }
+            Choice::Loop => {
+                let most = (room.nodes - 1 - LEAST_COMMAND.nodes).min(20);
+                let test = self.random.between(1, most);
+                let command = room.below(room.nodes - 1 - test);
+                repeat(self.test(scope, room.below(test)), self.command(scope, command))
+            }
+            Choice::CountedLoop => self.counted_loop(scope, room),
+            Choice::Block => Command::Blk(self.block(scope, room)),
+            Choice::Levels => self.levels(scope, room),
+        }
+    }
+
+    /// What fits the room, with weights: larger rooms go to what fills them.
+    fn choices(&mut self, scope: &Scope, room: Room) -> Vec<(usize, Choice)> {
+        let large = room.nodes > 40 && room.levels > 8;
+        let mut choices = Vec::new();
+        if !scope.assignable().is_empty() && !large {
+            choices.push((6, Choice::Assign));
+        }
+        if room.nodes > MOST_COUNT as usize && !scope.callable().is_empty() && !large {
+            choices.push((8, Choice::Call));
+        }
+        if room.nodes > 2 * LEAST_COMMAND.nodes && room.levels > LEAST_COMMAND.levels {
+            choices.push((if large { 8 } else { 3 }, Choice::Sequence));
+        }
+        if room.nodes >= 2 + LEAST_COMMAND.nodes && room.levels > LEAST_COMMAND.levels {
+            choices.push((1, Choice::Loop));
+        }
+        if room.nodes >= COUNTED + LEAST_COMMAND.nodes && room.levels >= 3 + LEAST_COMMAND.levels {
+            choices.push((2, Choice::CountedLoop));
+        }
+        if room.holds(LEAST_BLOCK) {
+            choices.push((if large { 8 } else { 4 }, Choice::Block));
+        }
+        if room.nodes >= LEVELS + LEAST_BLOCK.nodes && room.levels >= 3 + LEAST_BLOCK.levels {
+            choices.push((2, Choice::Levels));
+        }
+        choices
+    }
+
+    fn least_command(&mut self, scope: &Scope) -> Command {
+        let name = self.name(0);
+        let code = self.random.below(2) as Code;
+        let first = self.leaf(scope, code);
+        let inner = scope.with(&[(name, Meaning::Code(code + 2))]);
+        blk(bind_ref(name, first), assign(name, self.leaf(&inner, code)))
+    }
+
+    fn call(&mut self, scope: &Scope, room: Room) -> Command {
+        let (name, formals) = self.random.pick(&scope.callable()).clone();
+        let spare = room.nodes - 1 - formals.len();
+        let each = room.below(1 + spare.min(40) / formals.len().max(1));
+        let actuals = formals.iter().map(|code| self.expression(scope, *code, each)).collect();
+        call(name, actuals)
+    }
+
+    fn test(&mut self, scope: &Scope, room: Room) -> Expression {
+        match self.random.below(8) {
+            0 => boo(true),
+            1 | 2 => boo(false),
+            _ => self.expression(scope, 1, room),
+        }
+    }
+
+    /// A loop that ends: a fresh cell counts down, and its body cannot set it.
+    fn counted_loop(&mut self, scope: &Scope, room: Room) -> Command {
+        let counter = self.name(0);
+        let inner = scope.with(&[(counter, Meaning::Counter)]);
+        let rounds = self.random.below(6) as u32;
+        let body = Room { nodes: room.nodes - COUNTED, levels: room.levels - 3 };
+        let body = self.command(&inner, body);
+        let count_down = assign(counter, sub(id(counter), num(1)));
+        blk(bind_ref(counter, num(rounds)), repeat(gt(id(counter), num(0)), cseq(body, count_down)))
+    }
+
+    /// A cell, a cell of its location and a cell of that one's, around a Blk.
+    fn levels(&mut self, scope: &Scope, room: Room) -> Command {
+        let base = self.random.below(2) as Code;
+        let first = self.name(0);
+        let second = self.name(1 << first);
+        let third = self.name(1 << first | 1 << second);
+        let value = self.leaf(scope, base);
+        let inner = scope.with(&[
+            (first, Meaning::Code(base + 2)),
+            (second, Meaning::Code(base + 4)),
+            (third, Meaning::Code(base + 6)),
+        ]);
+        let rest = Room { nodes: room.nodes - LEVELS, levels: room.levels - 3 };
+        let rest = Command::Blk(self.block(&inner, rest));
+        blk(
+            bind_ref(first, value),
+            blk(bind_ref(second, deref(first)), blk(bind_ref(third, deref(second)), rest)),
+        )
+    }
+
+    /// A Blk. The room is at least `LEAST_BLOCK`.
+    fn block(&mut self, scope: &Scope, room: Room) -> Blk {
+        let most = room.nodes - 1 - LEAST_COMMAND.nodes;
+        let nodes = self.random.between(LEAST_DECLARATION.nodes, most);
+        let (declaration, declared) = self.declaration(scope, room.below(nodes), 0, MOST_NAMES);
+        let command = room.below(room.nodes - 1 - nodes);
+        block(declaration, self.command(&scope.with(&declared), command))
+    }
+
+    /// A declaration of at most `names` names, none of them taken, and what it
+    /// declares. The room is at least `LEAST_DECLARATION`.
+    fn declaration(
+        &mut self,
+        scope: &Scope,
+        room: Room,
+        taken: u64,
+        names: usize,
+    ) -> (Declaration, Vec<(Name, Meaning)>) {
+        let mut choices = Vec::new();
+        if room.nodes >= 2 + LEAST_BLOCK.nodes && room.levels >= 2 + LEAST_BLOCK.levels {
+            choices.push((6, Binding::Function));
+        }
+        if room.nodes > 2 * LEAST_DECLARATION.nodes && room.levels >= 3 && names >= 2 {
+            choices.push((5, Binding::Sequence));
+        }
+        // A plain value or a cell would leave most of a large room empty.
+        if room.nodes <= 40 || choices.is_empty() {
+            choices.push((3, Binding::Plain));
+            if room.nodes >= 3 && room.levels >= 3 {
+                choices.push((5, Binding::Cell));
+            }
+        }
+        let name = self.name(taken);
+        match self.random.weighted(&choices) {
+            Binding::Plain => {
+                let code = self.code(scope, CODES - 1);
+                let value = self.expression(scope, code, room.below((room.nodes - 1).min(20)));
+                (bind(name, value), vec![(name, Meaning::Code(code))])
+            }
+            Binding::Cell => {
+                let code = self.code(scope, 5);
+                let room = Room { nodes: (room.nodes - 2).min(20), levels: room.levels - 2 };
+                let value = self.expression(scope, code, room);
+                (bind_ref(name, value), vec![(name, Meaning::Code(code + 2))])
+            }
+            Binding::Function => self.function(scope, room, name),
+            Binding::Sequence => {
+                let (least, most) =
+                    (LEAST_DECLARATION.nodes, room.nodes - 1 - LEAST_DECLARATION.nodes);
+                let nodes = self.random.between(least, most);
+                let (first, mut declared) =
+                    self.declaration(scope, room.below(nodes), taken, names / 2);
+                let taken = declared.iter().fold(taken, |taken, (name, _)| taken | 1 << name);
+                let rest = room.below(room.nodes - 1 - nodes);
+                let (second, more) = self.declaration(scope, rest, taken, names - names / 2);
+                declared.extend(more);
+                (dseq(first, second), declared)
+            }
+        }
+    }
+
+    fn function(
+        &mut self,
+        scope: &Scope,
+        room: Room,
+        name: Name,
+    ) -> (Declaration, Vec<(Name, Meaning)>) {
+        let most = (room.nodes - 2 - LEAST_BLOCK.nodes).min(MOST_COUNT as usize);
+        let count = self.random.between(0, most);
+        let mut taken = 0;
+        let mut formals = Vec::new();
+        for _ in 0..count {
+            let formal = self.name(taken);
+            taken |= 1 << formal;
+            // Now and then a code for which there may never be an actual.
+            let any = self.random.below(CODES as usize) as Code;
+            let code = if self.random.chance(1, 16) { any } else { self.code(scope, CODES - 1) };
+            formals.push((formal, code));
+        }
+        let meanings: Vec<_> =
+            formals.iter().map(|&(formal, code)| (formal, Meaning::Code(code))).collect();
+        let body = Room { nodes: room.nodes - 2 - count, levels: room.levels - 2 };
+        let body = self.block(&scope.with(&meanings), body);
+        let codes = formals.iter().map(|(_, code)| *code).collect();
+        (bind_abs(name, &formals, body), vec![(name, Meaning::Function(codes))])
+    }
+
+    /// A name that is not taken; often a low one, so that names hide others.
+    fn name(&mut self, taken: u64) -> Name {
+        loop {
+            let among = if self.random.chance(1, 3) { 6 } else { NAMES as usize };
+            let name = self.random.below(among);
+            if taken & (1 << name) == 0 {
+                return name as Name;
+            }
+        }
+    }
+}

@@ -1,0 +1,35 @@
+//! The second interpreter of the Π IR routine engine.
+//!
+//! It is written from the paper alone, as straightforwardly as the paper reads,
+//! and shares nothing with the engine it is held against. Data flows one way:
+//!
+//! words → [`reader`] → tree → [`checker`] → [`execution`] (states, rules,
+//! limits) → [`engine`] (the host's calls) → [`program`] (bytes to text).
+//!
+//! Beside that stand what test programs need: [`build`] to write a tree down,
+//! [`encode`] to turn it into an image, [`show`] to print it, and [`generate`]
+//! to make cases from a seed.
+
+pub mod arithmetic;
+pub mod build;
+pub mod chain;
+pub mod checker;
+pub mod encode;
+pub mod engine;
+pub mod execution;
+pub mod generate;
+pub mod kinds;
+pub mod node;
+pub mod program;
+pub mod reader;
+pub mod refusal;
+pub mod rules;
+pub mod show;
+pub mod state;
+pub mod store;
+pub mod tree;
+
+pub use encode::encode;
+pub use engine::{check, run, Answer, Outcome, Reply};
+pub use program::program;
+pub use refusal::Refusal;

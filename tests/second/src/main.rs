@@ -1,0 +1,136 @@
+//! The command line of the second interpreter.
+
+use second::engine::{check, Answer, WORK_WORDS};
+use second::generate::Family;
+use second::program::{print_answer, program, with_budget, words};
+use second::reader::{read, Counts};
+use second::refusal::{self, Refusal};
+use second::show::{from_hexadecimal, hexadecimal, show};
+use std::io::{Read, Write};
+use std::process::ExitCode;
+
+const HELP: &str = "\
+second: the second interpreter of the Π IR routine engine
+
+usage: second COMMAND [--hex]
+
+  program                    standard input: an image and its starting values, as
+                             the program reads them; prints the program's output
+  run BUDGET                 the same at another budget
+  check                      standard input: an image; prints `code C`, `command`
+                             or `refused N at P`
+  show                       standard input: an image; prints it as a tree
+  generate FAMILY SEED COUNT prints COUNT images made from SEED, SEED + 1, and so
+                             on, one a line, as words in hexadecimal
+  generate --inputs FAMILY SEED COUNT
+                             the same, each with its starting values behind it as
+                             two words a value, low word first: the whole input of
+                             the program
+  help                       prints this
+
+With --hex, program, run, check and show read words in hexadecimal, as generate
+prints them, in place of little-endian bytes.
+
+families: small medium large faulty limits damaged shaped plausible words host
+";
+
+fn main() -> ExitCode {
+    let arguments: Vec<String> = std::env::args().skip(1).collect();
+    match answer(&arguments) {
+        Ok(output) => match std::io::stdout().write_all(&output) {
+            Ok(()) => ExitCode::SUCCESS,
+            Err(error) => fail(&format!("standard output: {error}")),
+        },
+        Err(message) => fail(&message),
+    }
+}
+
+fn fail(message: &str) -> ExitCode {
+    eprintln!("second: {message}");
+    ExitCode::from(2)
+}
+
+/// The output of a command line, or what is wrong with it.
+fn answer(arguments: &[String]) -> Result<Vec<u8>, String> {
+    let arguments: Vec<&str> = arguments.iter().map(String::as_str).collect();
+    match arguments.as_slice() {
+        ["help" | "--help" | "-h"] => Ok(HELP.into()),
+        ["program", options @ ..] => Ok(program(&input(options)?)),
+        ["run", budget, options @ ..] => {
+            let budget = number(budget, "BUDGET")?;
+            Ok(with_budget(&input(options)?, budget))
+        }
+        ["check", options @ ..] => {
+            let answer = match whole_image(&input(options)?) {
+                Ok(image) => check(&image, WORK_WORDS),
+                Err(refusal) => Answer::Refused(refusal),
+            };
+            Ok(print_answer(answer).into())
+        }
+        ["show", options @ ..] => {
+            match whole_image(&input(options)?).and_then(|image| read(&image)) {
+                Ok(routine) => Ok(show(&routine).into()),
+                Err(refusal) => Ok(print_answer(Answer::Refused(refusal)).into()),
+            }
+        }
+        ["generate", "--inputs", family, seed, count] => generate(family, seed, count, true),
+        ["generate", family, seed, count] => generate(family, seed, count, false),
+        [] => Err("no command; `second help` lists them".to_string()),
+        [command @ ("run" | "generate" | "help"), ..] => {
+            Err(format!("wrong arguments for {command}; see `second help`"))
+        }
+        [command, ..] => Err(format!("no command {command}; `second help` lists them")),
+    }
+}
+
+fn number(text: &str, what: &str) -> Result<u64, String> {
+    text.parse().map_err(|_| format!("{what} must be a whole number, not {text}"))
+}
+
+/// Standard input's bytes, or the bytes of the words in hexadecimal there.
+fn input(options: &[&str]) -> Result<Vec<u8>, String> {
+    let hexadecimal = match options {
+        [] => false,
+        ["--hex"] => true,
+        [other, ..] => return Err(format!("no option {other}; see `second help`")),
+    };
+    let mut bytes = Vec::new();
+    std::io::stdin().read_to_end(&mut bytes).map_err(|error| format!("standard input: {error}"))?;
+    if !hexadecimal {
+        return Ok(bytes);
+    }
+    let text = String::from_utf8(bytes).map_err(|_| "standard input is no text".to_string())?;
+    let words = from_hexadecimal(&text).map_err(|piece| format!("{piece} is no 32-bit word"))?;
+    Ok(second::encode::bytes_of(&words))
+}
+
+/// The image in these bytes. A byte count that does not fit n is 1, judged where
+/// the length is.
+fn whole_image(bytes: &[u8]) -> Result<Vec<u32>, Refusal> {
+    let image = words(bytes);
+    if let [nodes, registers, ..] = *image {
+        let counts = Counts::judge(nodes, registers)?;
+        if bytes.len() != 4 * counts.words() {
+            return Err(Refusal::whole(refusal::LENGTH));
+        }
+    }
+    Ok(image)
+}
+
+fn generate(family: &str, seed: &str, count: &str, inputs: bool) -> Result<Vec<u8>, String> {
+    let family = Family::named(family)
+        .ok_or_else(|| format!("no family {family}; `second help` lists them"))?;
+    let (seed, count) = (number(seed, "SEED")?, number(count, "COUNT")?);
+    let mut text = String::new();
+    for offset in 0..count {
+        let case = family.case(seed.wrapping_add(offset));
+        let mut line = case.image;
+        if inputs {
+            let halves = |value: &i64| [*value as u32, (*value >> 32) as u32];
+            line.extend(case.registers.iter().flat_map(halves));
+        }
+        text += &hexadecimal(&line);
+        text.push('\n');
+    }
+    Ok(text.into())
+}

@@ -1,0 +1,75 @@
+//! The budget: 30, what it beats, and the empty control stack.
+
+use crate::helpers::*;
+use second::build::*;
+use second::engine::{Outcome, Reply, MOST_BUDGET};
+use second::execution::{Advance, Execution};
+use second::reader::read;
+
+#[test]
+fn a_run_that_just_fits_ends_normally() {
+    let image = image(1, assign(0, num(7)));
+    assert_eq!(run_at(&image, &[0], 3), (Reply { outcome: Outcome::None, steps: 3 }, vec![7]));
+    assert_eq!(run_at(&image, &[0], 4), (Reply { outcome: Outcome::None, steps: 3 }, vec![7]));
+    // The withheld third step would have stored.
+    assert_eq!(run_at(&image, &[0], 2), (withheld(30, 2), vec![0]));
+    assert_eq!(run_at(&image, &[0], 1), (withheld(30, 1), vec![0]));
+    assert_eq!(run_at(&image, &[0], 0), (withheld(30, 0), vec![0]));
+}
+
+/// 30 is judged before the rule: it beats 31 and 32.
+#[test]
+fn the_budget_comes_before_arithmetic() {
+    let zero = image(0, div(num(1), num(0)));
+    assert_eq!(run_at(&zero, &[], 3).0, withheld(30, 3));
+    assert_eq!(run_at(&zero, &[], 4).0, withheld(31, 3));
+    let over = image(1, mul(id(0), id(0)));
+    assert_eq!(run_at(&over, &[i64::MAX], 3).0, withheld(30, 3));
+    assert_eq!(run_at(&over, &[i64::MAX], 4).0, withheld(32, 3));
+}
+
+#[test]
+fn an_endless_loop_uses_the_whole_budget() {
+    let image = image(1, repeat(boo(true), assign(0, sum(id(0), num(1)))));
+    // A round is Loop, Boo, mark, Assign, Sum, Id, Num, mark, mark: 9 steps.
+    for budget in [0, 1, 8, 9, 10, 17, 18, 900, MOST_BUDGET] {
+        let (reply, registers) = run_at(&image, &[0], budget);
+        assert_eq!(reply, withheld(30, budget));
+        assert_eq!(registers, [(budget / 9) as i64]);
+    }
+}
+
+#[test]
+fn budget_1000000_passes_and_one_more_is_21() {
+    let image = image(0, num(3));
+    assert_eq!(run_at(&image, &[], 1_000_000).0, Reply { outcome: Outcome::Number(3), steps: 1 });
+    let refused_21 = Reply { outcome: refused(21, 0), steps: 0 };
+    assert_eq!(run_at(&image, &[], 1_000_001).0, refused_21);
+    assert_eq!(run_at(&image, &[], u64::MAX).0, refused_21);
+}
+
+/// Control empty is the end and no step, with budget left or without.
+#[test]
+fn the_empty_control_stack_is_no_step() {
+    let routine = read(&image(0, num(3))).unwrap();
+    for budget in [1, 2] {
+        let mut execution = Execution::start(&routine, &[], budget);
+        assert_eq!(execution.advance(), Advance::Made);
+        assert!(execution.state().control.is_empty());
+        assert_eq!(execution.advance(), Advance::Ended);
+        assert_eq!(execution.advance(), Advance::Ended);
+        assert_eq!(execution.steps(), 1);
+    }
+}
+
+/// A withheld step changes nothing, whatever it is withheld for.
+#[test]
+fn a_withheld_step_can_be_asked_for_again() {
+    let routine = read(&image(1, assign(0, div(num(1), num(0))))).unwrap();
+    let mut execution = Execution::start(&routine, &[5], 100);
+    assert_eq!(execution.finish(|_| {}), Some(31));
+    let before = format!("{:?}", execution.state());
+    assert_eq!(execution.advance(), Advance::Withheld(31));
+    assert_eq!(format!("{:?}", execution.state()), before);
+    assert_eq!(execution.steps(), 4);
+}

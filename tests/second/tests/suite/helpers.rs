@@ -1,0 +1,54 @@
+//! What the tests share: run an image, say what must come of it.
+
+use second::build::image;
+use second::engine::{check, run, Answer, Outcome, Reply, MOST_BUDGET, WORK_WORDS};
+use second::tree::{Place, Root};
+use second::Refusal;
+
+/// The reply and the registers after a run.
+pub fn run_at(image: &[u32], starts: &[i64], budget: u64) -> (Reply, Vec<i64>) {
+    let mut registers = starts.to_vec();
+    let reply = run(image, &mut registers, budget, WORK_WORDS);
+    (reply, registers)
+}
+
+/// Run a tree with one register a start, at the greatest budget.
+pub fn run_tree(root: impl Into<Root>, starts: &[i64]) -> (Reply, Vec<i64>) {
+    run_at(&image(starts.len() as u32, root), starts, MOST_BUDGET)
+}
+
+/// The registers after a run that must end normally.
+pub fn registers_after(root: impl Into<Root>, starts: &[i64]) -> Vec<i64> {
+    let (reply, registers) = run_tree(root, starts);
+    assert_eq!(reply.outcome, Outcome::None);
+    registers
+}
+
+/// The outcome and steps of a tree's run.
+pub fn outcome(root: impl Into<Root>, starts: &[i64]) -> (Outcome, u64) {
+    let (reply, _) = run_tree(root, starts);
+    (reply.outcome, reply.steps)
+}
+
+/// The refusal and the steps of a run withheld for this reason.
+pub fn withheld(number: u32, steps: u64) -> Reply {
+    Reply { outcome: refused(number, 0), steps }
+}
+
+pub fn refused(number: u32, place: Place) -> Outcome {
+    Outcome::Refused(Refusal::new(number, place))
+}
+
+/// The checker's answer to an image, given work words enough.
+pub fn checked(image: &[u32]) -> Answer {
+    check(image, WORK_WORDS)
+}
+
+/// The checker's answer to a tree with this many registers.
+pub fn checked_tree(registers: u32, root: impl Into<Root>) -> Answer {
+    checked(&image(registers, root))
+}
+
+pub fn answer_refused(number: u32, place: Place) -> Answer {
+    Answer::Refused(Refusal::new(number, place))
+}

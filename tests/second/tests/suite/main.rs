@@ -1,0 +1,19 @@
+//! The suite: the paper's cases, its refusals in order and place, its limits,
+//! rules that must be told apart from wrong ones, and claims about every state
+//! of generated runs.
+
+mod helpers;
+
+mod arithmetic;
+mod blocks;
+mod budget;
+mod calls;
+mod cases;
+mod claims;
+mod command_line;
+mod generators;
+mod host;
+mod limits;
+mod program;
+mod shape;
+mod types;
