@@ -99,7 +99,7 @@ found-in (r ∷ rs) w k h q = choose (eqb (r .number) w) refl q (found-in rs w k
     choose true t p later = ap kind-number (sym (Option·some-injective (r .kind) k p)) ∙ h .0 ∙ eqb→eq (r .number) w (passed-test t)
     choose false t p later = later p
 
-number-of : (w : ℕ) (k : Kind) → kind-of w ≡ some k → kind-number k ≡ w
+pub number-of : (w : ℕ) (k : Kind) → kind-of w ≡ some k → kind-number k ≡ w
 unfolding kind-of
 number-of w k q = found-in kinds w k numbered q
 

@@ -1,0 +1,6 @@
+pub mod ScanExact
+pub mod Rows
+pub mod Faults
+pub mod Children
+pub mod ReadLaws
+pub mod ImageLaws

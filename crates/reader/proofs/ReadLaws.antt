@@ -1,0 +1,392 @@
+-- What the code that reads a node and its children has to show at each return, over plain variables. Assumes nothing.
+use Prim.Native.Nat.{ℕ, zero, suc, _+_, _-_, _*_, _<_, _≤_}
+use mathlib.Core.Path.{_≡_, refl, sym, ap, _∙_, subst}
+use mathlib.Core.Bool.{Bool, true, false, cond}
+use mathlib.Core.List.{List, [], _∷_, _++_}
+use mathlib.Core.Option.{Option, none, some}
+use native.Mathlib.Omega.{arith}
+use native.Mathlib.Numerals.{add-one}
+use native.Mathlib.Nat.{add-suc, add-zero, add-assoc}
+use lib.Dec.{T}
+use lib.ListN.{length, getD, take, drop, set, length-take, length-drop, length-set, length-append, drop-of-length-le}
+use lib.Seq.{getD-take, getD-drop}
+use Rattle.rules.specs.Basics.{passed-test, append-assoc}
+use Rattle.rules.specs.Refusals.{Refusal, refusal-number}
+use Rattle.rules.specs.Refusals as Refusals
+use Rattle.rules.specs.Kinds.{Kind, kind-of, operand-fits}
+use Rattle.rules.specs.Reader.{Node, Got, refused, got, Read, then, _>>=_, give, Header, or-refuse, node, nodes-of}
+use Rattle.rules.specs.Listing.{a-node}
+use Rattle.rules.specs.ReaderComplete.{kind-number}
+use Rattle.rules.specs.ReaderSound.{number-of}
+use Rattle.reader.specs.Pack.{pack, node-words}
+use Rattle.reader.specs.Put.{put, put-length, put-none, put-append, set-put, put-beyond}
+use Rattle.reader.specs.Scan.{Want, accepts, accepting, child-wants, scan-list, scan}
+use Rattle.reader.specs.Tables.{want-of, fault-by, fault-of, wants-by, wants-at, rest-wants, rest-wants-by, rest-wants-at, WantedAt}
+use Rattle.reader.specs.Answers.{nodes-at, Readable, Passing, KindKnown, Kept, Read-on, Refused-there, Outcome}
+use Rattle.reader.specs.declared.Scanned.{Scanned}
+use Rattle.reader.specs.declared.Scanned.the-variants.{Next, Refused}
+use Rattle.reader.proofs.Children.{all-wants}
+use Rattle.reader.proofs.Faults.{known-low}
+
+-- ---- The node at a place, and past the last one.
+
+nodes-here : (ks os : List ℕ) (i : ℕ) → i < length ks → i < length os → drop i (nodes-of ks os) ≡ a-node (getD ks i 0) (getD os i 0) ∷ drop (suc i) (nodes-of ks os)
+unfolding nodes-of
+nodes-here [] os i h g = absurd (never h)
+  where
+    never : i < 0 → ⊥
+    never l = omega arith
+nodes-here (k ∷ ks) [] i h g = absurd (never g)
+  where
+    never : i < 0 → ⊥
+    never l = omega arith
+nodes-here (k ∷ ks) (o ∷ os) zero h g = refl
+nodes-here (k ∷ ks) (o ∷ os) (suc i) h g = nodes-here ks os i (omega arith) (omega arith)
+
+nodes-count : (ks os : List ℕ) → length ks ≡ length os → length (nodes-of ks os) ≡ length ks
+unfolding nodes-of
+nodes-count [] os q = refl
+nodes-count (k ∷ ks) [] q = absurd (never q)
+  where
+    never : suc (length ks) ≡ 0 → ⊥
+    never e = omega arith
+nodes-count (k ∷ ks) (o ∷ os) q = ap suc (nodes-count ks os (omega arith))
+
+module _ (words : List ℕ) (n : ℕ) (sized : length words ≡ 2 + 2 * n) where
+  kinds-count : length (take n (drop 2 words)) ≡ n
+  kinds-count = omega (arith, length-take n (drop 2 words), length-drop 2 words, sized)
+
+  operands-count : length (drop n (drop 2 words)) ≡ n
+  operands-count = omega (arith, length-drop n (drop 2 words), length-drop 2 words, sized)
+
+  pub node-here : (at : ℕ) → at < n → drop at (nodes-at words n) ≡ a-node (getD words (2 + at) 0) (getD words (2 + n + at) 0) ∷ drop (at + 1) (nodes-at words n)
+  node-here at h =
+      nodes-here (take n (drop 2 words)) (drop n (drop 2 words)) at (omega (arith, kinds-count)) (omega (arith, operands-count))
+      ∙ ap {B = List Node} (λ k. a-node k (getD (drop n (drop 2 words)) at 0) ∷ drop (suc at) (nodes-at words n)) (rw (getD-take, getD-drop))
+      ∙ ap {B = List Node} (λ w. a-node (getD words (2 + at) 0) w ∷ drop (suc at) (nodes-at words n)) (rw (getD-drop, getD-drop) (ap (λ i. getD words i 0) (sym (add-assoc 2 n at))))
+      ∙ ap {B = List Node} (λ i. a-node (getD words (2 + at) 0) (getD words (2 + n + at) 0) ∷ drop i (nodes-at words n)) (sym (add-one at))
+
+  pub nodes-past : (at : ℕ) → n ≤ at → drop at (nodes-at words n) ≡ []
+  nodes-past at h = drop-of-length-le (nodes-at words n) {i = at} (omega (arith, nodes-count (take n (drop 2 words)) (drop n (drop 2 words)) (kinds-count ∙ sym operands-count), kinds-count))
+
+-- ---- A node's own checks.
+
+-- the node, and the node where its operand fits
+abbrev found : (at w : ℕ) → List Node → Kind → Got (Header Kind)
+found at w rest kind = got (record { place = at; kind = kind; operand = w }) (suc at) rest
+
+abbrev fitting : (at w : ℕ) → List Node → Bool → Kind → Got (Header Kind)
+fitting at w rest t kind = cond t (found at w rest kind) (refused Refusals.Operand at)
+
+checked-node : (want : Want) (k w at : ℕ) (rest : List Node) → ¬ (fault-by want w (kind-of k) ≡ 0) → (x : Refusal) × (refusal-number x ≡ fault-by want w (kind-of k)) × (node (accepting want) at (a-node k w ∷ rest) ≡ refused x at)
+unfolding node refusal-number
+checked-node want k w at rest h = by-kind (kind-of k) h
+  where
+    by-operand : (kind : Kind) (t : Bool) → ¬ (_≡_ {A = ℕ} (cond t 0 4) 0) →
+        (x : Refusal) × (refusal-number x ≡ cond t 0 4) × (fitting at w rest t kind ≡ refused x at)
+    by-operand kind true g = absurd (g refl)
+    by-operand kind false g = (Refusals.Operand, refl, refl)
+
+    by-sort : (kind : Kind) (s : Bool) → ¬ (_≡_ {A = ℕ} (cond s (cond (operand-fits kind w) 0 4) 5) 0) →
+        (x : Refusal) × (refusal-number x ≡ cond s (cond (operand-fits kind w) 0 4) 5)
+        × (or-refuse Refusals.Tree at (cond s (some kind) none) (λ c. fitting at w rest (operand-fits kind w) c) ≡ refused x at)
+    by-sort kind true g = by-operand kind (operand-fits kind w) g
+    by-sort kind false g = (Refusals.Tree, refl, refl)
+
+    by-kind : (o : Option Kind) → ¬ (fault-by want w o ≡ 0) →
+        (x : Refusal) × (refusal-number x ≡ fault-by want w o)
+        × (or-refuse Refusals.Kind at o (λ kind. or-refuse Refusals.Tree at (accepting want kind) (λ c. fitting at w rest (operand-fits kind w) c)) ≡ refused x at)
+    by-kind none g = (Refusals.Kind, refl, refl)
+    by-kind (some kind) g = by-sort kind (accepts want kind) g
+
+passed-node : (want : Want) (k w at : ℕ) (rest : List Node) → fault-by want w (kind-of k) ≡ 0 →
+    (kind : Kind) × (kind-of k ≡ some kind) × T (operand-fits kind w) × (node (accepting want) at (a-node k w ∷ rest) ≡ found at w rest kind)
+unfolding node
+passed-node want k w at rest h = by-kind (kind-of k) refl h
+  where
+    off : {A : Type 0} {m : ℕ} → _≡_ {A = ℕ} (suc m) 0 → A
+    off e = absurd (never e)
+      where
+        never : {m : ℕ} → _≡_ {A = ℕ} (suc m) 0 → ⊥
+        never e = omega arith
+
+    by-operand : (kind : Kind) (t : Bool) → operand-fits kind w ≡ t → _≡_ {A = ℕ} (cond t 0 4) 0 →
+        T (operand-fits kind w) × (fitting at w rest t kind ≡ found at w rest kind)
+    by-operand kind true q g = (passed-test q, refl)
+    by-operand kind false q g = off g
+
+    by-sort : (kind : Kind) (s : Bool) → _≡_ {A = ℕ} (cond s (cond (operand-fits kind w) 0 4) 5) 0 →
+        T (operand-fits kind w)
+        × (or-refuse Refusals.Tree at (cond s (some kind) none) (λ c. fitting at w rest (operand-fits kind w) c) ≡ found at w rest kind)
+    by-sort kind true g = by-operand kind (operand-fits kind w) refl g
+    by-sort kind false g = off g
+
+    by-kind : (o : Option Kind) → kind-of k ≡ o → fault-by want w o ≡ 0 →
+        (kind : Kind) × (kind-of k ≡ some kind) × T (operand-fits kind w)
+        × (or-refuse Refusals.Kind at o (λ kind. or-refuse Refusals.Tree at (accepting want kind) (λ c. fitting at w rest (operand-fits kind w) c)) ≡ found at w rest kind)
+    by-kind none q g = off g
+    by-kind (some kind) q g = let b = by-sort kind (accepts want kind) g in (kind, q, b .0, b .1)
+
+pub passes : (want k w : ℕ) → fault-of want k w ≡ 0 → Passing k w
+unfolding fault-of
+passes want k w h = let p = passed-node (want-of want) k w 0 [] h in record { which = p .0; known = p .1; fits = p .2 }
+
+kept-same : (n : ℕ) (ws : List ℕ) → Kept n ws ws
+kept-same n ws = record { same-length = refl; same-beyond = refl }
+
+-- ---- Reading a node.
+
+none-left : (d at : ℕ) (w : Want) → scan d w at [] ≡ refused Refusals.Tree at
+unfolding scan node
+none-left zero at w = refl
+none-left (suc d) at w = refl
+
+-- a place past the last node
+pub missing-node : (words work : List ℕ) (n at want levels : ℕ) → Readable work words n at → n ≤ at →
+    Outcome (nodes-at words n) n at (scan levels (want-of want) at (drop at (nodes-at words n))) (Refused 5 at) work work
+unfolding refusal-number
+missing-node words work n at want levels r h =
+    subst (λ g. Outcome (nodes-at words n) n at g (Refused 5 at) work work) (sym (ap (scan levels (want-of want) at) (nodes-past words n (r .sized) at h) ∙ none-left levels at (want-of want)))
+    (record { answer = refl; kept = kept-same n work })
+
+-- the node's own fault
+fault-first : (d at k w : ℕ) (want : Want) (rest : List Node) (x : Refusal) → node (accepting want) at (a-node k w ∷ rest) ≡ refused x at → scan d want at (a-node k w ∷ rest) ≡ refused x at
+unfolding scan
+fault-first zero at k w want rest x q = rw q
+fault-first (suc d) at k w want rest x q = rw q
+
+pub faulty-node : (words work : List ℕ) (n at want levels f : ℕ) → Readable work words n at → at < n →
+    f ≡ fault-of want (getD words (2 + at) 0) (getD words (2 + n + at) 0) → ¬ (f ≡ 0) →
+    Outcome (nodes-at words n) n at (scan levels (want-of want) at (drop at (nodes-at words n))) (Refused f at) work work
+unfolding fault-of
+faulty-node words work n at want levels f r h q z =
+    let c = checked-node (want-of want) (getD words (2 + at) 0) (getD words (2 + n + at) 0) at (drop (at + 1) (nodes-at words n)) (λ e. z (q ∙ e)) in
+    subst (λ g. Outcome (nodes-at words n) n at g (Refused f at) work work)
+    (sym (ap (scan levels (want-of want) at) (node-here words n (r .sized) at h) ∙ fault-first levels at _ _ (want-of want) _ (c .0) (c .2)))
+    (record { answer = ap (λ x. Refused x at) (q ∙ sym (c .1)); kept = kept-same n work })
+
+-- no level left
+deep-first : (at k w : ℕ) (want : Want) (rest : List Node) (kind : Kind) → node (accepting want) at (a-node k w ∷ rest) ≡ found at w rest kind → scan 0 want at (a-node k w ∷ rest) ≡ refused Refusals.Depth at
+unfolding scan
+deep-first at k w want rest kind q = rw q
+
+pub deep-node : (words work : List ℕ) (n at want levels : ℕ) → Readable work words n at → at < n →
+    fault-of want (getD words (2 + at) 0) (getD words (2 + n + at) 0) ≡ 0 → levels ≡ 0 →
+    Outcome (nodes-at words n) n at (scan levels (want-of want) at (drop at (nodes-at words n))) (Refused 6 at) work work
+unfolding fault-of refusal-number
+deep-node words work n at want levels r h q z =
+    let p = passed-node (want-of want) (getD words (2 + at) 0) (getD words (2 + n + at) 0) at (drop (at + 1) (nodes-at words n)) q in
+    subst (λ g. Outcome (nodes-at words n) n at g (Refused 6 at) work work)
+    (sym (ap (λ d. scan d (want-of want) at (drop at (nodes-at words n))) z ∙ ap (scan 0 (want-of want) at) (node-here words n (r .sized) at h) ∙ deep-first at _ _ (want-of want) _ (p .0) (p .3)))
+    (record { answer = refl; kept = kept-same n work })
+
+-- with its children: the reader goes on with what is wanted of them
+opened-node : (words : List ℕ) (n at want d : ℕ) → length words ≡ 2 + 2 * n → at < n →
+    fault-of want (getD words (2 + at) 0) (getD words (2 + n + at) 0) ≡ 0 →
+    scan (suc d) (want-of want) at (drop at (nodes-at words n))
+    ≡ then (scan-list (scan d) (wants-at (getD words (2 + at) 0) (getD words (2 + n + at) 0)) (at + 1) (drop (at + 1) (nodes-at words n)))
+    (λ below. give (node-words (getD words (2 + at) 0) (getD words (2 + n + at) 0) at below))
+unfolding fault-of scan wants-at
+opened-node words n at want d sized h q =
+    let k = getD words (2 + at) 0 in
+    let w = getD words (2 + n + at) 0 in
+    let p = passed-node (want-of want) k w at (drop (at + 1) (nodes-at words n)) q in
+    ap (scan (suc d) (want-of want) at) (node-here words n sized at h)
+    ∙ rw (p .3, p .1, number-of k (p .0) (p .1))
+    (ap (λ i. then (scan-list (scan d) (child-wants (p .0) w) i (drop (at + 1) (nodes-at words n))) (λ below. give (node-words k w at below))) (sym (add-one at)))
+
+-- the children were refused
+finish-refused : (nodes : List Node) (n at k w x p : ℕ) (g : Got (List ℕ)) (r : Scanned) (work work′ : List ℕ) → Outcome nodes n (at + 1) g r work work′ → r ≡ Refused x p →
+    Outcome nodes n at (then g (λ below. give (node-words k w at below))) (Refused x p) work work′
+finish-refused nodes n at k w x p (refused y q) r work work′ o e = record { answer = sym e ∙ o .answer; kept = o .kept }
+finish-refused nodes n at k w x p (got ws j rest) r work work′ o e = absurd (two-answers r j x p (o .answer) e)
+  where
+    two-answers : (r : Scanned) (j x p : ℕ) → r ≡ Next j → r ≡ Refused x p → ⊥
+    two-answers r j x p a b = let z : _≡_ {A = ℕ} 0 1 = cc in omega arith
+
+-- the children were read: the node's own word is put before theirs
+finish-next : (nodes : List Node) (n at k w end : ℕ) (g : Got (List ℕ)) (r : Scanned) (work work′ : List ℕ) → Outcome nodes n (at + 1) g r work work′ → r ≡ Next end →
+    Outcome nodes n at (then g (λ below. give (node-words k w at below))) (Next end) work (set work′ at (pack k w end))
+finish-next nodes n at k w end (refused y q) r work work′ o e = absurd (two-answers r end (refusal-number y) q e (o .answer))
+  where
+    two-answers : (r : Scanned) (j x p : ℕ) → r ≡ Next j → r ≡ Refused x p → ⊥
+    two-answers r j x p a b = let z : _≡_ {A = ℕ} 0 1 = cc in omega arith
+finish-next nodes n at k w end (got ws j rest) r work work′ o e =
+    record {
+      answer = ap Next ends;
+      written =
+          ap (λ v. set v at (pack k w end)) (o .written ∙ ap (λ i. put i ws work) (add-one at))
+          ∙ set-put at (pack k w end) ws work
+          ∙ ap (λ i. put at (pack k w i ∷ ws) work) (ends ∙ after);
+      counted = after;
+      within = o .within;
+      remaining = o .remaining;
+    }
+  where
+    same-next : (r : Scanned) (i j : ℕ) → r ≡ Next i → r ≡ Next j → i ≡ j
+    same-next r i j a b = cc
+
+    ends : end ≡ j
+    ends = same-next r end j e (o .answer)
+
+    after : j ≡ at + suc (length ws)
+    after = omega (arith, o .counted)
+
+-- What `read_node` answers, from what its children's reading did.
+module _ (words work work′ : List ℕ) (n at want levels : ℕ) (r : Scanned) (readable : Readable work words n at) (here : at < n)
+    (sound : fault-of want (getD words (2 + at) 0) (getD words (2 + n + at) 0) ≡ 0) (deep : ¬ (levels ≡ 0)) where
+  abbrev kind-word : ℕ
+  kind-word = getD words (2 + at) 0
+
+  abbrev operand-word : ℕ
+  operand-word = getD words (2 + n + at) 0
+
+  abbrev children-read : Got (List ℕ)
+  children-read = scan-list (scan (levels - 1)) (rest-wants-at kind-word (length (wants-at kind-word operand-word))) (at + 1) (drop (at + 1) (nodes-at words n))
+
+  opened-here : scan levels (want-of want) at (drop at (nodes-at words n))
+      ≡ then (scan-list (scan (levels - 1)) (rest-wants-at kind-word (length (wants-at kind-word operand-word))) (at + 1) (drop (at + 1) (nodes-at words n)))
+      (λ below. give (node-words kind-word operand-word at below))
+  opened-here =
+      ap (λ d. scan d (want-of want) at (drop at (nodes-at words n))) (level levels deep)
+      ∙ opened-node words n at want (levels - 1) (readable .sized) here sound
+      ∙ ap (λ l. then (scan-list (scan (levels - 1)) l (at + 1) (drop (at + 1) (nodes-at words n))) (λ below. give (node-words kind-word operand-word at below)))
+      (sym (all-wants kind-word operand-word (passes want kind-word operand-word sound)))
+    where
+      level : (d : ℕ) → ¬ (d ≡ 0) → d ≡ suc (d - 1)
+      level d z = omega (arith, z)
+
+  pub node-refused : (x p : ℕ) →
+      Outcome (nodes-at words n) n (at + 1) (scan-list (scan (levels - 1)) (rest-wants-at kind-word (length (wants-at kind-word operand-word))) (at + 1) (drop (at + 1) (nodes-at words n))) r work work′ →
+      r ≡ Refused x p → Outcome (nodes-at words n) n at (scan levels (want-of want) at (drop at (nodes-at words n))) (Refused x p) work work′
+  node-refused x p o e =
+      subst (λ g. Outcome (nodes-at words n) n at g (Refused x p) work work′) (sym opened-here) (finish-refused (nodes-at words n) n at kind-word operand-word x p children-read r work work′ o e)
+
+  pub node-next : (end : ℕ) →
+      Outcome (nodes-at words n) n (at + 1) (scan-list (scan (levels - 1)) (rest-wants-at kind-word (length (wants-at kind-word operand-word))) (at + 1) (drop (at + 1) (nodes-at words n))) r work work′ →
+      r ≡ Next end → Outcome (nodes-at words n) n at (scan levels (want-of want) at (drop at (nodes-at words n))) (Next end) work (set work′ at (pack kind-word operand-word end))
+  node-next end o e =
+      subst (λ g. Outcome (nodes-at words n) n at g (Next end) work (set work′ at (pack kind-word operand-word end))) (sym opened-here) (finish-next (nodes-at words n) n at kind-word operand-word end children-read r work work′ o e)
+
+-- ---- Reading children.
+
+pub no-children : (words work : List ℕ) (n at kind left levels : ℕ) → Readable work words n at → left ≡ 0 →
+    Outcome (nodes-at words n) n at (scan-list (scan levels) (rest-wants-at kind left) at (drop at (nodes-at words n))) (Next at) work work
+unfolding rest-wants-at scan-list
+no-children words work n at kind left levels r z =
+    subst (λ g. Outcome (nodes-at words n) n at g (Next at) work work)
+    (sym (ap (λ l. scan-list (scan levels) (rest-wants-by l (kind-of kind)) at (drop at (nodes-at words n))) z ∙ empty (kind-of kind)))
+    (record { answer = refl; written = sym (put-none at work); counted = sym (add-zero at); within = r .within; remaining = refl })
+  where
+    empty : (o : Option Kind) → scan-list (scan levels) (rest-wants-by 0 o) at (drop at (nodes-at words n)) ≡ got [] at (drop at (nodes-at words n))
+    empty none = refl
+    empty (some k) = refl
+
+first-child : (kind left want levels at : ℕ) (ns : List Node) → KindKnown kind → WantedAt kind left want →
+    scan-list (scan levels) (rest-wants-at kind left) at ns ≡ then (scan levels (want-of want) at ns) (λ a. scan-list (scan levels) (rest-wants-at kind (left - 1)) >>= λ b. give (a ++ b))
+unfolding rest-wants-at scan-list
+first-child kind left want levels at ns k w = rw (k .known, w .head (k .which) (k .known))
+
+pub child-refused : (words work work′ : List ℕ) (n at kind left want levels x p : ℕ) (r : Scanned) → KindKnown kind → WantedAt kind left want →
+    Outcome (nodes-at words n) n at (scan levels (want-of want) at (drop at (nodes-at words n))) r work work′ → r ≡ Refused x p →
+    Outcome (nodes-at words n) n at (scan-list (scan levels) (rest-wants-at kind left) at (drop at (nodes-at words n))) (Refused x p) work work′
+child-refused words work work′ n at kind left want levels x p r k w o e =
+    subst (λ g. Outcome (nodes-at words n) n at g (Refused x p) work work′) (sym (first-child kind left want levels at (drop at (nodes-at words n)) k w))
+    (by (scan levels (want-of want) at (drop at (nodes-at words n))) o)
+  where
+    two-answers : (r : Scanned) (j x p : ℕ) → r ≡ Next j → r ≡ Refused x p → ⊥
+    two-answers r j x p a b = let z : _≡_ {A = ℕ} 0 1 = cc in omega arith
+
+    by : (g : Got (List ℕ)) → Outcome (nodes-at words n) n at g r work work′ →
+        Outcome (nodes-at words n) n at (then g (λ a. scan-list (scan levels) (rest-wants-at kind (left - 1)) >>= λ b. give (a ++ b))) (Refused x p) work work′
+    by (refused y q) o = record { answer = sym e ∙ o .answer; kept = o .kept }
+    by (got ws j rest) o = absurd (two-answers r j x p (o .answer) e)
+
+appended : (a b : List ℕ) → length (a ++ b) ≡ length a + length b
+appended a b = length-append a b
+
+-- A child was read, and then the others.
+pub child-next : (words work work′ work″ : List ℕ) (n at kind left want levels next : ℕ) (r s : Scanned) → KindKnown kind → WantedAt kind left want →
+    Outcome (nodes-at words n) n at (scan levels (want-of want) at (drop at (nodes-at words n))) r work work′ → r ≡ Next next →
+    Outcome (nodes-at words n) n next (scan-list (scan levels) (rest-wants-at kind (left - 1)) next (drop next (nodes-at words n))) s work′ work″ →
+    Outcome (nodes-at words n) n at (scan-list (scan levels) (rest-wants-at kind left) at (drop at (nodes-at words n))) s work work″
+child-next words work work′ work″ n at kind left want levels next r s k w o e others =
+    subst (λ g. Outcome (nodes-at words n) n at g s work work″) (sym (first-child kind left want levels at (drop at (nodes-at words n)) k w))
+    (by (scan levels (want-of want) at (drop at (nodes-at words n))) o)
+  where
+    two-answers : (r : Scanned) (j x p : ℕ) → r ≡ Next j → r ≡ Refused x p → ⊥
+    two-answers r j x p a b = let z : _≡_ {A = ℕ} 0 1 = cc in omega arith
+
+    same-next : (r : Scanned) (i j : ℕ) → r ≡ Next i → r ≡ Next j → i ≡ j
+    same-next r i j a b = cc
+
+    join : (ws : List ℕ) (rest : List Node) → Read-on (nodes-at words n) n at ws next rest r work work′ → (g : Got (List ℕ)) → Outcome (nodes-at words n) n next g s work′ work″ →
+        Outcome (nodes-at words n) n at (then g (λ b. give (ws ++ b))) s work work″
+    join ws rest a (refused y q) b =
+        record {
+          answer = b .answer;
+          kept = record {
+            same-length = b .kept .same-length ∙ ap length (a .written) ∙ put-length at ws work;
+            same-beyond = b .kept .same-beyond ∙ ap (drop n) (a .written) ∙ put-beyond n at ws work (omega (arith, a .counted, a .within));
+          };
+        }
+    join ws rest a (got vs j rest′) b =
+        record {
+          answer = b .answer;
+          written = b .written ∙ ap (λ v. put next vs v) (a .written) ∙ ap (λ i. put i vs (put at ws work)) (a .counted) ∙ put-append at ws vs work;
+          counted = omega (arith, a .counted, b .counted, Rattle.reader.proofs.ReadLaws.appended ws vs);
+          within = b .within;
+          remaining = b .remaining;
+        }
+
+    by : (g : Got (List ℕ)) → Outcome (nodes-at words n) n at g r work work′ →
+        Outcome (nodes-at words n) n at (then g (λ a. scan-list (scan levels) (rest-wants-at kind (left - 1)) >>= λ b. give (a ++ b))) s work work″
+    by (refused y q) o = absurd (two-answers r next (refusal-number y) q e (o .answer))
+    by (got ws j rest) o =
+        let q : j ≡ next = same-next r j next (o .answer) e in
+        let a : Read-on (nodes-at words n) n at ws next rest r work work′ = subst (λ i. Read-on (nodes-at words n) n at ws i rest r work work′) q o in
+        subst (λ i. Outcome (nodes-at words n) n at (then (scan-list (scan levels) (rest-wants-at kind (left - 1)) i rest) (λ b. give (ws ++ b))) s work work″) (sym q)
+        (subst (λ m. Outcome (nodes-at words n) n at (then (scan-list (scan levels) (rest-wants-at kind (left - 1)) next m) (λ b. give (ws ++ b))) s work work″) (sym (a .remaining))
+        (join ws rest a (scan-list (scan levels) (rest-wants-at kind (left - 1)) next (drop next (nodes-at words n))) others))
+
+-- ---- What the calls ask.
+
+pub known-below : (k : ℕ) → KindKnown k → k < 43
+known-below k h = known-low k (h .which) (h .known)
+
+pub kind-known : (k w : ℕ) → Passing k w → KindKnown k
+kind-known k w p = record { which = p .which; known = p .known }
+
+pub child-readable : (words work : List ℕ) (n at : ℕ) → Readable work words n at → at < n → Readable work words n (at + 1)
+child-readable words work n at r h = record { sized = r .sized; few = r .few; room = r .room; within = omega arith }
+
+-- after a child, at the next place
+pub later-readable : (words work work′ : List ℕ) (n at levels want next : ℕ) (r : Scanned) → Readable work words n at →
+    Outcome (nodes-at words n) n at (scan levels (want-of want) at (drop at (nodes-at words n))) r work work′ → r ≡ Next next → Readable work′ words n next
+later-readable words work work′ n at levels want next r readable o e = by (scan levels (want-of want) at (drop at (nodes-at words n))) o
+  where
+    two-answers : (r : Scanned) (j x p : ℕ) → r ≡ Next j → r ≡ Refused x p → ⊥
+    two-answers r j x p a b = let z : _≡_ {A = ℕ} 0 1 = cc in omega arith
+
+    same-next : (r : Scanned) (i j : ℕ) → r ≡ Next i → r ≡ Next j → i ≡ j
+    same-next r i j a b = cc
+
+    by : (g : Got (List ℕ)) → Outcome (nodes-at words n) n at g r work work′ → Readable work′ words n next
+    by (refused y q) o = absurd (two-answers r next (refusal-number y) q e (o .answer))
+    by (got ws j rest) o =
+        record {
+          sized = readable .sized;
+          few = readable .few;
+          room = omega (arith, readable .room, ap length (o .written) ∙ put-length at ws work);
+          within = omega (arith, o .within, same-next r next j e (o .answer));
+        }
+
+pub end-within : (nodes : List Node) (n at end : ℕ) (g : Got (List ℕ)) (r : Scanned) (work work′ : List ℕ) → Outcome nodes n at g r work work′ → r ≡ Next end → end ≤ n
+end-within nodes n at end (refused y q) r work work′ o e = absurd (two-answers r end (refusal-number y) q e (o .answer))
+  where
+    two-answers : (r : Scanned) (j x p : ℕ) → r ≡ Next j → r ≡ Refused x p → ⊥
+    two-answers r j x p a b = let z : _≡_ {A = ℕ} 0 1 = cc in omega arith
+end-within nodes n at end (got ws j rest) r work work′ o e = omega (arith, o .within, same-next r end j e (o .answer))
+  where
+    same-next : (r : Scanned) (i j : ℕ) → r ≡ Next i → r ≡ Next j → i ≡ j
+    same-next r i j a b = cc

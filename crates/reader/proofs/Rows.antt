@@ -1,0 +1,171 @@
+-- The code's tables hold what the table of kinds says, proved at all rows by one test that is computed. Assumes nothing.
+use Prim.Native.Nat.{ℕ, zero, suc, _+_, _*_, _<_}
+use mathlib.Core.Path.{_≡_, refl, sym, ap, _∙_, subst}
+use mathlib.Core.Bool.{Bool, true, false, cond, not, _&&_}
+use mathlib.Core.List.{List, [], _∷_}
+use mathlib.Core.Option.{Option, none, some}
+use native.Mathlib.Omega.{arith}
+use lib.Dec.{T, eqb, eqb→eq, eqb-refl}
+use lib.ListN.{length, getD}
+use Rattle.rules.specs.Basics.{and-left, and-right}
+use Rattle.rules.specs.Kinds.{Kind, kind-of, operand-bound, num, boo, id, deref, valref, binary, negation, assign, loop, cseq, blk, call, bind, dseq, expression-kind, command-kind, declaration-kind, ref, abs, formal}
+use Rattle.reader.specs.Scan.{Want, an-expression, a-command, a-declaration, a-bound, a-formal, a-block, a-root, accepts, child-wants}
+use Rattle.reader.specs.Tables.{want-of, first-want, last-want}
+
+-- The tables, as the source has them.
+abbrev pub bounds : List ℕ
+bounds =
+    0 ∷ 4294967296 ∷ 2 ∷ 64 ∷ 1 ∷ 1 ∷ 1 ∷ 1 ∷ 1 ∷ 1 ∷ 1 ∷ 1 ∷ 1 ∷ 1 ∷ 1 ∷ 1 ∷ 64 ∷ 64 ∷ 0 ∷ 0 ∷ 64 ∷ 1 ∷ 1 ∷ 1 ∷ 576 ∷ 0 ∷ 0 ∷ 0 ∷ 0 ∷ 0 ∷ 64 ∷ 1 ∷
+    0 ∷ 0 ∷ 0 ∷ 0 ∷ 0 ∷ 0 ∷ 0 ∷ 0 ∷ 1 ∷ 9 ∷ 512 ∷ []
+
+abbrev pub accepted : List ℕ
+accepted =
+    0 ∷ 1 ∷ 1 ∷ 1 ∷ 1 ∷ 1 ∷ 1 ∷ 1 ∷ 1 ∷ 1 ∷ 1 ∷ 1 ∷ 1 ∷ 1 ∷ 1 ∷ 1 ∷ 1 ∷ 1 ∷ 0 ∷ 0 ∷ 0 ∷ 0 ∷ 0 ∷ 0 ∷ 0 ∷ 0 ∷ 0 ∷ 0 ∷ 0 ∷ 0 ∷ 0 ∷ 0 ∷ 0 ∷ 0 ∷ 0 ∷ 0 ∷ 0 ∷ 0 ∷ 0 ∷ 0 ∷ 0 ∷ 0 ∷ 0 ∷
+    0 ∷ 0 ∷ 0 ∷ 0 ∷ 0 ∷ 0 ∷ 0 ∷ 0 ∷ 0 ∷ 0 ∷ 0 ∷ 0 ∷ 0 ∷ 0 ∷ 0 ∷ 0 ∷ 0 ∷ 0 ∷ 0 ∷ 0 ∷ 1 ∷ 1 ∷ 1 ∷ 1 ∷ 1 ∷ 0 ∷ 0 ∷ 0 ∷ 0 ∷ 0 ∷ 0 ∷ 0 ∷ 0 ∷ 0 ∷ 0 ∷ 0 ∷ 0 ∷ 0 ∷ 0 ∷ 0 ∷ 0 ∷ 0 ∷ 0 ∷
+    0 ∷ 0 ∷ 0 ∷ 0 ∷ 0 ∷ 0 ∷ 0 ∷ 0 ∷ 0 ∷ 0 ∷ 0 ∷ 0 ∷ 0 ∷ 0 ∷ 0 ∷ 0 ∷ 0 ∷ 0 ∷ 0 ∷ 0 ∷ 0 ∷ 0 ∷ 0 ∷ 0 ∷ 0 ∷ 0 ∷ 0 ∷ 0 ∷ 0 ∷ 0 ∷ 1 ∷ 1 ∷ 0 ∷ 0 ∷ 0 ∷ 0 ∷ 0 ∷ 0 ∷ 0 ∷ 0 ∷ 0 ∷ 0 ∷ 0 ∷
+    0 ∷ 1 ∷ 1 ∷ 1 ∷ 1 ∷ 1 ∷ 1 ∷ 1 ∷ 1 ∷ 1 ∷ 1 ∷ 1 ∷ 1 ∷ 1 ∷ 1 ∷ 1 ∷ 1 ∷ 1 ∷ 0 ∷ 0 ∷ 0 ∷ 0 ∷ 0 ∷ 0 ∷ 0 ∷ 0 ∷ 0 ∷ 0 ∷ 0 ∷ 0 ∷ 0 ∷ 0 ∷ 0 ∷ 0 ∷ 0 ∷ 0 ∷ 0 ∷ 0 ∷ 0 ∷ 0 ∷ 1 ∷ 1 ∷ 0 ∷
+    0 ∷ 0 ∷ 0 ∷ 0 ∷ 0 ∷ 0 ∷ 0 ∷ 0 ∷ 0 ∷ 0 ∷ 0 ∷ 0 ∷ 0 ∷ 0 ∷ 0 ∷ 0 ∷ 0 ∷ 0 ∷ 0 ∷ 0 ∷ 0 ∷ 0 ∷ 0 ∷ 0 ∷ 0 ∷ 0 ∷ 0 ∷ 0 ∷ 0 ∷ 0 ∷ 0 ∷ 0 ∷ 0 ∷ 0 ∷ 0 ∷ 0 ∷ 0 ∷ 0 ∷ 0 ∷ 0 ∷ 0 ∷ 0 ∷ 1 ∷
+    0 ∷ 0 ∷ 0 ∷ 0 ∷ 0 ∷ 0 ∷ 0 ∷ 0 ∷ 0 ∷ 0 ∷ 0 ∷ 0 ∷ 0 ∷ 0 ∷ 0 ∷ 0 ∷ 0 ∷ 0 ∷ 0 ∷ 0 ∷ 0 ∷ 0 ∷ 0 ∷ 1 ∷ 0 ∷ 0 ∷ 0 ∷ 0 ∷ 0 ∷ 0 ∷ 0 ∷ 0 ∷ 0 ∷ 0 ∷ 0 ∷ 0 ∷ 0 ∷ 0 ∷ 0 ∷ 0 ∷ 0 ∷ 0 ∷ 0 ∷
+    0 ∷ 1 ∷ 1 ∷ 1 ∷ 1 ∷ 1 ∷ 1 ∷ 1 ∷ 1 ∷ 1 ∷ 1 ∷ 1 ∷ 1 ∷ 1 ∷ 1 ∷ 1 ∷ 1 ∷ 1 ∷ 0 ∷ 0 ∷ 1 ∷ 1 ∷ 1 ∷ 1 ∷ 1 ∷ 0 ∷ 0 ∷ 0 ∷ 0 ∷ 0 ∷ 0 ∷ 0 ∷ 0 ∷ 0 ∷ 0 ∷ 0 ∷ 0 ∷ 0 ∷ 0 ∷ 0 ∷ 0 ∷ 0 ∷ 0 ∷ []
+
+abbrev pub counts : List ℕ
+counts =
+    0 ∷ 0 ∷ 0 ∷ 0 ∷ 2 ∷ 2 ∷ 2 ∷ 2 ∷ 2 ∷ 2 ∷ 2 ∷ 2 ∷ 2 ∷ 2 ∷ 2 ∷ 1 ∷ 0 ∷ 0 ∷ 0 ∷ 0 ∷ 1 ∷ 2 ∷ 2 ∷ 2 ∷ 0 ∷ 0 ∷ 0 ∷ 0 ∷ 0 ∷ 0 ∷ 1 ∷ 2 ∷ 0 ∷ 0 ∷ 0 ∷ 0 ∷ 0 ∷ 0 ∷ 0 ∷ 0 ∷ 1 ∷ 0 ∷ 0 ∷ []
+
+abbrev pub firsts : List ℕ
+firsts =
+    0 ∷ 0 ∷ 0 ∷ 0 ∷ 0 ∷ 0 ∷ 0 ∷ 0 ∷ 0 ∷ 0 ∷ 0 ∷ 0 ∷ 0 ∷ 0 ∷ 0 ∷ 0 ∷ 0 ∷ 0 ∷ 0 ∷ 0 ∷ 0 ∷ 0 ∷ 1 ∷ 2 ∷ 0 ∷ 0 ∷ 0 ∷ 0 ∷ 0 ∷ 0 ∷ 3 ∷ 2 ∷ 0 ∷ 0 ∷ 0 ∷ 0 ∷ 0 ∷ 0 ∷ 0 ∷ 0 ∷ 0 ∷ 4 ∷ 0 ∷ []
+
+abbrev pub lasts : List ℕ
+lasts =
+    0 ∷ 0 ∷ 0 ∷ 0 ∷ 0 ∷ 0 ∷ 0 ∷ 0 ∷ 0 ∷ 0 ∷ 0 ∷ 0 ∷ 0 ∷ 0 ∷ 0 ∷ 0 ∷ 0 ∷ 0 ∷ 0 ∷ 0 ∷ 0 ∷ 1 ∷ 1 ∷ 1 ∷ 0 ∷ 0 ∷ 0 ∷ 0 ∷ 0 ∷ 0 ∷ 3 ∷ 2 ∷ 0 ∷ 0 ∷ 0 ∷ 0 ∷ 0 ∷ 0 ∷ 0 ∷ 0 ∷ 0 ∷ 5 ∷ 0 ∷ []
+
+-- ---- One test for all rows.
+
+abbrev pub all-below : (ℕ → Bool) → ℕ → Bool
+all-below f zero = true
+all-below f (suc n) = f n && all-below f n
+
+pub at-each : (f : ℕ → Bool) (n : ℕ) → T (all-below f n) → (k : ℕ) → k < n → T (f k)
+at-each f zero t k h = absurd (never h)
+  where
+    never : k < 0 → ⊥
+    never g = omega arith
+at-each f (suc n) t k h = choose (eqb k n) refl (at-each f n (and-right (f n) (all-below f n) t) k)
+  where
+    choose : (b : Bool) → eqb k n ≡ b → (k < n → T (f k)) → T (f k)
+    choose true q later = subst (λ j. T (f j)) (sym (eqb→eq k n (subst T (sym q) tt))) (and-left (f n) (all-below f n) t)
+    choose false q later = later (less (λ e. subst T q (subst (λ j. T (eqb k j)) e (eqb-refl k))))
+      where
+        less : (k ≡ n → ⊥) → k < n
+        less d = omega (arith, h, d)
+
+abbrev pub bit : Bool → ℕ
+bit true = 1
+bit false = 0
+
+abbrev want-number : Want → ℕ
+want-number an-expression = 0
+want-number a-command = 1
+want-number a-declaration = 2
+want-number a-bound = 3
+want-number a-formal = 4
+want-number a-block = 5
+want-number a-root = 6
+
+-- how many children a kind has, but for a Call and an Abs
+abbrev pub static-count : Kind → ℕ
+static-count (expression-kind num) = 0
+static-count (expression-kind boo) = 0
+static-count (expression-kind id) = 0
+static-count (expression-kind deref) = 0
+static-count (expression-kind valref) = 0
+static-count (expression-kind (binary o)) = 2
+static-count (expression-kind negation) = 1
+static-count (command-kind assign) = 1
+static-count (command-kind loop) = 2
+static-count (command-kind cseq) = 2
+static-count (command-kind blk) = 2
+static-count (command-kind call) = 0
+static-count (declaration-kind bind) = 1
+static-count (declaration-kind dseq) = 2
+static-count ref = 1
+static-count abs = 0
+static-count formal = 0
+
+abbrev row-by : ℕ → Option Kind → Bool
+row-by k none = eqb (getD bounds k 0) 0
+row-by k (some kind) =
+    not (eqb (getD bounds k 0) 0) && (eqb (getD bounds k 0) (operand-bound kind) &&
+    (all-below (λ w. eqb (getD accepted (w * 43 + k) 0) (bit (accepts (want-of w) kind))) 7 &&
+    (eqb (getD counts k 0) (static-count kind) &&
+    (eqb (getD firsts k 0) (want-number (first-want kind)) && eqb (getD lasts k 0) (want-number (last-want kind))))))
+
+rows-hold : T (all-below (λ k. row-by k (kind-of k)) 43)
+unfolding kind-of operand-bound
+rows-hold = tt
+
+-- What the tables hold in the row of a kind.
+pub record RowOf (k : ℕ) (kind : Kind) : Type 0 where
+  pub bounded : getD bounds k 0 ≡ operand-bound kind
+  pub accepts-it : (w : ℕ) → w < 7 → getD accepted (w * 43 + k) 0 ≡ bit (accepts (want-of w) kind)
+  pub counted : getD counts k 0 ≡ static-count kind
+  pub first : want-of (getD firsts k 0) ≡ first-want kind
+  pub last : want-of (getD lasts k 0) ≡ last-want kind
+  pub first-low : getD firsts k 0 < 7
+  pub last-low : getD lasts k 0 < 7
+
+want-back : (w : Want) → want-of (want-number w) ≡ w
+want-back an-expression = refl
+want-back a-command = refl
+want-back a-declaration = refl
+want-back a-bound = refl
+want-back a-formal = refl
+want-back a-block = refl
+want-back a-root = refl
+
+want-low : (w : Want) → want-number w < 7
+want-low an-expression = omega arith
+want-low a-command = omega arith
+want-low a-declaration = omega arith
+want-low a-bound = omega arith
+want-low a-formal = omega arith
+want-low a-block = omega arith
+want-low a-root = omega arith
+
+row-some : (k : ℕ) (kind : Kind) → T (row-by k (some kind)) → RowOf k kind
+row-some k kind t =
+    let t₁ = and-right (not (eqb (getD bounds k 0) 0)) _ t in
+    let t₂ = and-right (eqb (getD bounds k 0) (operand-bound kind)) _ t₁ in
+    let t₃ = and-right (all-below (λ w. eqb (getD accepted (w * 43 + k) 0) (bit (accepts (want-of w) kind))) 7) _ t₂ in
+    let t₄ = and-right (eqb (getD counts k 0) (static-count kind)) _ t₃ in
+    let f : getD firsts k 0 ≡ want-number (first-want kind) = eqb→eq (getD firsts k 0) _ (and-left (eqb (getD firsts k 0) (want-number (first-want kind))) _ t₄) in
+    let l : getD lasts k 0 ≡ want-number (last-want kind) = eqb→eq (getD lasts k 0) _ (and-right (eqb (getD firsts k 0) (want-number (first-want kind))) (eqb (getD lasts k 0) (want-number (last-want kind))) t₄) in
+    record {
+      bounded = eqb→eq (getD bounds k 0) (operand-bound kind) (and-left (eqb (getD bounds k 0) (operand-bound kind)) _ t₁);
+      accepts-it = λ w h. eqb→eq (getD accepted (w * 43 + k) 0) (bit (accepts (want-of w) kind)) (at-each (λ w. eqb (getD accepted (w * 43 + k) 0) (bit (accepts (want-of w) kind))) 7 (and-left (all-below (λ w. eqb (getD accepted (w * 43 + k) 0) (bit (accepts (want-of w) kind))) 7) _ t₂) w h);
+      counted = eqb→eq (getD counts k 0) (static-count kind) (and-left (eqb (getD counts k 0) (static-count kind)) _ t₃);
+      first = ap want-of f ∙ want-back (first-want kind);
+      last = ap want-of l ∙ want-back (last-want kind);
+      first-low = subst (λ j. j < 7) (sym f) (want-low (first-want kind));
+      last-low = subst (λ j. j < 7) (sym l) (want-low (last-want kind));
+    }
+
+-- The row of a number below 43: no kind and bound 0, or a kind and its row.
+pub data Row-at (k : ℕ) : Type 0 where
+  no-kind : kind-of k ≡ none → getD bounds k 0 ≡ 0 → Row-at k
+  a-kind : (kind : Kind) → kind-of k ≡ some kind → ¬ (getD bounds k 0 ≡ 0) → RowOf k kind → Row-at k
+
+pub row-at : (k : ℕ) → k < 43 → Row-at k
+row-at k h = by (kind-of k) refl (at-each (λ k. row-by k (kind-of k)) 43 rows-hold k h)
+  where
+    by : (o : Option Kind) → kind-of k ≡ o → T (row-by k o) → Row-at k
+    by none q t = no-kind q (eqb→eq (getD bounds k 0) 0 t)
+    by (some kind) q t = a-kind kind q (not-zero (and-left (not (eqb (getD bounds k 0) 0)) _ t)) (row-some k kind t)
+      where
+        not-zero : T (not (eqb (getD bounds k 0) 0)) → getD bounds k 0 ≡ 0 → ⊥
+        not-zero u e = clash (eqb (getD bounds k 0) 0) u (subst (λ j. T (eqb j 0)) (sym e) tt)
+          where
+            clash : (b : Bool) → T (not b) → T b → ⊥
+            clash true p q = p
+            clash false p q = q

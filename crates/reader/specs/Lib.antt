@@ -1,0 +1,5 @@
+pub mod Pack
+pub mod Put
+pub mod Scan
+pub mod Tables
+pub mod Answers

@@ -1,0 +1,670 @@
+// From the image's words to the shape: each node's checks in the paper's order and, for a whole tree, one work word a node.
+ghost use mathlib.Core.Path.{_≡_};
+ghost use Prim.Native.Nat.{_<_, _≤_};
+ghost use lib.ListN.{length, drop};
+ghost use Rattle.rules.specs.Reader.{read};
+ghost use Rattle.reader.specs.Scan.{scan, scan-list};
+ghost use Rattle.reader.specs.Tables.{want-of, fault-of, wants-at, rest-wants-at, WantedAt};
+ghost use Rattle.reader.specs.Pack.{pack};
+ghost use Rattle.reader.specs.Answers.{nodes-at, Readable, Passing, KindKnown, Outcome, ShapeAnswer};
+
+// What reading a node and its descendants comes to: the first node after them, or a refusal with its place.
+pub enum Scanned {
+    Next(usize),
+    Refused(u64, usize),
+}
+
+// The shape of an image: its nodes and its registers, or a refusal with its place.
+pub enum Shape {
+    Image(usize, usize),
+    Refused(u64, usize),
+}
+
+// For each kind, the number that its operands are below; 0 where no kind has this number.
+const BOUNDS: [u64; 43] = [
+    0,
+    4294967296,
+    2,
+    64,
+    1,
+    1,
+    1,
+    1,
+    1,
+    1,
+    1,
+    1,
+    1,
+    1,
+    1,
+    1,
+    64,
+    64,
+    0,
+    0,
+    64,
+    1,
+    1,
+    1,
+    576,
+    0,
+    0,
+    0,
+    0,
+    0,
+    64,
+    1,
+    0,
+    0,
+    0,
+    0,
+    0,
+    0,
+    0,
+    0,
+    1,
+    9,
+    512,
+];
+
+// For each want and each kind, whether the kind may stand there: rows of 43 for an expression, a command, a declaration, what a
+// Bind binds, a Formal, a Blk, the root.
+const ACCEPTED: [u64; 301] = [
+    0,
+    1,
+    1,
+    1,
+    1,
+    1,
+    1,
+    1,
+    1,
+    1,
+    1,
+    1,
+    1,
+    1,
+    1,
+    1,
+    1,
+    1,
+    0,
+    0,
+    0,
+    0,
+    0,
+    0,
+    0,
+    0,
+    0,
+    0,
+    0,
+    0,
+    0,
+    0,
+    0,
+    0,
+    0,
+    0,
+    0,
+    0,
+    0,
+    0,
+    0,
+    0,
+    0,
+    0,
+    0,
+    0,
+    0,
+    0,
+    0,
+    0,
+    0,
+    0,
+    0,
+    0,
+    0,
+    0,
+    0,
+    0,
+    0,
+    0,
+    0,
+    0,
+    0,
+    1,
+    1,
+    1,
+    1,
+    1,
+    0,
+    0,
+    0,
+    0,
+    0,
+    0,
+    0,
+    0,
+    0,
+    0,
+    0,
+    0,
+    0,
+    0,
+    0,
+    0,
+    0,
+    0,
+    0,
+    0,
+    0,
+    0,
+    0,
+    0,
+    0,
+    0,
+    0,
+    0,
+    0,
+    0,
+    0,
+    0,
+    0,
+    0,
+    0,
+    0,
+    0,
+    0,
+    0,
+    0,
+    0,
+    0,
+    0,
+    0,
+    0,
+    0,
+    0,
+    0,
+    1,
+    1,
+    0,
+    0,
+    0,
+    0,
+    0,
+    0,
+    0,
+    0,
+    0,
+    0,
+    0,
+    0,
+    1,
+    1,
+    1,
+    1,
+    1,
+    1,
+    1,
+    1,
+    1,
+    1,
+    1,
+    1,
+    1,
+    1,
+    1,
+    1,
+    1,
+    0,
+    0,
+    0,
+    0,
+    0,
+    0,
+    0,
+    0,
+    0,
+    0,
+    0,
+    0,
+    0,
+    0,
+    0,
+    0,
+    0,
+    0,
+    0,
+    0,
+    0,
+    0,
+    1,
+    1,
+    0,
+    0,
+    0,
+    0,
+    0,
+    0,
+    0,
+    0,
+    0,
+    0,
+    0,
+    0,
+    0,
+    0,
+    0,
+    0,
+    0,
+    0,
+    0,
+    0,
+    0,
+    0,
+    0,
+    0,
+    0,
+    0,
+    0,
+    0,
+    0,
+    0,
+    0,
+    0,
+    0,
+    0,
+    0,
+    0,
+    0,
+    0,
+    0,
+    0,
+    0,
+    0,
+    0,
+    1,
+    0,
+    0,
+    0,
+    0,
+    0,
+    0,
+    0,
+    0,
+    0,
+    0,
+    0,
+    0,
+    0,
+    0,
+    0,
+    0,
+    0,
+    0,
+    0,
+    0,
+    0,
+    0,
+    0,
+    1,
+    0,
+    0,
+    0,
+    0,
+    0,
+    0,
+    0,
+    0,
+    0,
+    0,
+    0,
+    0,
+    0,
+    0,
+    0,
+    0,
+    0,
+    0,
+    0,
+    0,
+    1,
+    1,
+    1,
+    1,
+    1,
+    1,
+    1,
+    1,
+    1,
+    1,
+    1,
+    1,
+    1,
+    1,
+    1,
+    1,
+    1,
+    0,
+    0,
+    1,
+    1,
+    1,
+    1,
+    1,
+    0,
+    0,
+    0,
+    0,
+    0,
+    0,
+    0,
+    0,
+    0,
+    0,
+    0,
+    0,
+    0,
+    0,
+    0,
+    0,
+    0,
+    0,
+];
+
+// For each kind, how many children it has; a Call and an Abs have as many as their operands say.
+const COUNTS: [u64; 43] = [
+    0,
+    0,
+    0,
+    0,
+    2,
+    2,
+    2,
+    2,
+    2,
+    2,
+    2,
+    2,
+    2,
+    2,
+    2,
+    1,
+    0,
+    0,
+    0,
+    0,
+    1,
+    2,
+    2,
+    2,
+    0,
+    0,
+    0,
+    0,
+    0,
+    0,
+    1,
+    2,
+    0,
+    0,
+    0,
+    0,
+    0,
+    0,
+    0,
+    0,
+    1,
+    0,
+    0,
+];
+
+// What is wanted of a child that is not the last, and of the last one.
+const FIRSTS: [u64; 43] = [
+    0,
+    0,
+    0,
+    0,
+    0,
+    0,
+    0,
+    0,
+    0,
+    0,
+    0,
+    0,
+    0,
+    0,
+    0,
+    0,
+    0,
+    0,
+    0,
+    0,
+    0,
+    0,
+    1,
+    2,
+    0,
+    0,
+    0,
+    0,
+    0,
+    0,
+    3,
+    2,
+    0,
+    0,
+    0,
+    0,
+    0,
+    0,
+    0,
+    0,
+    0,
+    4,
+    0,
+];
+
+const LASTS: [u64; 43] = [
+    0,
+    0,
+    0,
+    0,
+    0,
+    0,
+    0,
+    0,
+    0,
+    0,
+    0,
+    0,
+    0,
+    0,
+    0,
+    0,
+    0,
+    0,
+    0,
+    0,
+    0,
+    1,
+    1,
+    1,
+    0,
+    0,
+    0,
+    0,
+    0,
+    0,
+    3,
+    2,
+    0,
+    0,
+    0,
+    0,
+    0,
+    0,
+    0,
+    0,
+    0,
+    5,
+    0,
+];
+
+// The checks of a node but its depth: kind (3), wrong sort (5), operand (4); 0 where it passes them.
+fn node_fault(kind: usize, operand: u64, want: usize) -> u64
+    requires { ⌜ want < 7 ⌝ }
+    ensures { λ r. ⌜ r ≡ fault-of want kind operand ⌝ }
+{
+    if 43 <= kind {
+        return 3;
+    }
+    let bound = BOUNDS[kind];
+    if bound == 0 {
+        return 3;
+    }
+    let accepted = ACCEPTED[want * 43 + kind];
+    if accepted == 0 {
+        return 5;
+    }
+    if bound <= operand {
+        return 4;
+    }
+    0
+}
+
+// How many children a node has.
+fn child_count(kind: usize, operand: u64) -> usize
+    requires { ⌜ Passing kind operand ⌝ }
+    ensures { λ r. ⌜ r ≡ length (wants-at kind operand) ⌝ }
+{
+    if kind == 24 {
+        return (operand / 64) as usize;
+    }
+    if kind == 41 {
+        return operand as usize + 1;
+    }
+    COUNTS[kind] as usize
+}
+
+// What is wanted of the child that has this many with it to come.
+fn child_want(kind: usize, left: usize) -> usize
+    requires { ⌜ kind < 43 ⌝ }
+    requires { ⌜ 0 < left ⌝ }
+    ensures { λ r. ⌜ WantedAt kind left r ⌝ }
+{
+    if left == 1 {
+        LASTS[kind] as usize
+    } else {
+        FIRSTS[kind] as usize
+    }
+}
+
+// The word of a node: kind + 2^6 × end + 2^17 × operand.
+fn node_word(kind: usize, operand: u64, end: usize) -> u64
+    requires { ⌜ (kind < 64) × (operand < 4294967296) × (end < 2048) ⌝ }
+    ensures { λ r. ⌜ r ≡ pack kind operand end ⌝ }
+{
+    kind as u64 + 64 * (end as u64) + 131072 * operand
+}
+
+// A node with its descendants, with this many levels of depth left for it.
+fn read_node(
+    work: &mut [u64],
+    image: &[u32],
+    n: usize,
+    at: usize,
+    want: usize,
+    levels: usize,
+) -> Scanned
+    requires { ⌜ Readable (now work) (now image) n at ⌝ }
+    requires { ⌜ want < 7 ⌝ }
+    requires { ⌜ levels ≤ 64 ⌝ }
+    ensures { λ r. ⌜ Outcome (nodes-at (now (image .entry)) n) n at (scan levels (want-of want) at (drop at (nodes-at (now (image .entry)) n))) r (now (work .entry)) (now (work .exit)) ⌝ }
+{
+    if n <= at {
+        return Scanned::Refused(5, at);
+    }
+    let kind = image[2 + at] as usize;
+    let operand = image[2 + n + at] as u64;
+    let fault = node_fault(kind, operand, want);
+    if fault != 0 {
+        return Scanned::Refused(fault, at);
+    }
+    if levels == 0 {
+        return Scanned::Refused(6, at);
+    }
+    let count = child_count(kind, operand);
+    let below = read_children(work, image, n, at + 1, kind, count, levels - 1);
+    match below {
+        Scanned::Next(end) => {
+            work[at] = node_word(kind, operand, end);
+            Scanned::Next(end)
+        }
+        Scanned::Refused(number, place) => Scanned::Refused(number, place),
+    }
+}
+
+// The last so many children of a node of this kind.
+fn read_children(
+    work: &mut [u64],
+    image: &[u32],
+    n: usize,
+    at: usize,
+    kind: usize,
+    left: usize,
+    levels: usize,
+) -> Scanned
+    requires { ⌜ Readable (now work) (now image) n at ⌝ }
+    requires { ⌜ KindKnown kind ⌝ }
+    requires { ⌜ left ≤ 9 ⌝ }
+    requires { ⌜ levels ≤ 64 ⌝ }
+    ensures { λ r. ⌜ Outcome (nodes-at (now (image .entry)) n) n at (scan-list (scan levels) (rest-wants-at kind left) at (drop at (nodes-at (now (image .entry)) n))) r (now (work .entry)) (now (work .exit)) ⌝ }
+{
+    if left == 0 {
+        return Scanned::Next(at);
+    }
+    let want = child_want(kind, left);
+    let child = read_node(work, image, n, at, want, levels);
+    match child {
+        Scanned::Next(next) => read_children(work, image, n, next, kind, left - 1, levels),
+        Scanned::Refused(number, place) => Scanned::Refused(number, place),
+    }
+}
+
+// The whole image: its shape, with a work word for each node; or the first refusal, and then the first 2,000 work words are spoilt.
+pub fn read_image(work: &mut [u64], image: &[u32]) -> Shape
+    requires { ⌜ 2000 ≤ length (now work) ⌝ }
+    ensures { λ r. ⌜ ShapeAnswer (read (now (image .entry))) r (now (work .entry)) (now (work .exit)) ⌝ }
+{
+    if image.len() < 2 {
+        return Shape::Refused(1, 0);
+    }
+    let n = image[0] as usize;
+    let registers = image[1] as usize;
+    if n == 0 {
+        return Shape::Refused(2, 0);
+    }
+    if 2000 < n {
+        return Shape::Refused(2, 0);
+    }
+    if 16 < registers {
+        return Shape::Refused(2, 0);
+    }
+    if image.len() != 2 + 2 * n {
+        return Shape::Refused(1, 0);
+    }
+    let root = read_node(work, image, n, 0, 6, 64);
+    match root {
+        Scanned::Next(end) => {
+            if end == n {
+                Shape::Image(n, registers)
+            } else {
+                Shape::Refused(5, end)
+            }
+        }
+        Scanned::Refused(number, place) => Shape::Refused(number, place),
+    }
+}
