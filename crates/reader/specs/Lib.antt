@@ -3,3 +3,5 @@ pub mod Put
 pub mod Scan
 pub mod Tables
 pub mod Answers
+pub mod Stored
+pub mod StoredLaws

@@ -1,11 +1,11 @@
 // From the image's words to the shape: each node's checks in the paper's order and, for a whole tree, one work word a node.
 ghost use mathlib.Core.Path.{_≡_};
 ghost use Prim.Native.Nat.{_<_, _≤_};
-ghost use lib.ListN.{length, drop};
+ghost use lib.ListN.{length, drop, getD};
 ghost use Rattle.rules.specs.Reader.{read};
 ghost use Rattle.reader.specs.Scan.{scan, scan-list};
 ghost use Rattle.reader.specs.Tables.{want-of, fault-of, wants-at, rest-wants-at, WantedAt};
-ghost use Rattle.reader.specs.Pack.{pack};
+ghost use Rattle.reader.specs.Pack.{pack, packed-kind, packed-operand, packed-end};
 ghost use Rattle.reader.specs.Answers.{nodes-at, Readable, Passing, KindKnown, Outcome, ShapeAnswer};
 
 // What reading a node and its descendants comes to: the first node after them, or a refusal with its place.
@@ -667,4 +667,26 @@ pub fn read_image(work: &mut [u64], image: &[u32]) -> Shape
         }
         Scanned::Refused(number, place) => Shape::Refused(number, place),
     }
+}
+
+// The reader's answers about a node that was read: its kind, its operand, and the first node after its descendants.
+pub fn kind(work: &[u64], node: usize) -> usize
+    requires { ⌜ node < length (now work) ⌝ }
+    ensures { λ r. ⌜ r ≡ packed-kind (getD (now (work .entry)) node 0) ⌝ }
+{
+    (work[node] % 64) as usize
+}
+
+pub fn operand(work: &[u64], node: usize) -> usize
+    requires { ⌜ node < length (now work) ⌝ }
+    ensures { λ r. ⌜ r ≡ packed-operand (getD (now (work .entry)) node 0) ⌝ }
+{
+    (work[node] / 131072) as usize
+}
+
+pub fn end(work: &[u64], node: usize) -> usize
+    requires { ⌜ node < length (now work) ⌝ }
+    ensures { λ r. ⌜ r ≡ packed-end (getD (now (work .entry)) node 0) ⌝ }
+{
+    (work[node] / 64 % 2048) as usize
 }
