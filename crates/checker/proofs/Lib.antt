@@ -1,0 +1,5 @@
+mod AnswerLaws
+mod CodeLaws
+mod ExpressionLaws
+mod NameLaws
+mod RowLaws

@@ -1,0 +1,48 @@
+-- The scope as the work words hold it: a row for each node that binds a name, from word 2,000 on, with a link to the row before it.
+-- A row is found by a pointer, one more than its node; pointer 0 stands for the registers. Assumes nothing.
+use Prim.Native.Nat.{ℕ, zero, suc, _+_, _*_, _<_, _≤_}
+use mathlib.Core.Path.{_≡_}
+use mathlib.Core.List.{List, [], _∷_, _++_}
+use mathlib.Core.Option.{Option, none, some}
+use lib.ListN.{length, getD}
+use Rattle.rules.specs.Tree.{Formal}
+use Rattle.rules.specs.Checker.{Meaning, code, function, Named, Scope, meaning-of, register-scope}
+use Rattle.reader.specs.Stored.{HasWord, StoredFormals}
+
+-- name + 2^6 × meaning + 2^10 × link
+abbrev pub row-word : (name meaning link : ℕ) → ℕ
+row-word x m l = x + 64 * m + 1024 * l
+
+-- A type code is its own number; a function has 8.
+abbrev pub meaning-number : Meaning → ℕ
+meaning-number (code c) = c
+meaning-number (function fs) = 8
+
+-- What the number of a meaning leaves open: of a function, the Formals that stand after its Abs, the node after its Bind.
+pub data MeaningAt (words : List ℕ) (node : ℕ) : Meaning → Type 0 where
+  code-at : {c : ℕ} → c < 8 → MeaningAt words node (code c)
+  function-at : {fs : List Formal} {e j : ℕ} → HasWord words (suc node) 41 (length fs) e → StoredFormals words (suc (suc node)) j fs → MeaningAt words node (function fs)
+
+pub record HasRow (words : List ℕ) (node name meaning link : ℕ) : Type 0 where
+  pub word : getD words (2000 + node) 0 ≡ row-word name meaning link
+  pub node-low : node < 2000
+  pub name-low : name < 64
+  pub meaning-low : meaning < 16
+  pub link-low : link ≤ node
+
+-- The names from one pointer to another, newest first.
+pub data Rows (words : List ℕ) : (from to : ℕ) → Scope → Type 0 where
+  no-rows : {t : ℕ} → Rows words t t []
+  one-row : {k x m l t : ℕ} {n : Named} {Δ : Scope} → HasRow words k x m l → n .name ≡ x → meaning-number (n .meaning) ≡ m → MeaningAt words k (n .meaning) →
+      Rows words l t Δ → Rows words (suc k) t (n ∷ Δ)
+
+-- The whole scope at a pointer: its rows, then the registers.
+pub record ScopeAt (words : List ℕ) (registers pointer : ℕ) (Γ : Scope) : Type 0 where
+  pub own : Scope
+  pub rows : Rows words pointer 0 own
+  pub whole : Γ ≡ own ++ register-scope registers
+
+-- What looking for a name among rows finds: the pointer of its newest row, or where the rows end.
+pub data RowFound (words : List ℕ) (to name : ℕ) (Δ : Scope) : ℕ → Type 0 where
+  absent : meaning-of name Δ ≡ none → RowFound words to name Δ to
+  present : {k l : ℕ} {m : Meaning} → meaning-of name Δ ≡ some m → HasRow words k name (meaning-number m) l → MeaningAt words k m → to ≤ k → RowFound words to name Δ (suc k)
