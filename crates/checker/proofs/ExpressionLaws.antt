@@ -98,6 +98,7 @@ seen words node which e k at = by (at .stored) k
   where
     of-kind : {n : ℕ} {e : Expression} → which ≡ packed-kind (getD words node 0) → packed-kind (getD words node 0) ≡ n → Seen words node n e → Seen words node which e
     of-kind {n} {e} k q s = subst (λ w. Seen words node w e) (sym (k ∙ q)) s
+
     by : {d j : ℕ} {e : Expression} → StoredExpression words d node j e → which ≡ packed-kind (getD words node 0) → Seen words node which e
     by (num h) k = of-kind k (kind-is h (omega arith)) seen-number
     by (boo h) k = of-kind k (kind-is h (omega arith)) seen-truth
@@ -108,8 +109,8 @@ seen words node which e k at = by (at .stored) k
         let end : packed-end (getD words (node + 1) 0) ≡ j = expression-end (child-place a) in
         of-kind k (kind-is h (operator-kind o))
         (seen-binary (record { depth = d; next = j; stored = child-place a })
-            (record { depth = d; next = m; stored = subst (λ i. StoredExpression words d i m e₂) (sym end) b })
-            (subst (λ i. node < i) (sym end) (omega (arith, expression-on a))))
+        (record { depth = d; next = m; stored = subst (λ i. StoredExpression words d i m e₂) (sym end) b })
+        (subst (λ i. node < i) (sym end) (omega (arith, expression-on a))))
     by {d = suc d} (negation {j = j} h a) k = of-kind k (kind-is h (omega arith)) (seen-negation (record { depth = d; next = j; stored = child-place a }))
 
 -- ---- What stands there, by the kind.

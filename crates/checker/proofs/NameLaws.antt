@@ -28,6 +28,7 @@ numbered-cons n Γ h all x m = choose (eqb (n .name) x)
   where
     inject : (a b : Meaning) → some a ≡ some b → a ≡ b
     inject a b q = cc
+
     choose : (t : Bool) → cond t (some (n .meaning)) (meaning-of x Γ) ≡ some m → Numbered (meaning-number m) m
     choose true q = subst (λ k. Numbered (meaning-number k) k) (inject (n .meaning) m q) h
     choose false q = all x m q
@@ -50,6 +51,7 @@ scope-numbered words registers scope node x Γ m s = by (meaning-of x Γ) refl
   where
     all : AllNumbered Γ
     all = subst AllNumbered (sym (s .whole)) (rows-numbered (register-scope registers) (s .rows) (registers-numbered registers))
+
     by : (o : Option Meaning) → meaning-of x Γ ≡ o → bound-name node o ≡ fine m → Numbered (meaning-number m) m
     by none p q = absurd (no-binding q)
       where

@@ -64,9 +64,17 @@ pub opened : {words : List ℕ} {at to : ℕ} {Δ : Scope} → Rows words at to 
 opened no-rows f = absurd (f refl)
 opened {words} (one-row {k = k} {x = x} {m = m} {l = l} {n = n} {Δ = Δ} h q p a r) f =
     record {
-      node = k; name = n .name; meaning = n .meaning; link = l; rest = Δ; pointer = refl;
+      node = k;
+      name = n .name;
+      meaning = n .meaning;
+      link = l;
+      rest = Δ;
+      pointer = refl;
       row = subst (λ j. HasRow words k j (meaning-number (n .meaning)) l) (sym q) (subst (λ j. HasRow words k x j l) (sym p) h);
-      known = a; split = refl; later = r }
+      known = a;
+      split = refl;
+      later = r;
+    }
 
 -- The word of a row, by its pointer.
 pub pointer-word : (words : List ℕ) (at k : ℕ) → at ≡ suc k → getD words (1999 + at) 0 ≡ getD words (2000 + k) 0
@@ -97,10 +105,11 @@ pub walk-on : (words : List ℕ) (from to name at : ℕ) → Walked words from t
 walk-on words from to name at w f g Δ r =
     let s = w Δ r in
     let o = opened (s .1) f in
-    let word = pointer-word words at (o .node) (o .pointer) in
-    (o .rest,
-        subst (λ l. Rows words l to (o .rest)) (sym (ap (λ v. v / 1024) word ∙ row-link (o .row))) (o .later),
-        s .2 ∙ ap (meaning-of name) (o .split) ∙ meaning-tail name _ (o .rest) (λ e. g (ap (λ v. v % 64) word ∙ row-name (o .row) ∙ e)))
+    let word = pointer-word words at (o .node) (o .pointer) in (
+      o .rest,
+      subst (λ l. Rows words l to (o .rest)) (sym (ap (λ v. v / 1024) word ∙ row-link (o .row))) (o .later),
+      s .2 ∙ ap (meaning-of name) (o .split) ∙ meaning-tail name _ (o .rest) (λ e. g (ap (λ v. v % 64) word ∙ row-name (o .row) ∙ e)),
+    )
 
 pub walk-less : (words : List ℕ) (from to name at : ℕ) → ((Δ : Scope) × Rows words from to Δ) → Walked words from to name at → ¬ (at ≡ to) → getD words (1999 + at) 0 / 1024 < at
 walk-less words from to name at e w f =
@@ -118,8 +127,8 @@ walk-found words from to name at w f q Δ r =
     let is : o .name ≡ name = sym (ap (λ v. v % 64) (pointer-word words at (o .node) (o .pointer)) ∙ row-name (o .row)) ∙ q in
     subst (RowFound words to name Δ) (sym (o .pointer))
     (present (s .2 ∙ ap (meaning-of name) (o .split) ∙ meaning-head name _ (o .rest) is)
-        (subst (λ j. HasRow words (o .node) j (meaning-number (o .meaning)) (o .link)) is (o .row)) (o .known)
-        (omega (arith, rows-order (o .later), o .row .link-low)))
+    (subst (λ j. HasRow words (o .node) j (meaning-number (o .meaning)) (o .link)) is (o .row)) (o .known)
+    (omega (arith, rows-order (o .later), o .row .link-low)))
 
 pub walk-absent : (words : List ℕ) (from to name at : ℕ) → Walked words from to name at → at ≡ to → (Δ : Scope) → Rows words from to Δ → RowFound words to name Δ at
 walk-absent words from to name at w q Δ r =
@@ -269,10 +278,11 @@ module _ (words : List ℕ) (from middle to at p : ℕ) (w : Compared words from
       let c = w Δ₁ Δ₂ r s in
       let o = opened (c .1) f in
       let word = pointer-word words at (o .node) (o .pointer) in
-      let is : o .name ≡ getD words (1999 + at) 0 % 64 = sym (ap (λ v. v % 64) word ∙ row-name (o .row)) in
-      (o .rest,
-          subst (λ l. Rows words l to (o .rest)) (sym (ap (λ v. v / 1024) word ∙ row-link (o .row))) (o .later),
-          c .2 ∙ ap (λ Δ. shares-name Δ Δ₂) (o .split) ∙ first-not (o .name) (o .meaning) (o .rest) Δ₂ (ap (λ x. has-name x Δ₂) is ∙ row-has-not (found Δ₂ s) g))
+      let is : o .name ≡ getD words (1999 + at) 0 % 64 = sym (ap (λ v. v % 64) word ∙ row-name (o .row)) in (
+        o .rest,
+        subst (λ l. Rows words l to (o .rest)) (sym (ap (λ v. v / 1024) word ∙ row-link (o .row))) (o .later),
+        c .2 ∙ ap (λ Δ. shares-name Δ Δ₂) (o .split) ∙ first-not (o .name) (o .meaning) (o .rest) Δ₂ (ap (λ x. has-name x Δ₂) is ∙ row-has-not (found Δ₂ s) g),
+      )
     where
       first-not : (x : ℕ) (m : Meaning) (Δ Γ : Scope) → has-name x Γ ≡ false → shares-name (record { name = x; meaning = m } ∷ Δ) Γ ≡ shares-name Δ Γ
       first-not x m Δ Γ q = unfold shares-name in (rw q)

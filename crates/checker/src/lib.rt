@@ -7,8 +7,9 @@ ghost use Rattle.rules.specs.Listing.{operator-number};
 ghost use Rattle.rules.specs.Checker.{Scope, Meaning, meaning-of, shares-name, bound-name, id-code, deref-code, valref-code, integers-give, equals-give, truths-give, operator-code, truth-only, expression-code};
 ghost use Rattle.checker.specs.Rows.{Rows, ScopeAt, RowFound};
 ghost use Rattle.checker.specs.Answers.{FoundAs, answer, code-answer, meaning-answer, Numbered, NameAt, ExpressionAt, CodeAt};
-
-use reader::{end, kind, operand};
+use reader::end;
+use reader::kind;
+use reader::operand;
 
 // What a look-up finds: the number of the meaning, a type code or 8 for a function, and the pointer; or nothing.
 pub enum Found {

@@ -66,6 +66,7 @@ many-next Shaped words each (one-more {i = i} {j = j} {a = a} {rest = rest} h g)
 
 mutual
   unfolding command-words
+
   command-next : {d i j : ℕ} {c : Command} → ShapedCommand d i j c → j ≡ i + length (command-words c)
   command-next (Shape.assign h g) = omega (arith, expression-next g)
   command-next (Shape.loop {i = i} {j = j} {k = k} {e = e} {c = c} h g) = next-two i j k (expression-words e) (command-words c) (expression-next h) (command-next g)
@@ -135,7 +136,7 @@ module _ (words : List ℕ) where
   formals-stored {d} (one-more {a = f} {rest = rest} (Shape.formal {i = i} q h c) g) l s =
       one-formal q h c
       (leaf i 42 (f .name + names * f .code) (subst (λ p. Segment words i (node-words 42 (f .name + names * f .code) p [])) q (segment-left words i (formal-words f) (all-words formal-words rest) s))
-          (omega (arith, many-next (ShapedFormal d) formal-words (λ i j f s. formal-next s) g, l)) (omega arith))
+      (omega (arith, many-next (ShapedFormal d) formal-words (λ i j f s. formal-next s) g, l)) (omega arith))
       (formals-stored g l (subst (λ m. Segment words m (all-words formal-words rest)) (after i) (segment-right words i (formal-words f) (all-words formal-words rest) s)))
     where
       after : (i : ℕ) → i + 1 ≡ suc i
@@ -143,6 +144,7 @@ module _ (words : List ℕ) where
 
   mutual
     unfolding command-words
+
     command-stored : {d i j : ℕ} {c : Command} → ShapedCommand d i j c → j ≤ 2000 → Segment words i (command-words c) → StoredCommand words d i j c
     command-stored (Shape.assign {i = i} {j = j} {x = x} {e = e} h g) l s =
         Stored.assign h (word-of words i 20 x j (expression-words e) s (omega (arith, expression-next g)) l (omega arith)) (expression-stored g l (tail-of i 20 x (expression-words e) s))

@@ -119,9 +119,10 @@ expression-expression-requires-2 t c κs =
     let kind = c .before .before .before .before .before .before .before .before .before .before in
     let start = c .before .before .before .before .before .before .before .before .before .before .before .before in
     let child = second-child _ _ _ (kind .kind .ensures) (c .before .before .before .before .before .before .before .before .before .if1 .left) (c .before .before .before .before .before .before .before .before .if2 .left) (c .before .before .before .before .before .before .before .if3 .left) (c .before .before .before .before .before .before .if4 .left) (c .before .if5 .left) (start .pre .1 .1 .1) in
-    let end = c .end .ensures in
-    (omega (arith, expression-low (child .1 .stored), child .2, end, start .pre .0),
-        (start .pre .1 .0, (start .pre .1 .1 .0, (child .0, subst (λ i. ExpressionAt (now (start .args .work)) i (child .0)) (sym end) (child .1)))))
+    let end = c .end .ensures in (
+      omega (arith, expression-low (child .1 .stored), child .2, end, start .pre .0),
+      (start .pre .1 .0, (start .pre .1 .1 .0, (child .0, subst (λ i. ExpressionAt (now (start .args .work)) i (child .0)) (sym end) (child .1)))),
+    )
 
 expression-enum-known-outer : (t : ℕ) → expression-lts.Need-enum-known-outer (expression-calls t) (expression-at t) expression.Post
 expression-enum-known-outer t c = search needs

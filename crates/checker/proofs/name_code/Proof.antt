@@ -36,7 +36,7 @@ enum-told c = search needs
 
 -- src/lib.rt:139:9
 returns : tie.Need-returns
-returns c = 
+returns c =
     let found = c .before .before in
     name-fault _ _ _ _ _ _ _ (found .before .before .kind .ensures) (found .before .operand .ensures) (found .meaning .ensures) _ _ (c .enum-told .given .1)
 
@@ -46,7 +46,7 @@ id-code-requires c κs = search needs
 
 -- src/lib.rt:142:9
 returns-2 : tie.Need-returns-2
-returns-2 c = 
+returns-2 c =
     let found = c .before .before .before .before .before in
     name-id _ _ _ _ _ _ _ (found .before .before .kind .ensures) (found .before .operand .ensures) (found .meaning .ensures) _ _ (c .before .before .before .bound .given .1) (c .before .if1 .taken) (c .id-code .ensures)
 
@@ -56,7 +56,7 @@ deref-code-requires c κs = search needs
 
 -- src/lib.rt:145:9
 returns-3 : tie.Need-returns-3
-returns-3 c = 
+returns-3 c =
     let found = c .before .before .before .before .before .before in
     name-deref _ _ _ _ _ _ _ (found .before .before .kind .ensures) (found .before .operand .ensures) (found .meaning .ensures) _ _ (c .before .before .before .before .bound .given .1) (c .before .if2 .taken) (c .deref-code .ensures)
 
@@ -66,7 +66,7 @@ valref-code-requires c κs = search needs
 
 -- src/lib.rt:129:1
 returns-4 : tie.Need-returns-4
-returns-4 c = 
+returns-4 c =
     let found = c .before .before .before .before .before .before in
     name-valref _ _ _ _ _ _ _ (found .before .before .kind .ensures) (found .before .operand .ensures) (found .meaning .ensures) _ _ (c .before .before .before .before .bound .given .1) (c .before .before .if1 .left) (c .before .if2 .left) (c .valref-code .ensures)
 
