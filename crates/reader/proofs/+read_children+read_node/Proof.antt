@@ -18,9 +18,9 @@ use Rattle.reader.proofs.+read_children+read_node.Lts-read_children as 
 use Rattle.reader.proofs.read_node.Reads as read-node
 use Rattle.reader.proofs.read_node.Kinds as read-node-kinds
 use Rattle.reader.proofs.+read_children+read_node.Lts-read_node as read-node-lts
-use Rattle.reader.proofs.child_count.Reads as child-count-reads
-use Rattle.reader.proofs.child_want.Reads as child-want-reads
-use Rattle.reader.proofs.node_fault.Reads as node-fault-reads
+use Rattle.reader.proofs.tables.child_count.Reads as child-count-reads
+use Rattle.reader.proofs.tables.child_want.Reads as child-want-reads
+use Rattle.reader.proofs.tables.node_fault.Reads as node-fault-reads
 use Rattle.reader.proofs.node_word.Reads as node-word-reads
 use Rattle.reader.proofs.+read_children+read_node.{statement}
 use Rattle.reader.proofs.+read_children+read_node.Tie.{close}
