@@ -6,25 +6,25 @@ use mathlib.Core.List.{List, [], _∷_, _++_}
 use mathlib.Core.Option.{Option, none, some}
 use native.Mathlib.Omega.{arith}
 use native.Mathlib.Numerals.{add-one}
-use native.Mathlib.Nat.{add-suc, add-zero, add-assoc}
+use native.Mathlib.Nat.{add-zero, add-assoc, not-suc-le-zero}
 use lib.Dec.{T}
-use lib.ListN.{length, getD, take, drop, set, length-take, length-drop, length-set, length-append, drop-of-length-le}
+use lib.ListN.{length, getD, take, drop, set, length-take, length-drop, length-append, drop-of-length-le}
 use lib.Seq.{getD-take, getD-drop}
-use Rattle.rules.specs.Basics.{passed-test, append-assoc}
+use Rattle.rules.specs.Basics.{passed-test}
 use Rattle.rules.specs.Refusals.{Refusal, refusal-number}
 use Rattle.rules.specs.Refusals as Refusals
 use Rattle.rules.specs.Kinds.{Kind, kind-of, operand-fits}
-use Rattle.rules.specs.Reader.{Node, Got, refused, got, Read, then, _>>=_, give, Header, or-refuse, node, nodes-of}
+use Rattle.rules.specs.Reader.{Node, Got, refused, got, then, _>>=_, give, Header, or-refuse, node, nodes-of}
 use Rattle.rules.specs.Listing.{a-node}
-use Rattle.rules.specs.ReaderComplete.{kind-number}
 use Rattle.rules.specs.ReaderSound.{number-of}
 use Rattle.reader.specs.Pack.{pack, node-words}
 use Rattle.reader.specs.Put.{put, put-length, put-none, put-append, set-put, put-beyond}
 use Rattle.reader.specs.Scan.{Want, accepts, accepting, child-wants, scan-list, scan}
-use Rattle.reader.specs.Tables.{want-of, fault-by, fault-of, wants-by, wants-at, rest-wants, rest-wants-by, rest-wants-at, WantedAt}
-use Rattle.reader.specs.Answers.{nodes-at, Readable, Passing, KindKnown, Kept, Read-on, Refused-there, Outcome}
+use Rattle.reader.specs.Tables.{want-of, fault-by, fault-of, wants-at, rest-wants-by, rest-wants-at, WantedAt}
+use Rattle.reader.specs.Answers.{nodes-at, Readable, Passing, KindKnown, Read-on, Outcome}
 use Rattle.reader.specs.declared.Scanned.{Scanned}
 use Rattle.reader.specs.declared.Scanned.the-variants.{Next, Refused}
+use Rattle.reader.proofs.AnswerLaws.{two-answers, same-next, kept-same}
 use Rattle.reader.proofs.Children.{all-wants}
 use Rattle.reader.proofs.Faults.{known-low}
 
@@ -32,14 +32,8 @@ use Rattle.reader.proofs.Faults.{known-low}
 
 nodes-here : (ks os : List ℕ) (i : ℕ) → i < length ks → i < length os → drop i (nodes-of ks os) ≡ a-node (getD ks i 0) (getD os i 0) ∷ drop (suc i) (nodes-of ks os)
 unfolding nodes-of
-nodes-here [] os i h g = absurd (never h)
-  where
-    never : i < 0 → ⊥
-    never l = omega arith
-nodes-here (k ∷ ks) [] i h g = absurd (never g)
-  where
-    never : i < 0 → ⊥
-    never l = omega arith
+nodes-here [] os i h g = absurd (not-suc-le-zero h)
+nodes-here (k ∷ ks) [] i h g = absurd (not-suc-le-zero g)
 nodes-here (k ∷ ks) (o ∷ os) zero h g = refl
 nodes-here (k ∷ ks) (o ∷ os) (suc i) h g = nodes-here ks os i (omega arith) (omega arith)
 
@@ -131,9 +125,6 @@ pub passes : (want k w : ℕ) → fault-of want k w ≡ 0 → Passing k w
 unfolding fault-of
 passes want k w h = let p = passed-node (want-of want) k w 0 [] h in record { which = p .0; known = p .1; fits = p .2 }
 
-kept-same : (n : ℕ) (ws : List ℕ) → Kept n ws ws
-kept-same n ws = record { same-length = refl; same-beyond = refl }
-
 -- ---- Reading a node.
 
 none-left : (d at : ℕ) (w : Want) → scan d w at [] ≡ refused Refusals.Tree at
@@ -200,17 +191,11 @@ finish-refused : (nodes : List Node) (n at k w x p : ℕ) (g : Got (List ℕ)) (
     Outcome nodes n at (then g (λ below. give (node-words k w at below))) (Refused x p) work work′
 finish-refused nodes n at k w x p (refused y q) r work work′ o e = record { answer = sym e ∙ o .answer; kept = o .kept }
 finish-refused nodes n at k w x p (got ws j rest) r work work′ o e = absurd (two-answers r j x p (o .answer) e)
-  where
-    two-answers : (r : Scanned) (j x p : ℕ) → r ≡ Next j → r ≡ Refused x p → ⊥
-    two-answers r j x p a b = let z : _≡_ {A = ℕ} 0 1 = cc in omega arith
 
 -- the children were read: the node's own word is put before theirs
 finish-next : (nodes : List Node) (n at k w end : ℕ) (g : Got (List ℕ)) (r : Scanned) (work work′ : List ℕ) → Outcome nodes n (at + 1) g r work work′ → r ≡ Next end →
     Outcome nodes n at (then g (λ below. give (node-words k w at below))) (Next end) work (set work′ at (pack k w end))
 finish-next nodes n at k w end (refused y q) r work work′ o e = absurd (two-answers r end (refusal-number y) q e (o .answer))
-  where
-    two-answers : (r : Scanned) (j x p : ℕ) → r ≡ Next j → r ≡ Refused x p → ⊥
-    two-answers r j x p a b = let z : _≡_ {A = ℕ} 0 1 = cc in omega arith
 finish-next nodes n at k w end (got ws j rest) r work work′ o e =
     record {
       answer = ap Next ends;
@@ -223,9 +208,6 @@ finish-next nodes n at k w end (got ws j rest) r work work′ o e =
       remaining = o .remaining;
     }
   where
-    same-next : (r : Scanned) (i j : ℕ) → r ≡ Next i → r ≡ Next j → i ≡ j
-    same-next r i j a b = cc
-
     ends : end ≡ j
     ends = same-next r end j e (o .answer)
 
@@ -294,16 +276,10 @@ child-refused words work work′ n at kind left want levels x p r k w o e =
     subst (λ g. Outcome (nodes-at words n) n at g (Refused x p) work work′) (sym (first-child kind left want levels at (drop at (nodes-at words n)) k w))
     (by (scan levels (want-of want) at (drop at (nodes-at words n))) o)
   where
-    two-answers : (r : Scanned) (j x p : ℕ) → r ≡ Next j → r ≡ Refused x p → ⊥
-    two-answers r j x p a b = let z : _≡_ {A = ℕ} 0 1 = cc in omega arith
-
     by : (g : Got (List ℕ)) → Outcome (nodes-at words n) n at g r work work′ →
         Outcome (nodes-at words n) n at (then g (λ a. scan-list (scan levels) (rest-wants-at kind (left - 1)) >>= λ b. give (a ++ b))) (Refused x p) work work′
     by (refused y q) o = record { answer = sym e ∙ o .answer; kept = o .kept }
     by (got ws j rest) o = absurd (two-answers r j x p (o .answer) e)
-
-appended : (a b : List ℕ) → length (a ++ b) ≡ length a + length b
-appended a b = length-append a b
 
 -- A child was read, and then the others.
 pub child-next : (words work work′ work″ : List ℕ) (n at kind left want levels next : ℕ) (r s : Scanned) → KindKnown kind → WantedAt kind left want →
@@ -314,12 +290,6 @@ child-next words work work′ work″ n at kind left want levels next r s k w o 
     subst (λ g. Outcome (nodes-at words n) n at g s work work″) (sym (first-child kind left want levels at (drop at (nodes-at words n)) k w))
     (by (scan levels (want-of want) at (drop at (nodes-at words n))) o)
   where
-    two-answers : (r : Scanned) (j x p : ℕ) → r ≡ Next j → r ≡ Refused x p → ⊥
-    two-answers r j x p a b = let z : _≡_ {A = ℕ} 0 1 = cc in omega arith
-
-    same-next : (r : Scanned) (i j : ℕ) → r ≡ Next i → r ≡ Next j → i ≡ j
-    same-next r i j a b = cc
-
     join : (ws : List ℕ) (rest : List Node) → Read-on (nodes-at words n) n at ws next rest r work work′ → (g : Got (List ℕ)) → Outcome (nodes-at words n) n next g s work′ work″ →
         Outcome (nodes-at words n) n at (then g (λ b. give (ws ++ b))) s work work″
     join ws rest a (refused y q) b =
@@ -334,7 +304,7 @@ child-next words work work′ work″ n at kind left want levels next r s k w o 
         record {
           answer = b .answer;
           written = b .written ∙ ap (λ v. put next vs v) (a .written) ∙ ap (λ i. put i vs (put at ws work)) (a .counted) ∙ put-append at ws vs work;
-          counted = omega (arith, a .counted, b .counted, Rattle.reader.proofs.ReadLaws.appended ws vs);
+          counted = omega (arith, a .counted, b .counted, length-append ws vs);
           within = b .within;
           remaining = b .remaining;
         }
@@ -365,12 +335,6 @@ pub later-readable : (words work work′ : List ℕ) (n at levels want next : �
     Outcome (nodes-at words n) n at (scan levels (want-of want) at (drop at (nodes-at words n))) r work work′ → r ≡ Next next → Readable work′ words n next
 later-readable words work work′ n at levels want next r readable o e = by (scan levels (want-of want) at (drop at (nodes-at words n))) o
   where
-    two-answers : (r : Scanned) (j x p : ℕ) → r ≡ Next j → r ≡ Refused x p → ⊥
-    two-answers r j x p a b = let z : _≡_ {A = ℕ} 0 1 = cc in omega arith
-
-    same-next : (r : Scanned) (i j : ℕ) → r ≡ Next i → r ≡ Next j → i ≡ j
-    same-next r i j a b = cc
-
     by : (g : Got (List ℕ)) → Outcome (nodes-at words n) n at g r work work′ → Readable work′ words n next
     by (refused y q) o = absurd (two-answers r next (refusal-number y) q e (o .answer))
     by (got ws j rest) o =
@@ -383,10 +347,4 @@ later-readable words work work′ n at levels want next r readable o e = by (sca
 
 pub end-within : (nodes : List Node) (n at end : ℕ) (g : Got (List ℕ)) (r : Scanned) (work work′ : List ℕ) → Outcome nodes n at g r work work′ → r ≡ Next end → end ≤ n
 end-within nodes n at end (refused y q) r work work′ o e = absurd (two-answers r end (refusal-number y) q e (o .answer))
-  where
-    two-answers : (r : Scanned) (j x p : ℕ) → r ≡ Next j → r ≡ Refused x p → ⊥
-    two-answers r j x p a b = let z : _≡_ {A = ℕ} 0 1 = cc in omega arith
 end-within nodes n at end (got ws j rest) r work work′ o e = omega (arith, o .within, same-next r end j e (o .answer))
-  where
-    same-next : (r : Scanned) (i j : ℕ) → r ≡ Next i → r ≡ Next j → i ≡ j
-    same-next r i j a b = cc

@@ -1,6 +1,6 @@
 use Prim.Native.Nat.{ℕ, _<_}
 use native.Mathlib.Omega.{arith}
-use mathlib.Core.Path.{sym, _∙_, subst, ap}
+use mathlib.Core.Path.{sym, _∙_, subst}
 use Prim.Native.Nat.{_+_, _*_, _-_}
 use denote.Ref.{now}
 use lib.ListN.{getD, drop, length-set}

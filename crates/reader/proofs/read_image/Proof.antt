@@ -4,9 +4,6 @@ use Rattle.reader.proofs.ImageLaws.{short, refuse-empty, refuse-nodes, 
 use borrow.Author.Needs.{needs}
 use Rattle.reader.proofs.read_image.Statement.{statement}
 use Rattle.reader.proofs.read_image.Tie as tie
-use Rattle.reader.proofs.read_image.Reads as reads
-use Rattle.reader.proofs.read_image.Lts as lts
-use Rattle.reader.proofs.read_node.Reads as read-node-reads
 
 -- src/lib.rt:167:9
 returns : tie.Need-returns

@@ -2,8 +2,6 @@ use native.Mathlib.Omega.{arith}
 use Rattle.reader.proofs.Children.{call-count, abs-low, abs-count, passing-low, static-counted}
 use Rattle.reader.proofs.tables.child_count.Statement.{statement}
 use Rattle.reader.proofs.tables.child_count.Tie as tie
-use Rattle.reader.proofs.tables.child_count.Reads as reads
-use Rattle.reader.proofs.tables.child_count.Lts as lts
 
 -- src/lib.rt:83:9
 returns : tie.Need-returns

@@ -2,8 +2,6 @@ use Rattle.reader.proofs.Children.{last-wanted, first-wanted}
 use borrow.Author.Needs.{needs}
 use Rattle.reader.proofs.tables.child_want.Statement.{statement}
 use Rattle.reader.proofs.tables.child_want.Tie as tie
-use Rattle.reader.proofs.tables.child_want.Reads as reads
-use Rattle.reader.proofs.tables.child_want.Lts as lts
 
 -- src/lib.rt:98:9
 mul-result : tie.Need-mul-result

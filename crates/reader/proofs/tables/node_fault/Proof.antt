@@ -2,8 +2,6 @@ use borrow.Author.Needs.{needs}
 use Rattle.reader.proofs.Faults.{fault-high, fault-none, fault-sort, fault-operand, fault-free}
 use Rattle.reader.proofs.tables.node_fault.Statement.{statement}
 use Rattle.reader.proofs.tables.node_fault.Tie as tie
-use Rattle.reader.proofs.tables.node_fault.Reads as reads
-use Rattle.reader.proofs.tables.node_fault.Lts as lts
 
 -- src/lib.rt:60:9
 returns : tie.Need-returns
