@@ -16,8 +16,6 @@ use Rattle.rules.specs.Listing.{root-nodes, image-words}
 use Rattle.rules.specs.ReaderExact.{read-exact}
 use Rattle.reader.specs.Pack.{root-words}
 use Rattle.reader.specs.Put.{put-length, put-beyond}
-use Rattle.reader.specs.Scan.{scan}
-use Rattle.reader.specs.Tables.{want-of}
 use Rattle.reader.specs.Answers.{nodes-at, Kept, Read-on, Outcome, ShapeAnswer}
 use Rattle.reader.specs.declared.Scanned.{Scanned}
 use Rattle.reader.specs.declared.Scanned.the-variants.{Next, Refused}
@@ -26,7 +24,7 @@ use Rattle.reader.specs.declared.Shape.the-variants as Shapes
 use Rattle.reader.proofs.AnswerLaws.{two-answers, same-next, same-refusal, kept-same}
 use Rattle.reader.proofs.ScanLaws.{map-got}
 use Rattle.reader.proofs.ScanExact.{root-same}
-use Rattle.reader.proofs.ReadLaws.{node-here, nodes-past}
+use Rattle.reader.proofs.ReadLaws.{Node-outcome, node-here, nodes-past}
 
 pub short : (words work : List ℕ) → length words < 2 → ShapeAnswer (read words) (Shapes.Refused 1 0) work work
 unfolding read refusal-number
@@ -121,11 +119,11 @@ module _ (words work work′ : List ℕ) (r : Scanned) (h : 2 ≤ length words) 
   Root-outcome m = Outcome nodes n 0 (map-got root-words m) r work work′
 
   -- the root's reading by the rules
-  root-outcome : Outcome nodes n 0 (scan 64 (want-of 6) 0 (drop 0 nodes)) r work work′ → Root-outcome (read-root 64 0 nodes)
+  root-outcome : Node-outcome words n 0 6 64 r work work′ → Root-outcome (read-root 64 0 nodes)
   root-outcome o = subst (λ m. Outcome nodes n 0 m r work work′) (sym (root-same 64 0 nodes)) o
 
   shape-by : (answer : Shape) → ((m : Got Root) → read words ≡ whole (getD words 1 0) m → Root-outcome m → ShapeAnswer (whole (getD words 1 0) m) answer work work′) →
-      Outcome nodes n 0 (scan 64 (want-of 6) 0 (drop 0 nodes)) r work work′ → ShapeAnswer (read words) answer work work′
+      Node-outcome words n 0 6 64 r work work′ → ShapeAnswer (read words) answer work work′
   shape-by answer k o =
       subst (λ s. ShapeAnswer s answer work work′) (sym (read-nodes words h z f g l)) (k (read-root 64 0 nodes) (read-nodes words h z f g l) (root-outcome o))
 
@@ -141,7 +139,7 @@ module _ (words work work′ : List ℕ) (r : Scanned) (h : 2 ≤ length words) 
       }
 
   -- the whole tree was read
-  pub whole-image : (end : ℕ) → r ≡ Next end → end ≡ n → Outcome nodes n 0 (scan 64 (want-of 6) 0 (drop 0 nodes)) r work work′ →
+  pub whole-image : (end : ℕ) → r ≡ Next end → end ≡ n → Node-outcome words n 0 6 64 r work work′ →
       ShapeAnswer (read words) (Shapes.Image n (getD words 1 0)) work work′
   whole-image end e q = shape-by (Shapes.Image n (getD words 1 0)) by
     where
@@ -151,7 +149,7 @@ module _ (words work work′ : List ℕ) (r : Scanned) (h : 2 ≤ length words) 
       by (got t j (a ∷ rest)) w o = absurd (cons-ne-nil _ _ (o .remaining ∙ nodes-past words n l j (omega (arith, q, same-next r end j e (o .answer)))))
 
   -- nodes are left over
-  pub left-over : (end : ℕ) → r ≡ Next end → ¬ (end ≡ n) → Outcome nodes n 0 (scan 64 (want-of 6) 0 (drop 0 nodes)) r work work′ →
+  pub left-over : (end : ℕ) → r ≡ Next end → ¬ (end ≡ n) → Node-outcome words n 0 6 64 r work work′ →
       ShapeAnswer (read words) (Shapes.Refused 5 end) work work′
   unfolding refusal-number
   left-over end e q = shape-by (Shapes.Refused 5 end) by
@@ -162,7 +160,7 @@ module _ (words work work′ : List ℕ) (r : Scanned) (h : 2 ≤ length words) 
       by (got t j (a ∷ rest)) w o = record { answer = ap (Shapes.Refused 5) (same-next r end j e (o .answer)); kept = kept-root (root-words t) j (a ∷ rest) o }
 
   -- a node was refused
-  pub refused-image : (x p : ℕ) → r ≡ Refused x p → Outcome nodes n 0 (scan 64 (want-of 6) 0 (drop 0 nodes)) r work work′ →
+  pub refused-image : (x p : ℕ) → r ≡ Refused x p → Node-outcome words n 0 6 64 r work work′ →
       ShapeAnswer (read words) (Shapes.Refused x p) work work′
   refused-image x p e = shape-by (Shapes.Refused x p) by
     where

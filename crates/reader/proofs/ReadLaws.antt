@@ -28,6 +28,22 @@ use Rattle.reader.proofs.AnswerLaws.{two-answers, same-next, kept-same}
 use Rattle.reader.proofs.Children.{all-wants}
 use Rattle.reader.proofs.Faults.{known-low}
 
+-- The kind and the operand of a node, in an image of n nodes.
+abbrev pub kind-at : List ℕ → ℕ → ℕ
+kind-at words at = getD words (2 + at) 0
+
+abbrev pub operand-at : List ℕ → (n at : ℕ) → ℕ
+operand-at words n at = getD words (2 + n + at) 0
+
+-- What `read_node` and `read_children` answer.
+abbrev pub Node-outcome : List ℕ → (n at want levels : ℕ) → Scanned → (before after : List ℕ) → Type 0
+Node-outcome words n at want levels r before after =
+    Outcome (nodes-at words n) n at (scan levels (want-of want) at (drop at (nodes-at words n))) r before after
+
+abbrev pub Children-outcome : List ℕ → (n at kind left levels : ℕ) → Scanned → (before after : List ℕ) → Type 0
+Children-outcome words n at kind left levels r before after =
+    Outcome (nodes-at words n) n at (scan-list (scan levels) (rest-wants-at kind left) at (drop at (nodes-at words n))) r before after
+
 -- ---- The node at a place, and past the last one.
 
 nodes-here : (ks os : List ℕ) (i : ℕ) → i < length ks → i < length os → drop i (nodes-of ks os) ≡ a-node (getD ks i 0) (getD os i 0) ∷ drop (suc i) (nodes-of ks os)
@@ -53,12 +69,12 @@ module _ (words : List ℕ) (n : ℕ) (sized : length words ≡ 2 + 2 * n) where
   operands-count : length (drop n (drop 2 words)) ≡ n
   operands-count = omega (arith, length-drop n (drop 2 words), length-drop 2 words, sized)
 
-  pub node-here : (at : ℕ) → at < n → drop at (nodes-at words n) ≡ a-node (getD words (2 + at) 0) (getD words (2 + n + at) 0) ∷ drop (at + 1) (nodes-at words n)
+  pub node-here : (at : ℕ) → at < n → drop at (nodes-at words n) ≡ a-node (kind-at words at) (operand-at words n at) ∷ drop (at + 1) (nodes-at words n)
   node-here at h =
       nodes-here (take n (drop 2 words)) (drop n (drop 2 words)) at (omega (arith, kinds-count)) (omega (arith, operands-count))
       ∙ ap {B = List Node} (λ k. a-node k (getD (drop n (drop 2 words)) at 0) ∷ drop (suc at) (nodes-at words n)) (rw (getD-take, getD-drop))
-      ∙ ap {B = List Node} (λ w. a-node (getD words (2 + at) 0) w ∷ drop (suc at) (nodes-at words n)) (rw (getD-drop, getD-drop) (ap (λ i. getD words i 0) (sym (add-assoc 2 n at))))
-      ∙ ap {B = List Node} (λ i. a-node (getD words (2 + at) 0) (getD words (2 + n + at) 0) ∷ drop i (nodes-at words n)) (sym (add-one at))
+      ∙ ap {B = List Node} (λ w. a-node (kind-at words at) w ∷ drop (suc at) (nodes-at words n)) (rw (getD-drop, getD-drop) (ap (λ i. getD words i 0) (sym (add-assoc 2 n at))))
+      ∙ ap {B = List Node} (λ i. a-node (kind-at words at) (operand-at words n at) ∷ drop i (nodes-at words n)) (sym (add-one at))
 
   pub nodes-past : (at : ℕ) → n ≤ at → drop at (nodes-at words n) ≡ []
   nodes-past at h = drop-of-length-le (nodes-at words n) {i = at} (omega (arith, nodes-count (take n (drop 2 words)) (drop n (drop 2 words)) (kinds-count ∙ sym operands-count), kinds-count))
@@ -134,7 +150,7 @@ none-left (suc d) at w = refl
 
 -- a place past the last node
 pub missing-node : (words work : List ℕ) (n at want levels : ℕ) → Readable work words n at → n ≤ at →
-    Outcome (nodes-at words n) n at (scan levels (want-of want) at (drop at (nodes-at words n))) (Refused 5 at) work work
+    Node-outcome words n at want levels (Refused 5 at) work work
 unfolding refusal-number
 missing-node words work n at want levels r h =
     subst (λ g. Outcome (nodes-at words n) n at g (Refused 5 at) work work) (sym (ap (scan levels (want-of want) at) (nodes-past words n (r .sized) at h) ∙ none-left levels at (want-of want)))
@@ -147,11 +163,11 @@ fault-first zero at k w want rest x q = rw q
 fault-first (suc d) at k w want rest x q = rw q
 
 pub faulty-node : (words work : List ℕ) (n at want levels f : ℕ) → Readable work words n at → at < n →
-    f ≡ fault-of want (getD words (2 + at) 0) (getD words (2 + n + at) 0) → ¬ (f ≡ 0) →
-    Outcome (nodes-at words n) n at (scan levels (want-of want) at (drop at (nodes-at words n))) (Refused f at) work work
+    f ≡ fault-of want (kind-at words at) (operand-at words n at) → ¬ (f ≡ 0) →
+    Node-outcome words n at want levels (Refused f at) work work
 unfolding fault-of
 faulty-node words work n at want levels f r h q z =
-    let c = checked-node (want-of want) (getD words (2 + at) 0) (getD words (2 + n + at) 0) at (drop (at + 1) (nodes-at words n)) (λ e. z (q ∙ e)) in
+    let c = checked-node (want-of want) (kind-at words at) (operand-at words n at) at (drop (at + 1) (nodes-at words n)) (λ e. z (q ∙ e)) in
     subst (λ g. Outcome (nodes-at words n) n at g (Refused f at) work work)
     (sym (ap (scan levels (want-of want) at) (node-here words n (r .sized) at h) ∙ fault-first levels at _ _ (want-of want) _ (c .0) (c .2)))
     (record { answer = ap (λ x. Refused x at) (q ∙ sym (c .1)); kept = kept-same n work })
@@ -162,21 +178,21 @@ unfolding scan
 deep-first at k w want rest kind q = rw q
 
 pub deep-node : (words work : List ℕ) (n at want levels : ℕ) → Readable work words n at → at < n →
-    fault-of want (getD words (2 + at) 0) (getD words (2 + n + at) 0) ≡ 0 → levels ≡ 0 →
-    Outcome (nodes-at words n) n at (scan levels (want-of want) at (drop at (nodes-at words n))) (Refused 6 at) work work
+    fault-of want (kind-at words at) (operand-at words n at) ≡ 0 → levels ≡ 0 →
+    Node-outcome words n at want levels (Refused 6 at) work work
 unfolding fault-of refusal-number
 deep-node words work n at want levels r h q z =
-    let p = passed-node (want-of want) (getD words (2 + at) 0) (getD words (2 + n + at) 0) at (drop (at + 1) (nodes-at words n)) q in
+    let p = passed-node (want-of want) (kind-at words at) (operand-at words n at) at (drop (at + 1) (nodes-at words n)) q in
     subst (λ g. Outcome (nodes-at words n) n at g (Refused 6 at) work work)
     (sym (ap (λ d. scan d (want-of want) at (drop at (nodes-at words n))) z ∙ ap (scan 0 (want-of want) at) (node-here words n (r .sized) at h) ∙ deep-first at _ _ (want-of want) _ (p .0) (p .3)))
     (record { answer = refl; kept = kept-same n work })
 
 -- with its children: the reader goes on with what is wanted of them
 opened-node : (words : List ℕ) (n at want d : ℕ) → length words ≡ 2 + 2 * n → at < n →
-    fault-of want (getD words (2 + at) 0) (getD words (2 + n + at) 0) ≡ 0 →
+    fault-of want (kind-at words at) (operand-at words n at) ≡ 0 →
     scan (suc d) (want-of want) at (drop at (nodes-at words n))
-    ≡ then (scan-list (scan d) (wants-at (getD words (2 + at) 0) (getD words (2 + n + at) 0)) (at + 1) (drop (at + 1) (nodes-at words n)))
-    (λ below. give (node-words (getD words (2 + at) 0) (getD words (2 + n + at) 0) at below))
+    ≡ then (scan-list (scan d) (wants-at (kind-at words at) (operand-at words n at)) (at + 1) (drop (at + 1) (nodes-at words n)))
+    (λ below. give (node-words (kind-at words at) (operand-at words n at) at below))
 unfolding fault-of scan wants-at
 opened-node words n at want d sized h q =
     let k = getD words (2 + at) 0 in
@@ -215,45 +231,42 @@ finish-next nodes n at k w end (got ws j rest) r work work′ o e =
     after = omega (arith, o .counted)
 
 -- What `read_node` answers, from what its children's reading did.
-module _ (words work work′ : List ℕ) (n at want levels : ℕ) (r : Scanned) (readable : Readable work words n at) (here : at < n)
-    (sound : fault-of want (getD words (2 + at) 0) (getD words (2 + n + at) 0) ≡ 0) (deep : ¬ (levels ≡ 0)) where
-  abbrev kind-word : ℕ
-  kind-word = getD words (2 + at) 0
+module _ (words work work′ : List ℕ) (n at want levels count : ℕ) (r : Scanned) (readable : Readable work words n at) (here : at < n)
+    (sound : fault-of want (kind-at words at) (operand-at words n at) ≡ 0) (deep : ¬ (levels ≡ 0)) (counted : count ≡ length (wants-at (kind-at words at) (operand-at words n at)))
+    (children : Children-outcome words n (at + 1) (kind-at words at) count (levels - 1) r work work′) where
+  abbrev kind : ℕ
+  kind = kind-at words at
 
-  abbrev operand-word : ℕ
-  operand-word = getD words (2 + n + at) 0
+  abbrev operand : ℕ
+  operand = operand-at words n at
 
   abbrev children-read : Got (List ℕ)
-  children-read = scan-list (scan (levels - 1)) (rest-wants-at kind-word (length (wants-at kind-word operand-word))) (at + 1) (drop (at + 1) (nodes-at words n))
+  children-read = scan-list (scan (levels - 1)) (rest-wants-at kind count) (at + 1) (drop (at + 1) (nodes-at words n))
 
-  opened-here : scan levels (want-of want) at (drop at (nodes-at words n))
-      ≡ then (scan-list (scan (levels - 1)) (rest-wants-at kind-word (length (wants-at kind-word operand-word))) (at + 1) (drop (at + 1) (nodes-at words n)))
-      (λ below. give (node-words kind-word operand-word at below))
+  opened-here : scan levels (want-of want) at (drop at (nodes-at words n)) ≡ then children-read (λ below. give (node-words kind operand at below))
   opened-here =
       ap (λ d. scan d (want-of want) at (drop at (nodes-at words n))) (level levels deep)
       ∙ opened-node words n at want (levels - 1) (readable .sized) here sound
-      ∙ ap (λ l. then (scan-list (scan (levels - 1)) l (at + 1) (drop (at + 1) (nodes-at words n))) (λ below. give (node-words kind-word operand-word at below)))
-      (sym (all-wants kind-word operand-word (passes want kind-word operand-word sound)))
+      ∙ ap (λ l. then (scan-list (scan (levels - 1)) l (at + 1) (drop (at + 1) (nodes-at words n))) (λ below. give (node-words kind operand at below)))
+      (sym (ap (rest-wants-at kind) counted ∙ all-wants kind operand (passes want kind operand sound)))
     where
       level : (d : ℕ) → ¬ (d ≡ 0) → d ≡ suc (d - 1)
       level d z = omega (arith, z)
 
-  pub node-refused : (x p : ℕ) →
-      Outcome (nodes-at words n) n (at + 1) (scan-list (scan (levels - 1)) (rest-wants-at kind-word (length (wants-at kind-word operand-word))) (at + 1) (drop (at + 1) (nodes-at words n))) r work work′ →
-      r ≡ Refused x p → Outcome (nodes-at words n) n at (scan levels (want-of want) at (drop at (nodes-at words n))) (Refused x p) work work′
-  node-refused x p o e =
-      subst (λ g. Outcome (nodes-at words n) n at g (Refused x p) work work′) (sym opened-here) (finish-refused (nodes-at words n) n at kind-word operand-word x p children-read r work work′ o e)
+  pub node-refused : (x p : ℕ) → r ≡ Refused x p → Node-outcome words n at want levels (Refused x p) work work′
+  node-refused x p e =
+      subst (λ g. Outcome (nodes-at words n) n at g (Refused x p) work work′) (sym opened-here)
+      (finish-refused (nodes-at words n) n at kind operand x p children-read r work work′ children e)
 
-  pub node-next : (end : ℕ) →
-      Outcome (nodes-at words n) n (at + 1) (scan-list (scan (levels - 1)) (rest-wants-at kind-word (length (wants-at kind-word operand-word))) (at + 1) (drop (at + 1) (nodes-at words n))) r work work′ →
-      r ≡ Next end → Outcome (nodes-at words n) n at (scan levels (want-of want) at (drop at (nodes-at words n))) (Next end) work (set work′ at (pack kind-word operand-word end))
-  node-next end o e =
-      subst (λ g. Outcome (nodes-at words n) n at g (Next end) work (set work′ at (pack kind-word operand-word end))) (sym opened-here) (finish-next (nodes-at words n) n at kind-word operand-word end children-read r work work′ o e)
+  pub node-next : (end : ℕ) → r ≡ Next end → Node-outcome words n at want levels (Next end) work (set work′ at (pack kind operand end))
+  node-next end e =
+      subst (λ g. Outcome (nodes-at words n) n at g (Next end) work (set work′ at (pack kind operand end))) (sym opened-here)
+      (finish-next (nodes-at words n) n at kind operand end children-read r work work′ children e)
 
 -- ---- Reading children.
 
 pub no-children : (words work : List ℕ) (n at kind left levels : ℕ) → Readable work words n at → left ≡ 0 →
-    Outcome (nodes-at words n) n at (scan-list (scan levels) (rest-wants-at kind left) at (drop at (nodes-at words n))) (Next at) work work
+    Children-outcome words n at kind left levels (Next at) work work
 unfolding rest-wants-at scan-list
 no-children words work n at kind left levels r z =
     subst (λ g. Outcome (nodes-at words n) n at g (Next at) work work)
@@ -270,8 +283,8 @@ unfolding rest-wants-at scan-list
 first-child kind left want levels at ns k w = rw (k .known, w .head (k .which) (k .known))
 
 pub child-refused : (words work work′ : List ℕ) (n at kind left want levels x p : ℕ) (r : Scanned) → KindKnown kind → WantedAt kind left want →
-    Outcome (nodes-at words n) n at (scan levels (want-of want) at (drop at (nodes-at words n))) r work work′ → r ≡ Refused x p →
-    Outcome (nodes-at words n) n at (scan-list (scan levels) (rest-wants-at kind left) at (drop at (nodes-at words n))) (Refused x p) work work′
+    Node-outcome words n at want levels r work work′ → r ≡ Refused x p →
+    Children-outcome words n at kind left levels (Refused x p) work work′
 child-refused words work work′ n at kind left want levels x p r k w o e =
     subst (λ g. Outcome (nodes-at words n) n at g (Refused x p) work work′) (sym (first-child kind left want levels at (drop at (nodes-at words n)) k w))
     (by (scan levels (want-of want) at (drop at (nodes-at words n))) o)
@@ -283,9 +296,9 @@ child-refused words work work′ n at kind left want levels x p r k w o e =
 
 -- A child was read, and then the others.
 pub child-next : (words work work′ work″ : List ℕ) (n at kind left want levels next : ℕ) (r s : Scanned) → KindKnown kind → WantedAt kind left want →
-    Outcome (nodes-at words n) n at (scan levels (want-of want) at (drop at (nodes-at words n))) r work work′ → r ≡ Next next →
-    Outcome (nodes-at words n) n next (scan-list (scan levels) (rest-wants-at kind (left - 1)) next (drop next (nodes-at words n))) s work′ work″ →
-    Outcome (nodes-at words n) n at (scan-list (scan levels) (rest-wants-at kind left) at (drop at (nodes-at words n))) s work work″
+    Node-outcome words n at want levels r work work′ → r ≡ Next next →
+    Children-outcome words n next kind (left - 1) levels s work′ work″ →
+    Children-outcome words n at kind left levels s work work″
 child-next words work work′ work″ n at kind left want levels next r s k w o e others =
     subst (λ g. Outcome (nodes-at words n) n at g s work work″) (sym (first-child kind left want levels at (drop at (nodes-at words n)) k w))
     (by (scan levels (want-of want) at (drop at (nodes-at words n))) o)
@@ -332,7 +345,7 @@ child-readable words work n at r h = record { sized = r .sized; few = r .few; ro
 
 -- after a child, at the next place
 pub later-readable : (words work work′ : List ℕ) (n at levels want next : ℕ) (r : Scanned) → Readable work words n at →
-    Outcome (nodes-at words n) n at (scan levels (want-of want) at (drop at (nodes-at words n))) r work work′ → r ≡ Next next → Readable work′ words n next
+    Node-outcome words n at want levels r work work′ → r ≡ Next next → Readable work′ words n next
 later-readable words work work′ n at levels want next r readable o e = by (scan levels (want-of want) at (drop at (nodes-at words n))) o
   where
     by : (g : Got (List ℕ)) → Outcome (nodes-at words n) n at g r work work′ → Readable work′ words n next
@@ -345,6 +358,10 @@ later-readable words work work′ n at levels want next r readable o e = by (sca
           within = omega (arith, o .within, same-next r next j e (o .answer));
         }
 
-pub end-within : (nodes : List Node) (n at end : ℕ) (g : Got (List ℕ)) (r : Scanned) (work work′ : List ℕ) → Outcome nodes n at g r work work′ → r ≡ Next end → end ≤ n
-end-within nodes n at end (refused y q) r work work′ o e = absurd (two-answers r end (refusal-number y) q e (o .answer))
-end-within nodes n at end (got ws j rest) r work work′ o e = omega (arith, o .within, same-next r end j e (o .answer))
+-- where the children end
+pub end-within : (words work work′ : List ℕ) (n at kind left levels end : ℕ) (r : Scanned) → Children-outcome words n at kind left levels r work work′ → r ≡ Next end → end ≤ n
+end-within words work work′ n at kind left levels end r o e = by (scan-list (scan levels) (rest-wants-at kind left) at (drop at (nodes-at words n))) o
+  where
+    by : (g : Got (List ℕ)) → Outcome (nodes-at words n) n at g r work work′ → end ≤ n
+    by (refused y q) o = absurd (two-answers r end (refusal-number y) q e (o .answer))
+    by (got ws j rest) o = omega (arith, o .within, same-next r end j e (o .answer))
