@@ -1,31 +1,38 @@
+-- `tables::child_count` answers how many children a node that passed its checks has. Assumes nothing.
 use native.Mathlib.Omega.{arith}
 use Rattle.reader.proofs.Children.{call-count, abs-low, abs-count, passing-low, static-counted}
 use Rattle.reader.proofs.tables.child_count.Statement.{statement}
 use Rattle.reader.proofs.tables.child_count.Tie as tie
 
--- src/lib.rt:83:9
 returns : tie.Need-returns
-returns c = call-count (c .before .args .kind) (c .before .args .operand) (c .if1 .taken)
+returns c =
+    let a = c .before .args in
+    call-count (a .kind) (a .operand) (c .if1 .taken)
 
--- src/lib.rt:86:16
 add-result : tie.Need-add-result
-add-result c = omega (arith, abs-low (c .before .before .args .kind) (c .before .before .args .operand) (c .before .before .pre) (c .if2 .taken))
+add-result c =
+    let start = c .before .before in
+    omega (arith, abs-low (start .args .kind) (start .args .operand) (start .pre) (c .if2 .taken))
 
--- src/lib.rt:86:9
 returns-2 : tie.Need-returns-2
-returns-2 c = abs-count (c .before .before .args .kind) (c .before .before .args .operand) (c .if2 .taken)
+returns-2 c =
+    let a = c .before .before .args in
+    abs-count (a .kind) (a .operand) (c .if2 .taken)
 
--- src/lib.rt:88:5
 mul-result : tie.Need-mul-result
-mul-result c = omega (arith, passing-low (c .before .before .args .kind) (c .before .before .args .operand) (c .before .before .pre))
+mul-result c =
+    let start = c .before .before in
+    omega (arith, passing-low (start .args .kind) (start .args .operand) (start .pre))
 
--- src/lib.rt:88:5
 array-read-result : tie.Need-array-read-result
-array-read-result c = passing-low (c .before .before .args .kind) (c .before .before .args .operand) (c .before .before .pre)
+array-read-result c =
+    let start = c .before .before in
+    passing-low (start .args .kind) (start .args .operand) (start .pre)
 
--- src/lib.rt:78:1
 returns-3 : tie.Need-returns-3
-returns-3 c = static-counted (c .before .before .args .kind) (c .before .before .args .operand) (c .before .before .pre) (c .before .if1 .left) (c .if2 .left)
+returns-3 c =
+    let start = c .before .before in
+    static-counted (start .args .kind) (start .args .operand) (start .pre) (c .before .if1 .left) (c .if2 .left)
 
 pub child-count-spec : {M : Type 1} → statement M
 child-count-spec =
