@@ -14,7 +14,7 @@ use Rattle.rules.specs.Basics.{passed-test}
 use Rattle.rules.specs.Refusals.{Refusal, refusal-number}
 use Rattle.rules.specs.Refusals as Refusals
 use Rattle.rules.specs.Kinds.{Kind, kind-of, operand-fits}
-use Rattle.rules.specs.Reader.{Node, Got, refused, got, then, _>>=_, give, Header, or-refuse, node, nodes-of}
+use Rattle.rules.specs.Reader.{Node, Got, refused, got, Read, then, _>>=_, give, Header, or-refuse, node, nodes-of}
 use Rattle.rules.specs.Listing.{a-node}
 use Rattle.rules.specs.ReaderSound.{number-of}
 use Rattle.reader.specs.Pack.{pack, node-words}
@@ -202,11 +202,11 @@ opened-node words n at want d sized h q =
     ∙ rw (p .3, p .1, number-of k (p .0) (p .1))
     (ap (λ i. then (scan-list (scan d) (child-wants (p .0) w) i (drop (at + 1) (nodes-at words n))) (λ below. give (node-words k w at below))) (sym (add-one at)))
 
--- the children were refused
-finish-refused : (nodes : List Node) (n at k w x p : ℕ) (g : Got (List ℕ)) (r : Scanned) (work work′ : List ℕ) → Outcome nodes n (at + 1) g r work work′ → r ≡ Refused x p →
-    Outcome nodes n at (then g (λ below. give (node-words k w at below))) (Refused x p) work work′
-finish-refused nodes n at k w x p (refused y q) r work work′ o e = record { answer = sym e ∙ o .answer; kept = o .kept }
-finish-refused nodes n at k w x p (got ws j rest) r work work′ o e = absurd (two-answers r j x p (o .answer) e)
+-- what was refused stays so, whatever would follow
+refused-then : (nodes : List Node) (n i at x p : ℕ) (g : Got (List ℕ)) (k : List ℕ → Read (List ℕ)) (r : Scanned) (work work′ : List ℕ) → Outcome nodes n i g r work work′ → r ≡ Refused x p →
+    Outcome nodes n at (then g k) (Refused x p) work work′
+refused-then nodes n i at x p (refused y q) k r work work′ o e = record { answer = sym e ∙ o .answer; kept = o .kept }
+refused-then nodes n i at x p (got ws j rest) k r work work′ o e = absurd (two-answers r j x p (o .answer) e)
 
 -- the children were read: the node's own word is put before theirs
 finish-next : (nodes : List Node) (n at k w end : ℕ) (g : Got (List ℕ)) (r : Scanned) (work work′ : List ℕ) → Outcome nodes n (at + 1) g r work work′ → r ≡ Next end →
@@ -256,7 +256,7 @@ module _ (words work work′ : List ℕ) (n at want levels count : ℕ) (r : Sca
   pub node-refused : (x p : ℕ) → r ≡ Refused x p → Node-outcome words n at want levels (Refused x p) work work′
   node-refused x p e =
       subst (λ g. Outcome (nodes-at words n) n at g (Refused x p) work work′) (sym opened-here)
-      (finish-refused (nodes-at words n) n at kind operand x p children-read r work work′ children e)
+      (refused-then (nodes-at words n) n (at + 1) at x p children-read (λ below. give (node-words kind operand at below)) r work work′ children e)
 
   pub node-next : (end : ℕ) → r ≡ Next end → Node-outcome words n at want levels (Next end) work (set work′ at (pack kind operand end))
   node-next end e =
@@ -287,12 +287,7 @@ pub child-refused : (words work work′ : List ℕ) (n at kind left want levels 
     Children-outcome words n at kind left levels (Refused x p) work work′
 child-refused words work work′ n at kind left want levels x p r k w o e =
     subst (λ g. Outcome (nodes-at words n) n at g (Refused x p) work work′) (sym (first-child kind left want levels at (drop at (nodes-at words n)) k w))
-    (by (scan levels (want-of want) at (drop at (nodes-at words n))) o)
-  where
-    by : (g : Got (List ℕ)) → Outcome (nodes-at words n) n at g r work work′ →
-        Outcome (nodes-at words n) n at (then g (λ a. scan-list (scan levels) (rest-wants-at kind (left - 1)) >>= λ b. give (a ++ b))) (Refused x p) work work′
-    by (refused y q) o = record { answer = sym e ∙ o .answer; kept = o .kept }
-    by (got ws j rest) o = absurd (two-answers r j x p (o .answer) e)
+    (refused-then (nodes-at words n) n at at x p (scan levels (want-of want) at (drop at (nodes-at words n))) (λ a. scan-list (scan levels) (rest-wants-at kind (left - 1)) >>= λ b. give (a ++ b)) r work work′ o e)
 
 -- A child was read, and then the others.
 pub child-next : (words work work′ work″ : List ℕ) (n at kind left want levels next : ℕ) (r s : Scanned) → KindKnown kind → WantedAt kind left want →
