@@ -1,20 +1,21 @@
 -- How many children a node has and what is wanted of them, by the code's tables. Assumes nothing.
-use Prim.Native.Nat.{ℕ, zero, suc, _+_, _-_, _*_, _/_, _<_, _≤_}
+use Prim.Native.Nat.{ℕ, zero, suc, _+_, _-_, _/_, _<_, _≤_}
 use mathlib.Core.Path.{_≡_, refl, sym, ap, _∙_, subst}
-use mathlib.Core.Bool.{Bool, true, false}
 use mathlib.Core.List.{List, [], _∷_, _++_}
-use mathlib.Core.Option.{Option, none, some, Option·some-injective}
+use mathlib.Core.Option.{some, Option·some-injective}
 use native.Mathlib.Omega.{arith}
+use native.Mathlib.Nat.{not-suc-le-zero}
 use native.Mathlib.Numerals.{add-one}
 use lib.Dec.{T, ltb, ltb→lt}
 use lib.ListN.{length, getD, replicate, length-replicate, length-append}
+use Rattle.rules.specs.Basics.{missing}
 use Rattle.rules.specs.Kinds.{Kind, kind-of, operand-bound, operand-fits, num, boo, id, deref, valref, binary, negation, assign, loop, cseq, blk, call, bind, dseq, expression-kind, command-kind, declaration-kind, ref, abs, formal}
 use Rattle.rules.specs.Reader.{upper-part}
 use Rattle.rules.specs.ReaderSound.{number-of}
 use Rattle.reader.specs.Scan.{Want, an-expression, a-formal, a-block, child-wants}
-use Rattle.reader.specs.Tables.{want-of, wants-by, wants-at, first-want, last-want, rest-wants, rest-wants-by, rest-wants-at, WantedAt}
+use Rattle.reader.specs.Tables.{want-of, wants-by, wants-at, rest-wants, rest-wants-by, rest-wants-at, WantedAt}
 use Rattle.reader.specs.Answers.{Passing}
-use Rattle.reader.proofs.Rows.{bounds, counts, firsts, lasts, static-count, all-below, at-each, Row-at, no-kind, a-kind, RowOf, row-at}
+use Rattle.reader.proofs.Rows.{counts, firsts, lasts, static-count, all-below, at-each, Row-at, no-kind, a-kind, RowOf, row-at}
 use Rattle.reader.proofs.Faults.{known-low}
 
 known-wants : (k w : ℕ) (kind : Kind) → kind-of k ≡ some kind → wants-at k w ≡ child-wants kind w
@@ -24,12 +25,13 @@ known-wants k w kind q = ap (wants-by w) q
 pub passing-low : (k w : ℕ) → Passing k w → k < 43
 passing-low k w p = known-low k (p .which) (p .known)
 
-pub passing-row : (k w : ℕ) (p : Passing k w) → RowOf k (p .which)
-passing-row k w p = by (row-at k (passing-low k w p))
+-- The row of a kind's number.
+row-of : (k : ℕ) (kind : Kind) → kind-of k ≡ some kind → RowOf k kind
+row-of k kind q = by (row-at k (known-low k kind q))
   where
-    by : Row-at k → RowOf k (p .which)
-    by (no-kind q b) = absurd (Rattle.rules.specs.Basics.missing (sym q ∙ p .known))
-    by (a-kind kind q b row) = subst (RowOf k) (Option·some-injective kind (p .which) (sym q ∙ p .known)) row
+    by : Row-at k → RowOf k kind
+    by (no-kind p b) = missing (sym p ∙ q)
+    by (a-kind c p b row) = subst (RowOf k) (Option·some-injective c kind (sym p ∙ q)) row
 
 -- a Call and an Abs
 call-kind : kind-of 24 ≡ some (command-kind call)
@@ -55,10 +57,6 @@ pub abs-low : (k w : ℕ) → Passing k w → k ≡ 41 → w < 9
 unfolding operand-bound
 abs-low k w p q = operand-low k w p abs (ap kind-of q ∙ abs-kind)
 
-pub call-low : (k w : ℕ) → Passing k w → k ≡ 24 → w < 576
-unfolding operand-bound
-call-low k w p q = operand-low k w p (command-kind call) (ap kind-of q ∙ call-kind)
-
 -- any other kind
 static-same : (k w : ℕ) (kind : Kind) → kind-of k ≡ some kind → ¬ (k ≡ 24) → ¬ (k ≡ 41) → static-count kind ≡ length (child-wants kind w)
 static-same k w (expression-kind num) q c a = refl
@@ -81,31 +79,31 @@ static-same k w formal q c a = refl
 
 pub static-counted : (k w : ℕ) → Passing k w → ¬ (k ≡ 24) → ¬ (k ≡ 41) → getD counts k 0 ≡ length (wants-at k w)
 static-counted k w p c a =
-    passing-row k w p .counted ∙ static-same k w (p .which) (p .known) c a ∙ sym (ap length (known-wants k w (p .which) (p .known)))
+    row-of k (p .which) (p .known) .counted ∙ static-same k w (p .which) (p .known) c a ∙ sym (ap length (known-wants k w (p .which) (p .known)))
 
 -- At most nine children.
-nine : (k w : ℕ) (kind : Kind) → w < operand-bound kind → length (child-wants kind w) ≤ 9
+nine : (w : ℕ) (kind : Kind) → w < operand-bound kind → length (child-wants kind w) ≤ 9
 unfolding operand-bound
-nine k w (expression-kind num) h = omega arith
-nine k w (expression-kind boo) h = omega arith
-nine k w (expression-kind id) h = omega arith
-nine k w (expression-kind deref) h = omega arith
-nine k w (expression-kind valref) h = omega arith
-nine k w (expression-kind (binary o)) h = omega arith
-nine k w (expression-kind negation) h = omega arith
-nine k w (command-kind assign) h = omega arith
-nine k w (command-kind loop) h = omega arith
-nine k w (command-kind cseq) h = omega arith
-nine k w (command-kind blk) h = omega arith
-nine k w (command-kind call) h = omega (arith, h, length-replicate (upper-part w) an-expression)
-nine k w (declaration-kind bind) h = omega arith
-nine k w (declaration-kind dseq) h = omega arith
-nine k w ref h = omega arith
-nine k w abs h = omega (arith, h, length-append (replicate w a-formal) (a-block ∷ []), length-replicate w a-formal)
-nine k w formal h = omega arith
+nine w (expression-kind num) h = omega arith
+nine w (expression-kind boo) h = omega arith
+nine w (expression-kind id) h = omega arith
+nine w (expression-kind deref) h = omega arith
+nine w (expression-kind valref) h = omega arith
+nine w (expression-kind (binary o)) h = omega arith
+nine w (expression-kind negation) h = omega arith
+nine w (command-kind assign) h = omega arith
+nine w (command-kind loop) h = omega arith
+nine w (command-kind cseq) h = omega arith
+nine w (command-kind blk) h = omega arith
+nine w (command-kind call) h = omega (arith, h, length-replicate (upper-part w) an-expression)
+nine w (declaration-kind bind) h = omega arith
+nine w (declaration-kind dseq) h = omega arith
+nine w ref h = omega arith
+nine w abs h = omega (arith, h, length-append (replicate w a-formal) (a-block ∷ []), length-replicate w a-formal)
+nine w formal h = omega arith
 
 pub few-children : (k w : ℕ) → Passing k w → length (wants-at k w) ≤ 9
-few-children k w p = subst (λ l. length l ≤ 9) (sym (known-wants k w (p .which) (p .known))) (nine k w (p .which) (operand-low k w p (p .which) (p .known)))
+few-children k w p = subst (λ l. length l ≤ 9) (sym (known-wants k w (p .which) (p .known))) (nine w (p .which) (operand-low k w p (p .which) (p .known)))
 
 -- ---- What is wanted of the children, from the last one back.
 
@@ -153,13 +151,6 @@ firsts-low = tt
 lasts-low : T (all-below (λ k. ltb (getD lasts k 0) 7) 43)
 lasts-low = tt
 
-row-of : (k : ℕ) (kind : Kind) → kind-of k ≡ some kind → RowOf k kind
-row-of k kind q = passing-row′ (row-at k (known-low k kind q))
-  where
-    passing-row′ : Row-at k → RowOf k kind
-    passing-row′ (no-kind p b) = absurd (Rattle.rules.specs.Basics.missing (sym p ∙ q))
-    passing-row′ (a-kind c p b row) = subst (RowOf k) (Option·some-injective c kind (sym p ∙ q)) row
-
 pub last-wanted : (k left : ℕ) → k < 43 → left ≡ 1 → WantedAt k left (getD lasts k 0)
 last-wanted k left h q =
     record {
@@ -168,10 +159,7 @@ last-wanted k left h q =
     }
 
 pub first-wanted : (k left : ℕ) → k < 43 → 0 < left → ¬ (left ≡ 1) → WantedAt k left (getD firsts k 0)
-first-wanted k zero h g q = absurd (never g)
-  where
-    never : 0 < 0 → ⊥
-    never l = omega arith
+first-wanted k zero h g q = absurd (not-suc-le-zero g)
 first-wanted k (suc zero) h g q = absurd (q refl)
 first-wanted k (suc (suc n)) h g q =
     record {

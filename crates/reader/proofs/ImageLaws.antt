@@ -1,57 +1,44 @@
 -- What `read_image` has to show at each return, over plain variables. Assumes nothing.
 use Prim.Native.Nat.{ℕ, zero, suc, _+_, _-_, _*_, _<_, _≤_}
 use mathlib.Core.Path.{_≡_, refl, sym, ap, _∙_, subst}
-use mathlib.Core.Bool.{Bool, true, false, cond, _&&_}
-use mathlib.Core.List.{List, [], _∷_}
+use mathlib.Core.Bool.{true, _&&_}
+use mathlib.Core.List.{List, [], _∷_, cons-ne-nil}
 use native.Mathlib.Omega.{arith}
-use native.Mathlib.Nat.{zero-add, suc-add}
+use native.Mathlib.Nat.{zero-add, suc-add, not-suc-le-zero, le-of-suc-le-suc}
 use lib.Seq.{drop-nil}
 use lib.Dec.{T, eqb, leb, ltb, eqb→eq, eqb-refl, leb→le, le→leb, ltb→lt, lt→ltb}
-use lib.ListN.{length, getD, take, drop}
+use lib.ListN.{length, getD, drop}
 use Rattle.rules.specs.Basics.{true-test, false-test, and-both, and-left, and-right}
 use Rattle.rules.specs.Tree.{Root}
 use Rattle.rules.specs.Refusals.{refusal-number}
-use Rattle.rules.specs.Refusals as Refusals
-use Rattle.rules.specs.Reader.{Node, Got, refused, got, Reading, bad, image, whole, size-fits, read-root, read}
+use Rattle.rules.specs.Reader.{Node, Got, refused, got, image, whole, size-fits, read-root, read}
 use Rattle.rules.specs.Listing.{root-nodes, image-words}
-use Rattle.rules.specs.ReaderExact.{IsImage, read-exact}
+use Rattle.rules.specs.ReaderExact.{read-exact}
 use Rattle.reader.specs.Pack.{root-words}
-use Rattle.reader.specs.Put.{put, put-length, put-beyond}
-use Rattle.reader.specs.Scan.{a-root, scan}
-use Rattle.reader.specs.Tables.{want-of}
-use Rattle.reader.specs.Answers.{nodes-at, Readable, Kept, Read-on, Refused-there, Outcome, ShapeAnswer}
+use Rattle.reader.specs.Put.{put-length, put-beyond}
+use Rattle.reader.specs.Answers.{nodes-at, Kept, Read-on, Outcome, ShapeAnswer}
 use Rattle.reader.specs.declared.Scanned.{Scanned}
 use Rattle.reader.specs.declared.Scanned.the-variants.{Next, Refused}
 use Rattle.reader.specs.declared.Shape.{Shape}
 use Rattle.reader.specs.declared.Shape.the-variants as Shapes
-use Rattle.reader.proofs.ScanExact.{map-got, root-same}
-use Rattle.reader.proofs.ReadLaws.{node-here, nodes-past}
-
-same-words : (n : ℕ) (work : List ℕ) → Kept n work work
-same-words n work = record { same-length = refl; same-beyond = refl }
+use Rattle.reader.proofs.AnswerLaws.{two-answers, same-next, same-refusal, kept-same}
+use Rattle.reader.proofs.ScanLaws.{map-got}
+use Rattle.reader.proofs.ScanExact.{root-same}
+use Rattle.reader.proofs.ReadLaws.{Node-outcome, node-here, nodes-past}
 
 pub short : (words work : List ℕ) → length words < 2 → ShapeAnswer (read words) (Shapes.Refused 1 0) work work
 unfolding read refusal-number
-short [] work h = record { answer = refl; kept = same-words 2000 work }
-short (a ∷ []) work h = record { answer = refl; kept = same-words 2000 work }
-short (a ∷ b ∷ words) work h = absurd (never h)
-  where
-    never : suc (suc (length words)) < 2 → ⊥
-    never l = omega arith
+short [] work h = record { answer = refl; kept = kept-same 2000 work }
+short (a ∷ []) work h = record { answer = refl; kept = kept-same 2000 work }
+short (a ∷ b ∷ words) work h = absurd (not-suc-le-zero (le-of-suc-le-suc (le-of-suc-le-suc h)))
 
 -- n or r
-pub wrong-size : (words work : List ℕ) → 2 ≤ length words → (T (size-fits (getD words 0 0) (getD words 1 0)) → ⊥) → ShapeAnswer (read words) (Shapes.Refused 2 0) work work
+wrong-size : (words work : List ℕ) → 2 ≤ length words → (T (size-fits (getD words 0 0) (getD words 1 0)) → ⊥) → ShapeAnswer (read words) (Shapes.Refused 2 0) work work
 unfolding read refusal-number
-wrong-size [] work h f = absurd (never h)
-  where
-    never : 2 ≤ 0 → ⊥
-    never l = omega arith
-wrong-size (a ∷ []) work h f = absurd (never h)
-  where
-    never : 2 ≤ 1 → ⊥
-    never l = omega arith
+wrong-size [] work h f = absurd (not-suc-le-zero h)
+wrong-size (a ∷ []) work h f = absurd (not-suc-le-zero (le-of-suc-le-suc h))
 wrong-size (n ∷ r ∷ words) work h f =
-    rw (false-test (size-fits n r) f) (record { answer = refl; kept = same-words 2000 work })
+    rw (false-test (size-fits n r) f) (record { answer = refl; kept = kept-same 2000 work })
 
 no-nodes : (n r : ℕ) → n ≡ 0 → T (size-fits n r) → ⊥
 no-nodes n r z t = clash (ltb→lt 0 n (and-left (ltb 0 n) (leb n 2000) (and-left (ltb 0 n && leb n 2000) (leb r 16) t)))
@@ -87,16 +74,10 @@ fitting-size n r z h g =
 pub refuse-length : (words work : List ℕ) → 2 ≤ length words → ¬ (getD words 0 0 ≡ 0) → getD words 0 0 ≤ 2000 → getD words 1 0 ≤ 16 →
     ¬ (length words ≡ 2 + 2 * getD words 0 0) → ShapeAnswer (read words) (Shapes.Refused 1 0) work work
 unfolding read refusal-number
-refuse-length [] work h z f g l = absurd (never h)
-  where
-    never : 2 ≤ 0 → ⊥
-    never l = omega arith
-refuse-length (a ∷ []) work h z f g l = absurd (never h)
-  where
-    never : 2 ≤ 1 → ⊥
-    never l = omega arith
+refuse-length [] work h z f g l = absurd (not-suc-le-zero h)
+refuse-length (a ∷ []) work h z f g l = absurd (not-suc-le-zero (le-of-suc-le-suc h))
 refuse-length (n ∷ r ∷ words) work h z f g l =
-    rw (fitting-size n r z f g, false-test (eqb (length words) (2 * n)) (λ t. l (longer (eqb→eq (length words) (2 * n) t)))) (record { answer = refl; kept = same-words 2000 work })
+    rw (fitting-size n r z f g, false-test (eqb (length words) (2 * n)) (λ t. l (longer (eqb→eq (length words) (2 * n) t)))) (record { answer = refl; kept = kept-same 2000 work })
   where
     longer : length words ≡ 2 * n → suc (suc (length words)) ≡ 2 + 2 * n
     longer e = omega arith
@@ -105,32 +86,13 @@ refuse-length (n ∷ r ∷ words) work h z f g l =
 read-nodes : (words : List ℕ) → 2 ≤ length words → ¬ (getD words 0 0 ≡ 0) → getD words 0 0 ≤ 2000 → getD words 1 0 ≤ 16 → length words ≡ 2 + 2 * getD words 0 0 →
     read words ≡ whole (getD words 1 0) (read-root 64 0 (nodes-at words (getD words 0 0)))
 unfolding read
-read-nodes [] h z f g l = absurd (never h)
-  where
-    never : 2 ≤ 0 → ⊥
-    never l = omega arith
-read-nodes (a ∷ []) h z f g l = absurd (never h)
-  where
-    never : 2 ≤ 1 → ⊥
-    never l = omega arith
+read-nodes [] h z f g l = absurd (not-suc-le-zero h)
+read-nodes (a ∷ []) h z f g l = absurd (not-suc-le-zero (le-of-suc-le-suc h))
 read-nodes (n ∷ r ∷ words) h z f g l =
     rw (fitting-size n r z f g, true-test (eqb (length words) (2 * n)) (subst (λ k. T (eqb k (2 * n))) (sym (shorter l)) (eqb-refl (2 * n))))
   where
     shorter : suc (suc (length words)) ≡ 2 + 2 * n → length words ≡ 2 * n
     shorter e = omega arith
-
-two-answers : (r : Scanned) (j x p : ℕ) → r ≡ Next j → r ≡ Refused x p → ⊥
-two-answers r j x p a b = let z : _≡_ {A = ℕ} 0 1 = cc in omega arith
-
-same-next : (r : Scanned) (i j : ℕ) → r ≡ Next i → r ≡ Next j → i ≡ j
-same-next r i j a b = cc
-
-same-refusal : (r : Scanned) (x p y q : ℕ) → r ≡ Refused x p → r ≡ Refused y q → Shapes.Refused x p ≡ Shapes.Refused y q
-same-refusal r x p y q a b = ap (λ s. of-scanned s) (sym a ∙ b)
-  where
-    of-scanned : Scanned → Shape
-    of-scanned (Next j) = Shapes.Refused 0 0
-    of-scanned (Refused x p) = Shapes.Refused x p
 
 drop-more : (n k : ℕ) (ws : List ℕ) → drop (n + k) ws ≡ drop k (drop n ws)
 drop-more zero k ws = ap (λ i. drop i ws) (zero-add k)
@@ -157,11 +119,11 @@ module _ (words work work′ : List ℕ) (r : Scanned) (h : 2 ≤ length words) 
   Root-outcome m = Outcome nodes n 0 (map-got root-words m) r work work′
 
   -- the root's reading by the rules
-  root-outcome : Outcome nodes n 0 (scan 64 (want-of 6) 0 (drop 0 nodes)) r work work′ → Root-outcome (read-root 64 0 nodes)
+  root-outcome : Node-outcome words n 0 6 64 r work work′ → Root-outcome (read-root 64 0 nodes)
   root-outcome o = subst (λ m. Outcome nodes n 0 m r work work′) (sym (root-same 64 0 nodes)) o
 
   shape-by : (answer : Shape) → ((m : Got Root) → read words ≡ whole (getD words 1 0) m → Root-outcome m → ShapeAnswer (whole (getD words 1 0) m) answer work work′) →
-      Outcome nodes n 0 (scan 64 (want-of 6) 0 (drop 0 nodes)) r work work′ → ShapeAnswer (read words) answer work work′
+      Node-outcome words n 0 6 64 r work work′ → ShapeAnswer (read words) answer work work′
   shape-by answer k o =
       subst (λ s. ShapeAnswer s answer work work′) (sym (read-nodes words h z f g l)) (k (read-root 64 0 nodes) (read-nodes words h z f g l) (root-outcome o))
 
@@ -177,42 +139,28 @@ module _ (words work work′ : List ℕ) (r : Scanned) (h : 2 ≤ length words) 
       }
 
   -- the whole tree was read
-  pub whole-image : (end : ℕ) → r ≡ Next end → end ≡ n → Outcome nodes n 0 (scan 64 (want-of 6) 0 (drop 0 nodes)) r work work′ →
+  pub whole-image : (end : ℕ) → r ≡ Next end → end ≡ n → Node-outcome words n 0 6 64 r work work′ →
       ShapeAnswer (read words) (Shapes.Image n (getD words 1 0)) work work′
   whole-image end e q = shape-by (Shapes.Image n (getD words 1 0)) by
     where
       by : (m : Got Root) → read words ≡ whole (getD words 1 0) m → Root-outcome m → ShapeAnswer (whole (getD words 1 0) m) (Shapes.Image n (getD words 1 0)) work work′
       by (refused x p) w o = absurd (two-answers r end (refusal-number x) p e (o .answer))
       by (got t j []) w o = record { answer = ap (λ k. Shapes.Image k (getD words 1 0)) (count-head t w); written = o .written }
-      by (got t j (a ∷ rest)) w o = absurd (not-empty (o .remaining ∙ nodes-past words n l j (omega (arith, q, same-next r end j e (o .answer)))))
-        where
-          IsEmpty : List Node → Type 0
-          IsEmpty [] = Unit {0}
-          IsEmpty (x ∷ xs) = ⊥
-
-          not-empty : a ∷ rest ≡ [] → ⊥
-          not-empty p = subst IsEmpty (sym p) tt
+      by (got t j (a ∷ rest)) w o = absurd (cons-ne-nil _ _ (o .remaining ∙ nodes-past words n l j (omega (arith, q, same-next r end j e (o .answer)))))
 
   -- nodes are left over
-  pub left-over : (end : ℕ) → r ≡ Next end → ¬ (end ≡ n) → Outcome nodes n 0 (scan 64 (want-of 6) 0 (drop 0 nodes)) r work work′ →
+  pub left-over : (end : ℕ) → r ≡ Next end → ¬ (end ≡ n) → Node-outcome words n 0 6 64 r work work′ →
       ShapeAnswer (read words) (Shapes.Refused 5 end) work work′
   unfolding refusal-number
   left-over end e q = shape-by (Shapes.Refused 5 end) by
     where
       by : (m : Got Root) → read words ≡ whole (getD words 1 0) m → Root-outcome m → ShapeAnswer (whole (getD words 1 0) m) (Shapes.Refused 5 end) work work′
       by (refused x p) w o = absurd (two-answers r end (refusal-number x) p e (o .answer))
-      by (got t j []) w o = absurd (not-cons (sym (o .remaining ∙ node-here words n l j (omega (arith, q, o .within, same-next r end j e (o .answer))))))
-        where
-          IsEmpty : List Node → Type 0
-          IsEmpty [] = Unit {0}
-          IsEmpty (x ∷ xs) = ⊥
-
-          not-cons : {x : Node} {xs : List Node} → x ∷ xs ≡ [] → ⊥
-          not-cons p = subst IsEmpty (sym p) tt
+      by (got t j []) w o = absurd (cons-ne-nil _ _ (sym (o .remaining ∙ node-here words n l j (omega (arith, q, o .within, same-next r end j e (o .answer))))))
       by (got t j (a ∷ rest)) w o = record { answer = ap (Shapes.Refused 5) (same-next r end j e (o .answer)); kept = kept-root (root-words t) j (a ∷ rest) o }
 
   -- a node was refused
-  pub refused-image : (x p : ℕ) → r ≡ Refused x p → Outcome nodes n 0 (scan 64 (want-of 6) 0 (drop 0 nodes)) r work work′ →
+  pub refused-image : (x p : ℕ) → r ≡ Refused x p → Node-outcome words n 0 6 64 r work work′ →
       ShapeAnswer (read words) (Shapes.Refused x p) work work′
   refused-image x p e = shape-by (Shapes.Refused x p) by
     where

@@ -1,3 +1,5 @@
+pub mod AnswerLaws
+pub mod ScanLaws
 pub mod ScanExact
 pub mod Rows
 pub mod Faults

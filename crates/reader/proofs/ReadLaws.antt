@@ -6,40 +6,50 @@ use mathlib.Core.List.{List, [], _∷_, _++_}
 use mathlib.Core.Option.{Option, none, some}
 use native.Mathlib.Omega.{arith}
 use native.Mathlib.Numerals.{add-one}
-use native.Mathlib.Nat.{add-suc, add-zero, add-assoc}
+use native.Mathlib.Nat.{add-zero, add-assoc, not-suc-le-zero}
 use lib.Dec.{T}
-use lib.ListN.{length, getD, take, drop, set, length-take, length-drop, length-set, length-append, drop-of-length-le}
+use lib.ListN.{length, getD, take, drop, set, length-take, length-drop, length-append, drop-of-length-le}
 use lib.Seq.{getD-take, getD-drop}
-use Rattle.rules.specs.Basics.{passed-test, append-assoc}
+use Rattle.rules.specs.Basics.{passed-test}
 use Rattle.rules.specs.Refusals.{Refusal, refusal-number}
 use Rattle.rules.specs.Refusals as Refusals
 use Rattle.rules.specs.Kinds.{Kind, kind-of, operand-fits}
 use Rattle.rules.specs.Reader.{Node, Got, refused, got, Read, then, _>>=_, give, Header, or-refuse, node, nodes-of}
 use Rattle.rules.specs.Listing.{a-node}
-use Rattle.rules.specs.ReaderComplete.{kind-number}
 use Rattle.rules.specs.ReaderSound.{number-of}
 use Rattle.reader.specs.Pack.{pack, node-words}
 use Rattle.reader.specs.Put.{put, put-length, put-none, put-append, set-put, put-beyond}
 use Rattle.reader.specs.Scan.{Want, accepts, accepting, child-wants, scan-list, scan}
-use Rattle.reader.specs.Tables.{want-of, fault-by, fault-of, wants-by, wants-at, rest-wants, rest-wants-by, rest-wants-at, WantedAt}
-use Rattle.reader.specs.Answers.{nodes-at, Readable, Passing, KindKnown, Kept, Read-on, Refused-there, Outcome}
+use Rattle.reader.specs.Tables.{want-of, fault-by, fault-of, wants-at, rest-wants-by, rest-wants-at, WantedAt}
+use Rattle.reader.specs.Answers.{nodes-at, Readable, Passing, KindKnown, Read-on, Outcome}
 use Rattle.reader.specs.declared.Scanned.{Scanned}
 use Rattle.reader.specs.declared.Scanned.the-variants.{Next, Refused}
+use Rattle.reader.proofs.AnswerLaws.{two-answers, same-next, kept-same}
 use Rattle.reader.proofs.Children.{all-wants}
 use Rattle.reader.proofs.Faults.{known-low}
+
+-- The kind and the operand of a node, in an image of n nodes.
+abbrev pub kind-at : List ℕ → ℕ → ℕ
+kind-at words at = getD words (2 + at) 0
+
+abbrev pub operand-at : List ℕ → (n at : ℕ) → ℕ
+operand-at words n at = getD words (2 + n + at) 0
+
+-- What `read_node` and `read_children` answer.
+abbrev pub Node-outcome : List ℕ → (n at want levels : ℕ) → Scanned → (before after : List ℕ) → Type 0
+Node-outcome words n at want levels r before after =
+    Outcome (nodes-at words n) n at (scan levels (want-of want) at (drop at (nodes-at words n))) r before after
+
+abbrev pub Children-outcome : List ℕ → (n at kind left levels : ℕ) → Scanned → (before after : List ℕ) → Type 0
+Children-outcome words n at kind left levels r before after =
+    Outcome (nodes-at words n) n at (scan-list (scan levels) (rest-wants-at kind left) at (drop at (nodes-at words n))) r before after
 
 -- ---- The node at a place, and past the last one.
 
 nodes-here : (ks os : List ℕ) (i : ℕ) → i < length ks → i < length os → drop i (nodes-of ks os) ≡ a-node (getD ks i 0) (getD os i 0) ∷ drop (suc i) (nodes-of ks os)
 unfolding nodes-of
-nodes-here [] os i h g = absurd (never h)
-  where
-    never : i < 0 → ⊥
-    never l = omega arith
-nodes-here (k ∷ ks) [] i h g = absurd (never g)
-  where
-    never : i < 0 → ⊥
-    never l = omega arith
+nodes-here [] os i h g = absurd (not-suc-le-zero h)
+nodes-here (k ∷ ks) [] i h g = absurd (not-suc-le-zero g)
 nodes-here (k ∷ ks) (o ∷ os) zero h g = refl
 nodes-here (k ∷ ks) (o ∷ os) (suc i) h g = nodes-here ks os i (omega arith) (omega arith)
 
@@ -59,12 +69,12 @@ module _ (words : List ℕ) (n : ℕ) (sized : length words ≡ 2 + 2 * n) where
   operands-count : length (drop n (drop 2 words)) ≡ n
   operands-count = omega (arith, length-drop n (drop 2 words), length-drop 2 words, sized)
 
-  pub node-here : (at : ℕ) → at < n → drop at (nodes-at words n) ≡ a-node (getD words (2 + at) 0) (getD words (2 + n + at) 0) ∷ drop (at + 1) (nodes-at words n)
+  pub node-here : (at : ℕ) → at < n → drop at (nodes-at words n) ≡ a-node (kind-at words at) (operand-at words n at) ∷ drop (at + 1) (nodes-at words n)
   node-here at h =
       nodes-here (take n (drop 2 words)) (drop n (drop 2 words)) at (omega (arith, kinds-count)) (omega (arith, operands-count))
       ∙ ap {B = List Node} (λ k. a-node k (getD (drop n (drop 2 words)) at 0) ∷ drop (suc at) (nodes-at words n)) (rw (getD-take, getD-drop))
-      ∙ ap {B = List Node} (λ w. a-node (getD words (2 + at) 0) w ∷ drop (suc at) (nodes-at words n)) (rw (getD-drop, getD-drop) (ap (λ i. getD words i 0) (sym (add-assoc 2 n at))))
-      ∙ ap {B = List Node} (λ i. a-node (getD words (2 + at) 0) (getD words (2 + n + at) 0) ∷ drop i (nodes-at words n)) (sym (add-one at))
+      ∙ ap {B = List Node} (λ w. a-node (kind-at words at) w ∷ drop (suc at) (nodes-at words n)) (rw (getD-drop, getD-drop) (ap (λ i. getD words i 0) (sym (add-assoc 2 n at))))
+      ∙ ap {B = List Node} (λ i. a-node (kind-at words at) (operand-at words n at) ∷ drop i (nodes-at words n)) (sym (add-one at))
 
   pub nodes-past : (at : ℕ) → n ≤ at → drop at (nodes-at words n) ≡ []
   nodes-past at h = drop-of-length-le (nodes-at words n) {i = at} (omega (arith, nodes-count (take n (drop 2 words)) (drop n (drop 2 words)) (kinds-count ∙ sym operands-count), kinds-count))
@@ -131,9 +141,6 @@ pub passes : (want k w : ℕ) → fault-of want k w ≡ 0 → Passing k w
 unfolding fault-of
 passes want k w h = let p = passed-node (want-of want) k w 0 [] h in record { which = p .0; known = p .1; fits = p .2 }
 
-kept-same : (n : ℕ) (ws : List ℕ) → Kept n ws ws
-kept-same n ws = record { same-length = refl; same-beyond = refl }
-
 -- ---- Reading a node.
 
 none-left : (d at : ℕ) (w : Want) → scan d w at [] ≡ refused Refusals.Tree at
@@ -143,7 +150,7 @@ none-left (suc d) at w = refl
 
 -- a place past the last node
 pub missing-node : (words work : List ℕ) (n at want levels : ℕ) → Readable work words n at → n ≤ at →
-    Outcome (nodes-at words n) n at (scan levels (want-of want) at (drop at (nodes-at words n))) (Refused 5 at) work work
+    Node-outcome words n at want levels (Refused 5 at) work work
 unfolding refusal-number
 missing-node words work n at want levels r h =
     subst (λ g. Outcome (nodes-at words n) n at g (Refused 5 at) work work) (sym (ap (scan levels (want-of want) at) (nodes-past words n (r .sized) at h) ∙ none-left levels at (want-of want)))
@@ -156,11 +163,11 @@ fault-first zero at k w want rest x q = rw q
 fault-first (suc d) at k w want rest x q = rw q
 
 pub faulty-node : (words work : List ℕ) (n at want levels f : ℕ) → Readable work words n at → at < n →
-    f ≡ fault-of want (getD words (2 + at) 0) (getD words (2 + n + at) 0) → ¬ (f ≡ 0) →
-    Outcome (nodes-at words n) n at (scan levels (want-of want) at (drop at (nodes-at words n))) (Refused f at) work work
+    f ≡ fault-of want (kind-at words at) (operand-at words n at) → ¬ (f ≡ 0) →
+    Node-outcome words n at want levels (Refused f at) work work
 unfolding fault-of
 faulty-node words work n at want levels f r h q z =
-    let c = checked-node (want-of want) (getD words (2 + at) 0) (getD words (2 + n + at) 0) at (drop (at + 1) (nodes-at words n)) (λ e. z (q ∙ e)) in
+    let c = checked-node (want-of want) (kind-at words at) (operand-at words n at) at (drop (at + 1) (nodes-at words n)) (λ e. z (q ∙ e)) in
     subst (λ g. Outcome (nodes-at words n) n at g (Refused f at) work work)
     (sym (ap (scan levels (want-of want) at) (node-here words n (r .sized) at h) ∙ fault-first levels at _ _ (want-of want) _ (c .0) (c .2)))
     (record { answer = ap (λ x. Refused x at) (q ∙ sym (c .1)); kept = kept-same n work })
@@ -171,21 +178,21 @@ unfolding scan
 deep-first at k w want rest kind q = rw q
 
 pub deep-node : (words work : List ℕ) (n at want levels : ℕ) → Readable work words n at → at < n →
-    fault-of want (getD words (2 + at) 0) (getD words (2 + n + at) 0) ≡ 0 → levels ≡ 0 →
-    Outcome (nodes-at words n) n at (scan levels (want-of want) at (drop at (nodes-at words n))) (Refused 6 at) work work
+    fault-of want (kind-at words at) (operand-at words n at) ≡ 0 → levels ≡ 0 →
+    Node-outcome words n at want levels (Refused 6 at) work work
 unfolding fault-of refusal-number
 deep-node words work n at want levels r h q z =
-    let p = passed-node (want-of want) (getD words (2 + at) 0) (getD words (2 + n + at) 0) at (drop (at + 1) (nodes-at words n)) q in
+    let p = passed-node (want-of want) (kind-at words at) (operand-at words n at) at (drop (at + 1) (nodes-at words n)) q in
     subst (λ g. Outcome (nodes-at words n) n at g (Refused 6 at) work work)
     (sym (ap (λ d. scan d (want-of want) at (drop at (nodes-at words n))) z ∙ ap (scan 0 (want-of want) at) (node-here words n (r .sized) at h) ∙ deep-first at _ _ (want-of want) _ (p .0) (p .3)))
     (record { answer = refl; kept = kept-same n work })
 
 -- with its children: the reader goes on with what is wanted of them
 opened-node : (words : List ℕ) (n at want d : ℕ) → length words ≡ 2 + 2 * n → at < n →
-    fault-of want (getD words (2 + at) 0) (getD words (2 + n + at) 0) ≡ 0 →
+    fault-of want (kind-at words at) (operand-at words n at) ≡ 0 →
     scan (suc d) (want-of want) at (drop at (nodes-at words n))
-    ≡ then (scan-list (scan d) (wants-at (getD words (2 + at) 0) (getD words (2 + n + at) 0)) (at + 1) (drop (at + 1) (nodes-at words n)))
-    (λ below. give (node-words (getD words (2 + at) 0) (getD words (2 + n + at) 0) at below))
+    ≡ then (scan-list (scan d) (wants-at (kind-at words at) (operand-at words n at)) (at + 1) (drop (at + 1) (nodes-at words n)))
+    (λ below. give (node-words (kind-at words at) (operand-at words n at) at below))
 unfolding fault-of scan wants-at
 opened-node words n at want d sized h q =
     let k = getD words (2 + at) 0 in
@@ -195,22 +202,16 @@ opened-node words n at want d sized h q =
     ∙ rw (p .3, p .1, number-of k (p .0) (p .1))
     (ap (λ i. then (scan-list (scan d) (child-wants (p .0) w) i (drop (at + 1) (nodes-at words n))) (λ below. give (node-words k w at below))) (sym (add-one at)))
 
--- the children were refused
-finish-refused : (nodes : List Node) (n at k w x p : ℕ) (g : Got (List ℕ)) (r : Scanned) (work work′ : List ℕ) → Outcome nodes n (at + 1) g r work work′ → r ≡ Refused x p →
-    Outcome nodes n at (then g (λ below. give (node-words k w at below))) (Refused x p) work work′
-finish-refused nodes n at k w x p (refused y q) r work work′ o e = record { answer = sym e ∙ o .answer; kept = o .kept }
-finish-refused nodes n at k w x p (got ws j rest) r work work′ o e = absurd (two-answers r j x p (o .answer) e)
-  where
-    two-answers : (r : Scanned) (j x p : ℕ) → r ≡ Next j → r ≡ Refused x p → ⊥
-    two-answers r j x p a b = let z : _≡_ {A = ℕ} 0 1 = cc in omega arith
+-- what was refused stays so, whatever would follow
+refused-then : (nodes : List Node) (n i at x p : ℕ) (g : Got (List ℕ)) (k : List ℕ → Read (List ℕ)) (r : Scanned) (work work′ : List ℕ) → Outcome nodes n i g r work work′ → r ≡ Refused x p →
+    Outcome nodes n at (then g k) (Refused x p) work work′
+refused-then nodes n i at x p (refused y q) k r work work′ o e = record { answer = sym e ∙ o .answer; kept = o .kept }
+refused-then nodes n i at x p (got ws j rest) k r work work′ o e = absurd (two-answers r j x p (o .answer) e)
 
 -- the children were read: the node's own word is put before theirs
 finish-next : (nodes : List Node) (n at k w end : ℕ) (g : Got (List ℕ)) (r : Scanned) (work work′ : List ℕ) → Outcome nodes n (at + 1) g r work work′ → r ≡ Next end →
     Outcome nodes n at (then g (λ below. give (node-words k w at below))) (Next end) work (set work′ at (pack k w end))
 finish-next nodes n at k w end (refused y q) r work work′ o e = absurd (two-answers r end (refusal-number y) q e (o .answer))
-  where
-    two-answers : (r : Scanned) (j x p : ℕ) → r ≡ Next j → r ≡ Refused x p → ⊥
-    two-answers r j x p a b = let z : _≡_ {A = ℕ} 0 1 = cc in omega arith
 finish-next nodes n at k w end (got ws j rest) r work work′ o e =
     record {
       answer = ap Next ends;
@@ -223,9 +224,6 @@ finish-next nodes n at k w end (got ws j rest) r work work′ o e =
       remaining = o .remaining;
     }
   where
-    same-next : (r : Scanned) (i j : ℕ) → r ≡ Next i → r ≡ Next j → i ≡ j
-    same-next r i j a b = cc
-
     ends : end ≡ j
     ends = same-next r end j e (o .answer)
 
@@ -233,45 +231,42 @@ finish-next nodes n at k w end (got ws j rest) r work work′ o e =
     after = omega (arith, o .counted)
 
 -- What `read_node` answers, from what its children's reading did.
-module _ (words work work′ : List ℕ) (n at want levels : ℕ) (r : Scanned) (readable : Readable work words n at) (here : at < n)
-    (sound : fault-of want (getD words (2 + at) 0) (getD words (2 + n + at) 0) ≡ 0) (deep : ¬ (levels ≡ 0)) where
-  abbrev kind-word : ℕ
-  kind-word = getD words (2 + at) 0
+module _ (words work work′ : List ℕ) (n at want levels count : ℕ) (r : Scanned) (readable : Readable work words n at) (here : at < n)
+    (sound : fault-of want (kind-at words at) (operand-at words n at) ≡ 0) (deep : ¬ (levels ≡ 0)) (counted : count ≡ length (wants-at (kind-at words at) (operand-at words n at)))
+    (children : Children-outcome words n (at + 1) (kind-at words at) count (levels - 1) r work work′) where
+  abbrev kind : ℕ
+  kind = kind-at words at
 
-  abbrev operand-word : ℕ
-  operand-word = getD words (2 + n + at) 0
+  abbrev operand : ℕ
+  operand = operand-at words n at
 
   abbrev children-read : Got (List ℕ)
-  children-read = scan-list (scan (levels - 1)) (rest-wants-at kind-word (length (wants-at kind-word operand-word))) (at + 1) (drop (at + 1) (nodes-at words n))
+  children-read = scan-list (scan (levels - 1)) (rest-wants-at kind count) (at + 1) (drop (at + 1) (nodes-at words n))
 
-  opened-here : scan levels (want-of want) at (drop at (nodes-at words n))
-      ≡ then (scan-list (scan (levels - 1)) (rest-wants-at kind-word (length (wants-at kind-word operand-word))) (at + 1) (drop (at + 1) (nodes-at words n)))
-      (λ below. give (node-words kind-word operand-word at below))
+  opened-here : scan levels (want-of want) at (drop at (nodes-at words n)) ≡ then children-read (λ below. give (node-words kind operand at below))
   opened-here =
       ap (λ d. scan d (want-of want) at (drop at (nodes-at words n))) (level levels deep)
       ∙ opened-node words n at want (levels - 1) (readable .sized) here sound
-      ∙ ap (λ l. then (scan-list (scan (levels - 1)) l (at + 1) (drop (at + 1) (nodes-at words n))) (λ below. give (node-words kind-word operand-word at below)))
-      (sym (all-wants kind-word operand-word (passes want kind-word operand-word sound)))
+      ∙ ap (λ l. then (scan-list (scan (levels - 1)) l (at + 1) (drop (at + 1) (nodes-at words n))) (λ below. give (node-words kind operand at below)))
+      (sym (ap (rest-wants-at kind) counted ∙ all-wants kind operand (passes want kind operand sound)))
     where
       level : (d : ℕ) → ¬ (d ≡ 0) → d ≡ suc (d - 1)
       level d z = omega (arith, z)
 
-  pub node-refused : (x p : ℕ) →
-      Outcome (nodes-at words n) n (at + 1) (scan-list (scan (levels - 1)) (rest-wants-at kind-word (length (wants-at kind-word operand-word))) (at + 1) (drop (at + 1) (nodes-at words n))) r work work′ →
-      r ≡ Refused x p → Outcome (nodes-at words n) n at (scan levels (want-of want) at (drop at (nodes-at words n))) (Refused x p) work work′
-  node-refused x p o e =
-      subst (λ g. Outcome (nodes-at words n) n at g (Refused x p) work work′) (sym opened-here) (finish-refused (nodes-at words n) n at kind-word operand-word x p children-read r work work′ o e)
+  pub node-refused : (x p : ℕ) → r ≡ Refused x p → Node-outcome words n at want levels (Refused x p) work work′
+  node-refused x p e =
+      subst (λ g. Outcome (nodes-at words n) n at g (Refused x p) work work′) (sym opened-here)
+      (refused-then (nodes-at words n) n (at + 1) at x p children-read (λ below. give (node-words kind operand at below)) r work work′ children e)
 
-  pub node-next : (end : ℕ) →
-      Outcome (nodes-at words n) n (at + 1) (scan-list (scan (levels - 1)) (rest-wants-at kind-word (length (wants-at kind-word operand-word))) (at + 1) (drop (at + 1) (nodes-at words n))) r work work′ →
-      r ≡ Next end → Outcome (nodes-at words n) n at (scan levels (want-of want) at (drop at (nodes-at words n))) (Next end) work (set work′ at (pack kind-word operand-word end))
-  node-next end o e =
-      subst (λ g. Outcome (nodes-at words n) n at g (Next end) work (set work′ at (pack kind-word operand-word end))) (sym opened-here) (finish-next (nodes-at words n) n at kind-word operand-word end children-read r work work′ o e)
+  pub node-next : (end : ℕ) → r ≡ Next end → Node-outcome words n at want levels (Next end) work (set work′ at (pack kind operand end))
+  node-next end e =
+      subst (λ g. Outcome (nodes-at words n) n at g (Next end) work (set work′ at (pack kind operand end))) (sym opened-here)
+      (finish-next (nodes-at words n) n at kind operand end children-read r work work′ children e)
 
 -- ---- Reading children.
 
 pub no-children : (words work : List ℕ) (n at kind left levels : ℕ) → Readable work words n at → left ≡ 0 →
-    Outcome (nodes-at words n) n at (scan-list (scan levels) (rest-wants-at kind left) at (drop at (nodes-at words n))) (Next at) work work
+    Children-outcome words n at kind left levels (Next at) work work
 unfolding rest-wants-at scan-list
 no-children words work n at kind left levels r z =
     subst (λ g. Outcome (nodes-at words n) n at g (Next at) work work)
@@ -288,38 +283,21 @@ unfolding rest-wants-at scan-list
 first-child kind left want levels at ns k w = rw (k .known, w .head (k .which) (k .known))
 
 pub child-refused : (words work work′ : List ℕ) (n at kind left want levels x p : ℕ) (r : Scanned) → KindKnown kind → WantedAt kind left want →
-    Outcome (nodes-at words n) n at (scan levels (want-of want) at (drop at (nodes-at words n))) r work work′ → r ≡ Refused x p →
-    Outcome (nodes-at words n) n at (scan-list (scan levels) (rest-wants-at kind left) at (drop at (nodes-at words n))) (Refused x p) work work′
+    Node-outcome words n at want levels r work work′ → r ≡ Refused x p →
+    Children-outcome words n at kind left levels (Refused x p) work work′
 child-refused words work work′ n at kind left want levels x p r k w o e =
     subst (λ g. Outcome (nodes-at words n) n at g (Refused x p) work work′) (sym (first-child kind left want levels at (drop at (nodes-at words n)) k w))
-    (by (scan levels (want-of want) at (drop at (nodes-at words n))) o)
-  where
-    two-answers : (r : Scanned) (j x p : ℕ) → r ≡ Next j → r ≡ Refused x p → ⊥
-    two-answers r j x p a b = let z : _≡_ {A = ℕ} 0 1 = cc in omega arith
-
-    by : (g : Got (List ℕ)) → Outcome (nodes-at words n) n at g r work work′ →
-        Outcome (nodes-at words n) n at (then g (λ a. scan-list (scan levels) (rest-wants-at kind (left - 1)) >>= λ b. give (a ++ b))) (Refused x p) work work′
-    by (refused y q) o = record { answer = sym e ∙ o .answer; kept = o .kept }
-    by (got ws j rest) o = absurd (two-answers r j x p (o .answer) e)
-
-appended : (a b : List ℕ) → length (a ++ b) ≡ length a + length b
-appended a b = length-append a b
+    (refused-then (nodes-at words n) n at at x p (scan levels (want-of want) at (drop at (nodes-at words n))) (λ a. scan-list (scan levels) (rest-wants-at kind (left - 1)) >>= λ b. give (a ++ b)) r work work′ o e)
 
 -- A child was read, and then the others.
 pub child-next : (words work work′ work″ : List ℕ) (n at kind left want levels next : ℕ) (r s : Scanned) → KindKnown kind → WantedAt kind left want →
-    Outcome (nodes-at words n) n at (scan levels (want-of want) at (drop at (nodes-at words n))) r work work′ → r ≡ Next next →
-    Outcome (nodes-at words n) n next (scan-list (scan levels) (rest-wants-at kind (left - 1)) next (drop next (nodes-at words n))) s work′ work″ →
-    Outcome (nodes-at words n) n at (scan-list (scan levels) (rest-wants-at kind left) at (drop at (nodes-at words n))) s work work″
+    Node-outcome words n at want levels r work work′ → r ≡ Next next →
+    Children-outcome words n next kind (left - 1) levels s work′ work″ →
+    Children-outcome words n at kind left levels s work work″
 child-next words work work′ work″ n at kind left want levels next r s k w o e others =
     subst (λ g. Outcome (nodes-at words n) n at g s work work″) (sym (first-child kind left want levels at (drop at (nodes-at words n)) k w))
     (by (scan levels (want-of want) at (drop at (nodes-at words n))) o)
   where
-    two-answers : (r : Scanned) (j x p : ℕ) → r ≡ Next j → r ≡ Refused x p → ⊥
-    two-answers r j x p a b = let z : _≡_ {A = ℕ} 0 1 = cc in omega arith
-
-    same-next : (r : Scanned) (i j : ℕ) → r ≡ Next i → r ≡ Next j → i ≡ j
-    same-next r i j a b = cc
-
     join : (ws : List ℕ) (rest : List Node) → Read-on (nodes-at words n) n at ws next rest r work work′ → (g : Got (List ℕ)) → Outcome (nodes-at words n) n next g s work′ work″ →
         Outcome (nodes-at words n) n at (then g (λ b. give (ws ++ b))) s work work″
     join ws rest a (refused y q) b =
@@ -334,7 +312,7 @@ child-next words work work′ work″ n at kind left want levels next r s k w o 
         record {
           answer = b .answer;
           written = b .written ∙ ap (λ v. put next vs v) (a .written) ∙ ap (λ i. put i vs (put at ws work)) (a .counted) ∙ put-append at ws vs work;
-          counted = omega (arith, a .counted, b .counted, Rattle.reader.proofs.ReadLaws.appended ws vs);
+          counted = omega (arith, a .counted, b .counted, length-append ws vs);
           within = b .within;
           remaining = b .remaining;
         }
@@ -362,15 +340,9 @@ child-readable words work n at r h = record { sized = r .sized; few = r .few; ro
 
 -- after a child, at the next place
 pub later-readable : (words work work′ : List ℕ) (n at levels want next : ℕ) (r : Scanned) → Readable work words n at →
-    Outcome (nodes-at words n) n at (scan levels (want-of want) at (drop at (nodes-at words n))) r work work′ → r ≡ Next next → Readable work′ words n next
+    Node-outcome words n at want levels r work work′ → r ≡ Next next → Readable work′ words n next
 later-readable words work work′ n at levels want next r readable o e = by (scan levels (want-of want) at (drop at (nodes-at words n))) o
   where
-    two-answers : (r : Scanned) (j x p : ℕ) → r ≡ Next j → r ≡ Refused x p → ⊥
-    two-answers r j x p a b = let z : _≡_ {A = ℕ} 0 1 = cc in omega arith
-
-    same-next : (r : Scanned) (i j : ℕ) → r ≡ Next i → r ≡ Next j → i ≡ j
-    same-next r i j a b = cc
-
     by : (g : Got (List ℕ)) → Outcome (nodes-at words n) n at g r work work′ → Readable work′ words n next
     by (refused y q) o = absurd (two-answers r next (refusal-number y) q e (o .answer))
     by (got ws j rest) o =
@@ -381,12 +353,10 @@ later-readable words work work′ n at levels want next r readable o e = by (sca
           within = omega (arith, o .within, same-next r next j e (o .answer));
         }
 
-pub end-within : (nodes : List Node) (n at end : ℕ) (g : Got (List ℕ)) (r : Scanned) (work work′ : List ℕ) → Outcome nodes n at g r work work′ → r ≡ Next end → end ≤ n
-end-within nodes n at end (refused y q) r work work′ o e = absurd (two-answers r end (refusal-number y) q e (o .answer))
+-- where the children end
+pub end-within : (words work work′ : List ℕ) (n at kind left levels end : ℕ) (r : Scanned) → Children-outcome words n at kind left levels r work work′ → r ≡ Next end → end ≤ n
+end-within words work work′ n at kind left levels end r o e = by (scan-list (scan levels) (rest-wants-at kind left) at (drop at (nodes-at words n))) o
   where
-    two-answers : (r : Scanned) (j x p : ℕ) → r ≡ Next j → r ≡ Refused x p → ⊥
-    two-answers r j x p a b = let z : _≡_ {A = ℕ} 0 1 = cc in omega arith
-end-within nodes n at end (got ws j rest) r work work′ o e = omega (arith, o .within, same-next r end j e (o .answer))
-  where
-    same-next : (r : Scanned) (i j : ℕ) → r ≡ Next i → r ≡ Next j → i ≡ j
-    same-next r i j a b = cc
+    by : (g : Got (List ℕ)) → Outcome (nodes-at words n) n at g r work work′ → end ≤ n
+    by (refused y q) o = absurd (two-answers r end (refusal-number y) q e (o .answer))
+    by (got ws j rest) o = omega (arith, o .within, same-next r end j e (o .answer))

@@ -1,15 +1,16 @@
 -- The code's tables hold what the table of kinds says, proved at all rows by one test that is computed. Assumes nothing.
 use Prim.Native.Nat.{ℕ, zero, suc, _+_, _*_, _<_}
 use mathlib.Core.Path.{_≡_, refl, sym, ap, _∙_, subst}
-use mathlib.Core.Bool.{Bool, true, false, cond, not, _&&_}
+use mathlib.Core.Bool.{Bool, true, false, not, _&&_}
 use mathlib.Core.List.{List, [], _∷_}
 use mathlib.Core.Option.{Option, none, some}
 use native.Mathlib.Omega.{arith}
+use native.Mathlib.Nat.{not-suc-le-zero}
 use lib.Dec.{T, eqb, eqb→eq, eqb-refl}
-use lib.ListN.{length, getD}
+use lib.ListN.{getD}
 use Rattle.rules.specs.Basics.{and-left, and-right}
 use Rattle.rules.specs.Kinds.{Kind, kind-of, operand-bound, num, boo, id, deref, valref, binary, negation, assign, loop, cseq, blk, call, bind, dseq, expression-kind, command-kind, declaration-kind, ref, abs, formal}
-use Rattle.reader.specs.Scan.{Want, an-expression, a-command, a-declaration, a-bound, a-formal, a-block, a-root, accepts, child-wants}
+use Rattle.reader.specs.Scan.{Want, an-expression, a-command, a-declaration, a-bound, a-formal, a-block, a-root, accepts}
 use Rattle.reader.specs.Tables.{want-of, first-want, last-want}
 
 -- The tables, as the source has them.
@@ -47,10 +48,7 @@ all-below f zero = true
 all-below f (suc n) = f n && all-below f n
 
 pub at-each : (f : ℕ → Bool) (n : ℕ) → T (all-below f n) → (k : ℕ) → k < n → T (f k)
-at-each f zero t k h = absurd (never h)
-  where
-    never : k < 0 → ⊥
-    never g = omega arith
+at-each f zero t k h = absurd (not-suc-le-zero h)
 at-each f (suc n) t k h = choose (eqb k n) refl (at-each f n (and-right (f n) (all-below f n) t) k)
   where
     choose : (b : Bool) → eqb k n ≡ b → (k < n → T (f k)) → T (f k)
@@ -112,8 +110,6 @@ pub record RowOf (k : ℕ) (kind : Kind) : Type 0 where
   pub counted : getD counts k 0 ≡ static-count kind
   pub first : want-of (getD firsts k 0) ≡ first-want kind
   pub last : want-of (getD lasts k 0) ≡ last-want kind
-  pub first-low : getD firsts k 0 < 7
-  pub last-low : getD lasts k 0 < 7
 
 want-back : (w : Want) → want-of (want-number w) ≡ w
 want-back an-expression = refl
@@ -123,15 +119,6 @@ want-back a-bound = refl
 want-back a-formal = refl
 want-back a-block = refl
 want-back a-root = refl
-
-want-low : (w : Want) → want-number w < 7
-want-low an-expression = omega arith
-want-low a-command = omega arith
-want-low a-declaration = omega arith
-want-low a-bound = omega arith
-want-low a-formal = omega arith
-want-low a-block = omega arith
-want-low a-root = omega arith
 
 row-some : (k : ℕ) (kind : Kind) → T (row-by k (some kind)) → RowOf k kind
 row-some k kind t =
@@ -147,8 +134,6 @@ row-some k kind t =
       counted = eqb→eq (getD counts k 0) (static-count kind) (and-left (eqb (getD counts k 0) (static-count kind)) _ t₃);
       first = ap want-of f ∙ want-back (first-want kind);
       last = ap want-of l ∙ want-back (last-want kind);
-      first-low = subst (λ j. j < 7) (sym f) (want-low (first-want kind));
-      last-low = subst (λ j. j < 7) (sym l) (want-low (last-want kind));
     }
 
 -- The row of a number below 43: no kind and bound 0, or a kind and its row.

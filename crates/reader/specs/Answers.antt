@@ -1,8 +1,8 @@
 -- What the reader's functions answer, by the definitions of the rules. Assumes nothing.
-use Prim.Native.Nat.{ℕ, suc, _+_, _*_, _≤_}
+use Prim.Native.Nat.{ℕ, _+_, _*_, _≤_}
 use mathlib.Core.Path.{_≡_}
 use mathlib.Core.List.{List}
-use mathlib.Core.Option.{Option, none, some}
+use mathlib.Core.Option.{some}
 use lib.Dec.{T}
 use lib.ListN.{length, take, drop}
 use Rattle.rules.specs.Refusals.{Refusal, refusal-number}

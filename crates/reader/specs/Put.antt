@@ -1,9 +1,9 @@
 -- A run of words written over others from a place on. Assumes nothing.
 use Prim.Native.Nat.{ℕ, zero, suc, _+_, _≤_, _<_}
-use mathlib.Core.Path.{_≡_, refl, sym, ap, _∙_, subst}
+use mathlib.Core.Path.{_≡_, refl, sym, ap, _∙_}
 use mathlib.Core.List.{List, [], _∷_, _++_}
 use native.Mathlib.Omega.{arith}
-use native.Mathlib.Nat.{zero-add, suc-add, add-suc, add-zero}
+use native.Mathlib.Nat.{zero-add, suc-add}
 use lib.ListN.{length, getD, drop, set}
 
 unfoldable pub put : (place : ℕ) → (new : List ℕ) → List ℕ → List ℕ

@@ -1,102 +1,109 @@
+-- `read_image` answers what the rules' reader reads of the image. In a need's answer, `start` is where the function begins, `long` the test
+-- for two words, `size` the test of the image's length, `root` the call of read_node, `arm` the arm of the match. Assumes nothing.
 use native.Mathlib.Omega.{arith}
 use denote.Ref.{now}
 use Rattle.reader.proofs.ImageLaws.{short, refuse-empty, refuse-nodes, refuse-registers, refuse-length, whole-image, left-over, refused-image}
 use borrow.Author.Needs.{needs}
 use Rattle.reader.proofs.read_image.Statement.{statement}
 use Rattle.reader.proofs.read_image.Tie as tie
-use Rattle.reader.proofs.read_image.Reads as reads
-use Rattle.reader.proofs.read_image.Lts as lts
-use Rattle.reader.proofs.read_node.Reads as read-node-reads
 
--- src/lib.rt:167:9
 returns : tie.Need-returns
 returns c =
-    short (now (c .before .before .before .args .image)) (now (c .before .before .before .args .work)) (c .if1 .taken)
+    let start = c .before .before .before in
+    short (now (start .args .image)) (now (start .args .work)) (c .if1 .taken)
 
--- src/lib.rt:169:13
 shared-slice-read-n : tie.Need-shared-slice-read-n
 shared-slice-read-n c = search needs
 
--- src/lib.rt:169:13
 cast-n : tie.Need-cast-n
-cast-n c =
-    omega (arith, (c .shared-slice-known2 .given 0))
+cast-n c = omega (arith, c .shared-slice-known2 .given 0)
 
--- src/lib.rt:170:21
 shared-slice-read-registers : tie.Need-shared-slice-read-registers
 shared-slice-read-registers c = search needs
 
--- src/lib.rt:170:21
 cast-registers : tie.Need-cast-registers
-cast-registers c =
-    omega (arith, (c .shared-slice-known3 .given 1))
+cast-registers c = omega (arith, c .shared-slice-known3 .given 1)
 
--- src/lib.rt:172:9
 returns-2 : tie.Need-returns-2
 returns-2 c =
-    refuse-empty (now (c .before .before .before .before .before .before .args .image)) (now (c .before .before .before .before .before .before .args .work)) (c .before .before .before .if1 .left) (c .if2 .taken)
+    let long = c .before .before .before in
+    let start = long .before .before .before in
+    refuse-empty (now (start .args .image)) (now (start .args .work)) (long .if1 .left) (c .if2 .taken)
 
--- src/lib.rt:175:9
 returns-3 : tie.Need-returns-3
 returns-3 c =
-    refuse-nodes (now (c .before .before .before .before .before .before .before .args .image)) (now (c .before .before .before .before .before .before .before .args .work)) (c .before .before .before .before .if1 .left) (c .if3 .taken)
+    let long = c .before .before .before .before in
+    let start = long .before .before .before in
+    refuse-nodes (now (start .args .image)) (now (start .args .work)) (long .if1 .left) (c .if3 .taken)
 
--- src/lib.rt:178:9
 returns-4 : tie.Need-returns-4
 returns-4 c =
-    refuse-registers (now (c .before .before .before .before .before .before .before .before .args .image)) (now (c .before .before .before .before .before .before .before .before .args .work)) (c .before .before .before .before .before .if1 .left) (c .if4 .taken)
+    let long = c .before .before .before .before .before in
+    let start = long .before .before .before in
+    refuse-registers (now (start .args .image)) (now (start .args .work)) (long .if1 .left) (c .if4 .taken)
 
--- src/lib.rt:180:27
 mul-if5 : tie.Need-mul-if5
 mul-if5 c = search needs
 
--- src/lib.rt:180:23
 add-if5 : tie.Need-add-if5
 add-if5 c = search needs
 
--- src/lib.rt:181:9
 returns-5 : tie.Need-returns-5
 returns-5 c =
-    refuse-length (now (c .before .before .before .before .before .before .before .before .before .args .image)) (now (c .before .before .before .before .before .before .before .before .before .args .work)) (c .before .before .before .before .before .before .if1 .left) (c .before .before .before .if2 .left) (c .before .before .if3 .left) (c .before .if4 .left) (c .if5 .taken)
+    let long = c .before .before .before .before .before .before in
+    let start = long .before .before .before in
+    refuse-length (now (start .args .image)) (now (start .args .work)) (long .if1 .left) (c .before .before .before .if2 .left) (c .before .before .if3 .left) (c .before .if4 .left) (c .if5 .taken)
 
--- src/lib.rt:183:9
 read-node-requires : tie.Need-read-node-requires
 read-node-requires c κs = search needs
 
--- src/lib.rt:185:23
 enum-known-root : tie.Need-enum-known-root
 enum-known-root c = search needs
 
--- src/lib.rt:192:26
 enum-known-root-2 : tie.Need-enum-known-root-2
 enum-known-root-2 c = search needs
 
--- src/lib.rt:162:1
 same-length : tie.Need-same-length
 same-length c = search needs
 
--- src/lib.rt:162:1
 returns-6 : tie.Need-returns-6
 returns-6 c =
-    whole-image (now (c .before .before .before .before .before .before .before .before .before .before .before .before .before .before .before .before .before .args .image)) (now (c .before .before .before .before .before .before .before .before .before .before .before .before .before .before .before .before .before .args .work)) (c .before .before .before .before .before .before .read-node .last .0) (c .before .before .before .before .before .before .read-node .result) (c .before .before .before .before .before .before .before .before .before .before .before .before .before .before .if1 .left) (c .before .before .before .before .before .before .before .before .before .before .before .if2 .left) (c .before .before .before .before .before .before .before .before .before .before .if3 .left) (c .before .before .before .before .before .before .before .before .before .if4 .left) (c .before .before .before .before .before .before .before .before .if5 .left) (c .before .before .root .given .0 .0) (c .before .before .root .given .1) (c .if6 .taken) (c .before .before .before .before .before .before .read-node .ensures)
+    let arm = c .before .before in
+    let root = arm .before .before .before .before in
+    let size = root .before .before in
+    let long = size .before .before .before .before .before .before in
+    let start = long .before .before .before in
+    whole-image (now (start .args .image)) (now (start .args .work)) (root .read-node .last .0) (root .read-node .result)
+    (long .if1 .left) (size .before .before .before .if2 .left) (size .before .before .if3 .left) (size .before .if4 .left) (size .if5 .left)
+    (arm .root .given .0 .0) (arm .root .given .1) (c .if6 .taken) (root .read-node .ensures)
 
--- src/lib.rt:162:1
 same-length-2 : tie.Need-same-length-2
 same-length-2 c = search needs
 
--- src/lib.rt:162:1
 returns-7 : tie.Need-returns-7
 returns-7 c =
-    left-over (now (c .before .before .before .before .before .before .before .before .before .before .before .before .before .before .before .before .before .args .image)) (now (c .before .before .before .before .before .before .before .before .before .before .before .before .before .before .before .before .before .args .work)) (c .before .before .before .before .before .before .read-node .last .0) (c .before .before .before .before .before .before .read-node .result) (c .before .before .before .before .before .before .before .before .before .before .before .before .before .before .if1 .left) (c .before .before .before .before .before .before .before .before .before .before .before .if2 .left) (c .before .before .before .before .before .before .before .before .before .before .if3 .left) (c .before .before .before .before .before .before .before .before .before .if4 .left) (c .before .before .before .before .before .before .before .before .if5 .left) (c .before .before .root .given .0 .0) (c .before .before .root .given .1) (c .if6 .left) (c .before .before .before .before .before .before .read-node .ensures)
+    let arm = c .before .before in
+    let root = arm .before .before .before .before in
+    let size = root .before .before in
+    let long = size .before .before .before .before .before .before in
+    let start = long .before .before .before in
+    left-over (now (start .args .image)) (now (start .args .work)) (root .read-node .last .0) (root .read-node .result)
+    (long .if1 .left) (size .before .before .before .if2 .left) (size .before .before .if3 .left) (size .before .if4 .left) (size .if5 .left)
+    (arm .root .given .0 .0) (arm .root .given .1) (c .if6 .left) (root .read-node .ensures)
 
--- src/lib.rt:162:1
 same-length-3 : tie.Need-same-length-3
 same-length-3 c = search needs
 
--- src/lib.rt:162:1
 returns-8 : tie.Need-returns-8
 returns-8 c =
-    refused-image (now (c .before .before .before .before .before .before .before .before .before .before .before .before .before .before .before .before .args .image)) (now (c .before .before .before .before .before .before .before .before .before .before .before .before .before .before .before .before .args .work)) (c .before .before .before .before .before .read-node .last .0) (c .before .before .before .before .before .read-node .result) (c .before .before .before .before .before .before .before .before .before .before .before .before .before .if1 .left) (c .before .before .before .before .before .before .before .before .before .before .if2 .left) (c .before .before .before .before .before .before .before .before .before .if3 .left) (c .before .before .before .before .before .before .before .before .if4 .left) (c .before .before .before .before .before .before .before .if5 .left) (c .before .root2 .given .0 .0) (c .before .root2 .given .0 .1 .0) (c .before .root2 .given .1) (c .before .before .before .before .before .read-node .ensures)
+    let arm = c .before in
+    let root = arm .before .before .before .before in
+    let size = root .before .before in
+    let long = size .before .before .before .before .before .before in
+    let start = long .before .before .before in
+    refused-image (now (start .args .image)) (now (start .args .work)) (root .read-node .last .0) (root .read-node .result)
+    (long .if1 .left) (size .before .before .before .if2 .left) (size .before .before .if3 .left) (size .before .if4 .left) (size .if5 .left)
+    (arm .root2 .given .0 .0) (arm .root2 .given .0 .1 .0) (arm .root2 .given .1) (root .read-node .ensures)
 
 pub read-image-spec : {M : Type 1} → statement M
 read-image-spec =
