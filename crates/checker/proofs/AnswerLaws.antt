@@ -8,10 +8,10 @@ use Rattle.checker.specs.Answers.{answer, code-answer, fine-answer}
 use Rattle.checker.specs.declared.Answer.{Answer}
 use Rattle.checker.specs.declared.Answer.the-variants.{Is, Fault}
 
-two-answers : (r : Answer) (a x p : ℕ) → r ≡ Is a → r ≡ Fault x p → ⊥
+pub two-answers : (r : Answer) (a x p : ℕ) → r ≡ Is a → r ≡ Fault x p → ⊥
 two-answers r a x p g h = let z : _≡_ {A = ℕ} 0 1 = cc in omega arith
 
-same-is : (r : Answer) (a b : ℕ) → r ≡ Is a → r ≡ Is b → a ≡ b
+pub same-is : (r : Answer) (a b : ℕ) → r ≡ Is a → r ≡ Is b → a ≡ b
 same-is r a b g h = cc
 
 -- A fault stays the fault.

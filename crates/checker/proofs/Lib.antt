@@ -1,4 +1,7 @@
+mod ActualLaws
 mod AnswerLaws
+mod AssignLaws
+mod CallLaws
 mod CodeLaws
 mod ExpressionLaws
 mod NameLaws

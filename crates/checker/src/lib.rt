@@ -1,4 +1,6 @@
-// Scope and types of an image that was read.
+// Scope and types of an image that was read: the scope, and expressions.
+mod commands;
+
 ghost use mathlib.Core.Path.{_≡_};
 ghost use Prim.Native.Nat.{_<_, _≤_};
 ghost use lib.ListN.{length};

@@ -1,0 +1,90 @@
+-- What the checker's functions answer about commands, declarations and what they bind, and which work words they leave alone.
+-- Assumes nothing.
+use Prim.Native.Nat.{ℕ, suc, _+_, _*_, _<_, _≤_}
+use mathlib.Core.Path.{_≡_}
+use mathlib.Core.List.{List, []}
+use lib.ListN.{length, getD}
+use Rattle.rules.specs.Refusals.{Refusal, refusal-number}
+use Rattle.rules.specs.Limits.{names}
+use Rattle.rules.specs.Tree.{Formal, Expression, Command, Assign, Call, Block, Declaration, Bound}
+use Rattle.rules.specs.Checker.{Meaning, Scope, Judged, fault, fine, Fine, ok, same-codes, distinct, with-formals, expression-codes, command-ok, block-ok, declaration-gives, bound-means}
+use Rattle.reader.specs.Stored.{HasWord, StoredExpression, StoredActuals, StoredFormals, StoredCommand, StoredBlock, StoredDeclaration, StoredBound}
+use Rattle.checker.specs.Rows.{Rows, ScopeAt}
+use Rattle.checker.specs.Answers.{answer, fine-answer, meaning-answer, ExpressionAt}
+use Rattle.checker.specs.declared.Answer.{Answer}
+use Rattle.checker.specs.declared.Answer.the-variants.{Is, Fault}
+
+-- The words below a node's row, and those from 4,000 on, are as they were.
+pub record Kept (words words′ : List ℕ) (node : ℕ) : Type 0 where
+  pub same-length : length words′ ≡ length words
+  pub same-below : (i : ℕ) → i < 2000 + node → getD words′ i 0 ≡ getD words i 0
+  pub same-beyond : (i : ℕ) → 4000 ≤ i → getD words′ i 0 ≡ getD words i 0
+
+-- Some expressions, one after the other from a node on.
+pub record ActualsAt (words : List ℕ) (node count : ℕ) (es : List Expression) : Type 0 where
+  pub depth : ℕ
+  pub next : ℕ
+  pub stored : StoredActuals words depth node next es
+  pub number : length es ≡ count
+
+-- Some Formals, one after the other from a node on.
+pub record FormalsAt (words : List ℕ) (node count : ℕ) (fs : List Formal) : Type 0 where
+  pub next : ℕ
+  pub stored : StoredFormals words node next fs
+  pub number : length fs ≡ count
+
+pub record AssignAt (words : List ℕ) (node x : ℕ) (e : Expression) : Type 0 where
+  pub end : ℕ
+  pub name-low : x < names
+  pub word : HasWord words node 20 x end
+  pub value : ExpressionAt words (node + 1) e
+
+pub record CallAt (words : List ℕ) (node x : ℕ) (es : List Expression) : Type 0 where
+  pub end : ℕ
+  pub count : ℕ
+  pub name-low : x < names
+  pub word : HasWord words node 24 (x + names * count) end
+  pub actuals : ActualsAt words (node + 1) count es
+
+pub record CommandAt (words : List ℕ) (node : ℕ) (c : Command) : Type 0 where
+  pub depth : ℕ
+  pub next : ℕ
+  pub stored : StoredCommand words depth node next c
+
+pub record BlockAt (words : List ℕ) (node : ℕ) (b : Block) : Type 0 where
+  pub depth : ℕ
+  pub next : ℕ
+  pub stored : StoredBlock words depth node next b
+
+pub record DeclarationAt (words : List ℕ) (node next : ℕ) (d : Declaration) : Type 0 where
+  pub depth : ℕ
+  pub stored : StoredDeclaration words depth node next d
+
+pub record BoundAt (words : List ℕ) (node : ℕ) (b : Bound) : Type 0 where
+  pub depth : ℕ
+  pub next : ℕ
+  pub stored : StoredBound words depth node next b
+
+-- The expressions' codes are all there, or the first fault.
+abbrev pub CodesAt : List ℕ → (registers scope node count : ℕ) → Answer → Type 0
+CodesAt words registers scope node count r =
+    (es : List Expression) (Γ : Scope) → ActualsAt words node count es → ScopeAt words registers scope Γ → r ≡ answer (λ cs. 0) (expression-codes Γ es)
+
+-- Whether the expressions' codes are those of the Formals.
+abbrev pub AgreesAt : List ℕ → (registers scope place node formal count : ℕ) → Answer → Type 0
+AgreesAt words registers scope place node formal count r =
+    (es : List Expression) (fs : List Formal) (cs : List ℕ) (Γ : Scope) → ActualsAt words node count es → FormalsAt words formal count fs → ScopeAt words registers scope Γ →
+    expression-codes Γ es ≡ fine cs → r ≡ fine-answer (same-codes place fs cs)
+
+abbrev pub CallsAt : List ℕ → (registers scope node : ℕ) → Answer → Type 0
+CallsAt words registers scope node r =
+    (x : ℕ) (es : List Expression) (Γ : Scope) → CallAt words node x es → ScopeAt words registers scope Γ → r ≡ fine-answer (command-ok Γ (Call node x es))
+
+abbrev pub AssignsAt : List ℕ → (registers scope node : ℕ) → Answer → Type 0
+AssignsAt words registers scope node r =
+    (x : ℕ) (e : Expression) (Γ : Scope) → AssignAt words node x e → ScopeAt words registers scope Γ → r ≡ fine-answer (command-ok Γ (Assign node x e))
+
+-- A pointer at the newest of some names, down to a pointer before them and below a node; or the first fault.
+pub data NamesFrom (words : List ℕ) (to node : ℕ) : Judged Scope → Answer → Type 0 where
+  names-from : {t : ℕ} {Δ : Scope} → Rows words t to Δ → t ≤ node → NamesFrom words to node (fine Δ) (Is t)
+  names-fault : {r : Refusal} {p : ℕ} → NamesFrom words to node (fault r p) (Fault (refusal-number r) p)

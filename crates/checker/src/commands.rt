@@ -1,0 +1,137 @@
+// Commands, declarations and what they bind: scope and types.
+ghost use mathlib.Core.Path.{_≡_};
+ghost use mathlib.Core.List.{List};
+ghost use Prim.Native.Nat.{ℕ, _<_, _≤_};
+ghost use lib.ListN.{length};
+ghost use Rattle.rules.specs.Tree.{Expression, Formal};
+ghost use Rattle.rules.specs.Checker.{Scope, Meaning, fine, assignable, same-code, ref-code, expression-codes};
+ghost use Rattle.checker.specs.Rows.{Rows, ScopeAt};
+ghost use Rattle.checker.specs.Answers.{code-answer, fine-answer, meaning-answer, Numbered, ExpressionAt};
+ghost use Rattle.checker.specs.Commands.{ActualsAt, FormalsAt, AssignAt, AssignsAt, CallAt, CallsAt, CodesAt, AgreesAt};
+
+use reader::{end, kind, operand};
+use crate::{Answer, Found, expression, lookup, meaning};
+
+// Assign: the code of the value that a name of this meaning takes.
+fn assigned_code(node: usize, number: usize) -> Answer
+    ensures { λ r. ⌜ ((m : Meaning) → Numbered number m → r ≡ code-answer (assignable node m)) ⌝ }
+{
+    if number == 2 {
+        return Answer::Is(0);
+    }
+    if number == 3 {
+        return Answer::Is(1);
+    }
+    Answer::Fault(13, node)
+}
+
+// The codes have to be the same.
+fn same(node: usize, wanted: usize, given: usize) -> Answer
+    ensures { λ r. ⌜ r ≡ fine-answer (same-code node wanted given) ⌝ }
+{
+    if wanted != given {
+        return Answer::Fault(11, node);
+    }
+    Answer::Is(0)
+}
+
+// Ref: the code of a location for a value of this code.
+fn location_code(node: usize, code: usize) -> Answer
+    ensures { λ r. ⌜ r ≡ meaning-answer (ref-code node code) ⌝ }
+{
+    if 5 < code {
+        return Answer::Fault(11, node);
+    }
+    Answer::Is(code + 2)
+}
+
+// Assign.
+fn assignment(work: &[u64], registers: usize, scope: usize, node: usize) -> Answer
+    requires { ⌜ 4000 ≤ length (now work) ⌝ }
+    requires { ⌜ ((Γ : Scope) × ScopeAt (now work) registers scope Γ) ⌝ }
+    requires { ⌜ ((x : ℕ) × (e : Expression) × AssignAt (now work) node x e) ⌝ }
+    ensures { λ r. ⌜ AssignsAt (now (work .entry)) registers scope node r ⌝ }
+{
+    let given = expression(work, registers, scope, node + 1);
+    let Answer::Is(code) = given else {
+        return given;
+    };
+    let name = operand(work, node);
+    let bound = meaning(work, registers, scope, node, name);
+    let Answer::Is(number) = bound else {
+        return bound;
+    };
+    let target = assigned_code(node, number);
+    let Answer::Is(wanted) = target else {
+        return target;
+    };
+    same(node, wanted, code)
+}
+
+// A Call's actuals: the first fault among them, if there is one.
+fn actuals(work: &[u64], registers: usize, scope: usize, node: usize, count: usize) -> Answer
+    requires { ⌜ 4000 ≤ length (now work) ⌝ }
+    requires { ⌜ ((Γ : Scope) × ScopeAt (now work) registers scope Γ) ⌝ }
+    requires { ⌜ ((es : List Expression) × ActualsAt (now work) node count es) ⌝ }
+    ensures { λ r. ⌜ CodesAt (now (work .entry)) registers scope node count r ⌝ }
+{
+    if count == 0 {
+        return Answer::Is(0);
+    }
+    let first = expression(work, registers, scope, node);
+    let Answer::Is(code) = first else {
+        return first;
+    };
+    let next = end(work, node);
+    actuals(work, registers, scope, next, count - 1)
+}
+
+// The actuals' codes against the Formals'.
+fn agreement(work: &[u64], registers: usize, scope: usize, place: usize, node: usize, formal: usize, count: usize) -> Answer
+    requires { ⌜ 4000 ≤ length (now work) ⌝ }
+    requires { ⌜ ((Γ : Scope) × ScopeAt (now work) registers scope Γ) ⌝ }
+    requires { ⌜ ((es : List Expression) × ActualsAt (now work) node count es) ⌝ }
+    requires { ⌜ ((fs : List Formal) × FormalsAt (now work) formal count fs) ⌝ }
+    ensures { λ r. ⌜ AgreesAt (now (work .entry)) registers scope place node formal count r ⌝ }
+{
+    if count == 0 {
+        return Answer::Is(0);
+    }
+    let first = expression(work, registers, scope, node);
+    let Answer::Is(code) = first else {
+        return first;
+    };
+    let word = operand(work, formal);
+    let agrees = same(place, word / 64, code);
+    let Answer::Is(done) = agrees else {
+        return agrees;
+    };
+    let next = end(work, node);
+    agreement(work, registers, scope, place, next, formal + 1, count - 1)
+}
+
+// Call.
+fn call(work: &[u64], registers: usize, scope: usize, node: usize) -> Answer
+    requires { ⌜ 4000 ≤ length (now work) ⌝ }
+    requires { ⌜ ((Γ : Scope) × ScopeAt (now work) registers scope Γ) ⌝ }
+    requires { ⌜ ((x : ℕ) × (es : List Expression) × CallAt (now work) node x es) ⌝ }
+    ensures { λ r. ⌜ CallsAt (now (work .entry)) registers scope node r ⌝ }
+{
+    let word = operand(work, node);
+    let count = word / 64;
+    let given = actuals(work, registers, scope, node + 1, count);
+    let Answer::Is(done) = given else {
+        return given;
+    };
+    let Found::Bound(number, pointer) = lookup(work, registers, scope, word % 64) else {
+        return Answer::Fault(10, node);
+    };
+    if number != 8 {
+        return Answer::Fault(14, node);
+    }
+    let parameters = operand(work, pointer);
+    if parameters != count {
+        return Answer::Fault(14, node);
+    }
+    agreement(work, registers, scope, node, node + 1, pointer + 1, count)
+}
