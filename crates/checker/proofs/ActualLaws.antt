@@ -34,8 +34,12 @@ first-actual words node count es f a = by (a .stored) (a .number)
     by no-actuals q = absurd (f (sym q))
     by {d = d} (one-actual {j = j} {k = k} {e = e} {es = es} h g) q =
         record {
-          first = e; rest = es; split = refl; stands = record { depth = d; next = j; stored = h };
-          others = record { depth = d; next = k; stored = subst (λ i. StoredActuals words d i k es) (sym (expression-end h)) g; number = omega (arith, q) } }
+          first = e;
+          rest = es;
+          split = refl;
+          stands = record { depth = d; next = j; stored = h };
+          others = record { depth = d; next = k; stored = subst (λ i. StoredActuals words d i k es) (sym (expression-end h)) g; number = omega (arith, q) };
+        }
 
 pub first-actual-low : (words : List ℕ) (node count : ℕ) → (count ≡ 0 → ⊥) → ((es : List Expression) × ActualsAt words node count es) → node < 2000
 first-actual-low words node count f a = expression-low (first-actual words node count (a .0) f (a .1) .stands .stored)
@@ -53,14 +57,21 @@ first-formal words node count fs f a = by (a .stored) (a .number)
   where
     after : (i : ℕ) → suc i ≡ i + 1
     after i = omega arith
+
     parted : (x c : ℕ) → x < 64 → (x + 64 * c) / 64 ≡ c
     parted x c l = omega arith
+
     by : {j : ℕ} {fs : List Formal} → StoredFormals words node j fs → length fs ≡ count → FirstFormal words node count fs
     by no-formals q = absurd (f (sym q))
     by {j = j} (one-formal {f = g} {fs = fs} p l m h s) q =
         record {
-          first = g; rest = fs; split = refl; coded = ap (λ w. w / 64) (operand-is h (omega arith)) ∙ parted (g .name) (g .code) l; low = h .place-low;
-          others = record { next = j; stored = subst (λ i. StoredFormals words i j fs) (after node) s; number = omega (arith, q) } }
+          first = g;
+          rest = fs;
+          split = refl;
+          coded = ap (λ w. w / 64) (operand-is h (omega arith)) ∙ parted (g .name) (g .code) l;
+          low = h .place-low;
+          others = record { next = j; stored = subst (λ i. StoredFormals words i j fs) (after node) s; number = omega (arith, q) };
+        }
 
 -- ---- All the actuals.
 
@@ -78,15 +89,15 @@ module _ (words : List ℕ) (registers scope node count : ℕ) (some-left : coun
       let f = first-actual words node count es some-left a in
       subst (λ l. one ≡ answer (λ cs. 0) (expression-codes Γ l)) (sym (f .split))
       (unfold expression-codes in
-          (then-fault (λ c. c) (λ cs. 0) (expression-code Γ (f .first)) (λ c. expression-codes Γ (f .rest) >>= λ cs. fine (c ∷ cs)) one x p (judged (f .first) Γ (f .stands) s) q))
+      (then-fault (λ c. c) (λ cs. 0) (expression-code Γ (f .first)) (λ c. expression-codes Γ (f .rest) >>= λ cs. fine (c ∷ cs)) one x p (judged (f .first) Γ (f .stands) s) q))
 
   pub actual-rest : (c next : ℕ) (r : Answer) → one ≡ Is c → next ≡ packed-end (getD words node 0) → CodesAt words registers scope next (count - 1) r → CodesAt words registers scope node count r
   actual-rest c next r q end later es Γ a s =
       let f = first-actual words node count es some-left a in
       subst (λ l. r ≡ answer (λ cs. 0) (expression-codes Γ l)) (sym (f .split))
       (unfold expression-codes in
-          (then-code (λ cs. 0) (expression-code Γ (f .first)) (λ c. expression-codes Γ (f .rest) >>= λ cs. fine (c ∷ cs)) one r c (judged (f .first) Γ (f .stands) s) q
-          (later (f .rest) Γ (subst (λ i. ActualsAt words i (count - 1) (f .rest)) (sym end) (f .others)) s ∙ with-one (expression-codes Γ (f .rest)))))
+      (then-code (λ cs. 0) (expression-code Γ (f .first)) (λ c. expression-codes Γ (f .rest) >>= λ cs. fine (c ∷ cs)) one r c (judged (f .first) Γ (f .stands) s) q
+      (later (f .rest) Γ (subst (λ i. ActualsAt words i (count - 1) (f .rest)) (sym end) (f .others)) s ∙ with-one (expression-codes Γ (f .rest)))))
     where
       with-one : (j : Judged (List ℕ)) → answer (λ cs. 0) j ≡ answer (λ cs. 0) (j >>= λ cs. fine (c ∷ cs))
       with-one (fault r p) = refl
@@ -108,8 +119,10 @@ codes-parted Γ e es cs = by (expression-code Γ e) (expression-codes Γ es) ref
   where
     never : {A : Type 0} (r : Refusal) (p : ℕ) (a : A) → fault r p ≡ fine a → ⊥
     never r p a q = let z : _≡_ {A = ℕ} 0 1 = cc in omega arith
+
     inject : (a b : List ℕ) → fine a ≡ fine b → a ≡ b
     inject a b q = cc
+
     by : (i : Judged ℕ) (j : Judged (List ℕ)) → expression-code Γ e ≡ i → expression-codes Γ es ≡ j → (i >>= λ c. j >>= λ cs. fine (c ∷ cs)) ≡ fine cs → CodesParted Γ e es cs
     by (fault r p) j a b q = absurd (never r p cs q)
     by (fine c) (fault r p) a b q = absurd (never r p cs q)
@@ -142,7 +155,7 @@ module _ (words : List ℕ) (registers scope place node formal count : ℕ) (som
         (subst (λ l. r ≡ fine-answer (same-codes place (g .first ∷ g .rest) l)) (sym (parted .whole))
         (subst (λ h. r ≡ fine-answer (same-code place (g .first .code) h >>= λ done. same-codes place (g .rest) (parted .tail))) (sym code-is)
         (done (g .rest) (f .rest) (parted .tail) Γ (g .first) (f .others) (g .others) s (parted .rest-are)
-            (subst (λ w. agrees ≡ fine-answer (same-code place w c)) (coded ∙ g .coded) compared))))
+        (subst (λ w. agrees ≡ fine-answer (same-code place w c)) (coded ∙ g .coded) compared))))
 
     pub agree-apart : (x p : ℕ) → agrees ≡ Fault x p → AgreesAt words registers scope place node formal count agrees
     agree-apart x p q = pair agrees (λ rest others cs Γ f a b s k h. then-fault (λ done. 0) (λ done. 0) (same-code place (f .code) c) (λ done. same-codes place rest cs) agrees x p h q)
@@ -152,5 +165,5 @@ module _ (words : List ℕ) (registers scope place node formal count : ℕ) (som
     agree-rest z next r q end later =
         pair r
         (λ rest others cs Γ f a b s k h.
-            then-fine (λ done. 0) (λ done. 0) (same-code place (f .code) c) (λ done. same-codes place rest cs) agrees r z h q
-            (λ done known e. later others rest cs Γ (subst (λ i. ActualsAt words i (count - 1) others) (sym end) a) b s k))
+        then-fine (λ done. 0) (λ done. 0) (same-code place (f .code) c) (λ done. same-codes place rest cs) agrees r z h q
+        (λ done known e. later others rest cs Γ (subst (λ i. ActualsAt words i (count - 1) others) (sym end) a) b s k))

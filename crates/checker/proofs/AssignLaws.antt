@@ -102,8 +102,8 @@ module _ (words : List ℕ) (registers scope node : ℕ) (given : Answer) (value
       next r done =
           after r
           (λ x Γ b s. unfold after-value in
-              (then-fine meaning-number (λ done. 0) (bound-name node (meaning-of x Γ)) (after-meaning node c) bound r number b known
-              (λ m meant q. done m (takes m (subst (λ k. Numbered k m) q (scope-numbered words registers scope node x Γ m s meant))))))
+          (then-fine meaning-number (λ done. 0) (bound-name node (meaning-of x Γ)) (after-meaning node c) bound r number b known
+          (λ m meant q. done m (takes m (subst (λ k. Numbered k m) q (scope-numbered words registers scope node x Γ m s meant))))))
 
       pub assign-target-fault : (y p : ℕ) → target ≡ Fault y p → AssignsAt words registers scope node target
       assign-target-fault y p q = next target (λ m t. unfold after-meaning in (then-fault (λ w. w) (λ done. 0) (assignable node m) (λ w. same-code node w c) target y p t q))

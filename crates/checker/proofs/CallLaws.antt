@@ -62,8 +62,10 @@ codes-length Γ (e ∷ es) cs q = by (expression-code Γ e) (expression-codes Γ
   where
     never : (r : Refusal) (p : ℕ) (a : List ℕ) → fault r p ≡ fine a → ⊥
     never r p a q = let z : _≡_ {A = ℕ} 0 1 = cc in omega arith
+
     inject : (a b : List ℕ) → fine a ≡ fine b → a ≡ b
     inject a b q = cc
+
     by : (i : Judged ℕ) (j : Judged (List ℕ)) → ((ds : List ℕ) → j ≡ fine ds → length ds ≡ length es) → (i >>= λ c. j >>= λ cs. fine (c ∷ cs)) ≡ fine cs → length cs ≡ suc (length es)
     by (fault r p) j later q = absurd (never r p cs q)
     by (fine c) (fault r p) later q = absurd (never r p cs q)
@@ -105,6 +107,7 @@ function-found {words} {o} {f} number pointer found q e = by found q
       where
         after : (k : ℕ) → suc (suc k) ≡ suc k + 1
         after k = omega arith
+
     by : {o : Option Meaning} {f : Found} → FoundAs words o f → f ≡ Bound number pointer → FunctionAt words pointer o
     by found-nothing q = absurd (nothing-bound _ _ _ refl q)
     by (found-binding {m = m} {k = k} h) q = subst (λ p. FunctionAt words p (some m)) (same-pointer _ _ _ _ _ refl q) (at h (same-number _ _ _ _ _ refl q ∙ e))
@@ -143,6 +146,7 @@ module _ (words : List ℕ) (registers scope node word : ℕ) (known : word ≡ 
           at : {k : ℕ} {m : Meaning} (cs : List ℕ) → MeaningAt words k m → (meaning-number m ≡ 8 → ⊥) → Fault 14 node ≡ fine-answer (called node m >>= after-function node cs)
           at cs (code-at l) n = unfold refusal-number in refl
           at cs (function-at h g) n = absurd (n refl)
+
           by : (cs : List ℕ) (o : Option Meaning) (g : Found) → FoundAs words o g → g ≡ Bound number pointer → Fault 14 node ≡ fine-answer (bound-name node o >>= λ m. called node m >>= after-function node cs)
           by cs o g found-nothing q = absurd (nothing-bound _ _ _ refl q)
           by cs o g (found-binding h) q = at cs h (λ e. n (sym (same-number _ _ _ _ _ refl q) ∙ e))
@@ -154,24 +158,24 @@ module _ (words : List ℕ) (registers scope node word : ℕ) (known : word ≡ 
         next r done =
             after r
             (λ x es cs Γ f s a k. unfold after-actuals in
-                (let g = function-found number pointer f bound eight in
-                subst (λ o. r ≡ fine-answer (bound-name node o >>= λ m. called node m >>= after-function node cs)) (sym (g .meant))
-                (done es cs (g .formals) Γ (g .end) (counted ∙ g .counted) (g .stored) s a k)))
+            (let g = function-found number pointer f bound eight in
+            subst (λ o. r ≡ fine-answer (bound-name node o >>= λ m. called node m >>= after-function node cs)) (sym (g .meant))
+            (done es cs (g .formals) Γ (g .end) (counted ∙ g .counted) (g .stored) s a k)))
 
         pub call-count-apart : (parameters ≡ word / 64 → ⊥) → CallsAt words registers scope node (Fault 14 node)
         call-count-apart apart =
             next (Fault 14 node)
             (λ es cs fs Γ e n st s a k. unfold after-function refusal-number in
-                (subst (λ j. Fault 14 node ≡ fine-answer (j >>= λ done. same-codes node fs cs))
-                (sym (count-apart node fs cs (λ q. apart (n ∙ q ∙ codes-length Γ es cs k ∙ a .number)))) refl))
+            (subst (λ j. Fault 14 node ≡ fine-answer (j >>= λ done. same-codes node fs cs))
+            (sym (count-apart node fs cs (λ q. apart (n ∙ q ∙ codes-length Γ es cs k ∙ a .number)))) refl))
 
         pub call-agree : (r : Answer) → parameters ≡ word / 64 → AgreesAt words registers scope node (node + 1) (pointer + 1) (word / 64) r → CallsAt words registers scope node r
         call-agree r same agrees =
             next r
             (λ es cs fs Γ e n st s a k. unfold after-function in
-                (subst (λ j. r ≡ fine-answer (j >>= λ done. same-codes node fs cs))
-                (sym (count-same node fs cs (sym n ∙ same ∙ sym (a .number) ∙ sym (codes-length Γ es cs k))))
-                (agrees es fs cs Γ a (record { next = e; stored = st; number = sym n ∙ same }) s k)))
+            (subst (λ j. r ≡ fine-answer (j >>= λ done. same-codes node fs cs))
+            (sym (count-same node fs cs (sym n ∙ same ∙ sym (a .number) ∙ sym (codes-length Γ es cs k))))
+            (agrees es fs cs Γ a (record { next = e; stored = st; number = sym n ∙ same }) s k)))
 
 -- The Formals of the function that was found, for what compares the codes.
 pub found-formals : (words : List ℕ) (pointer parameters count : ℕ) {o : Option Meaning} → FunctionAt words pointer o → parameters ≡ packed-operand (getD words pointer 0) → parameters ≡ count →

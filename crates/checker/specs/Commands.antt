@@ -6,13 +6,15 @@ use mathlib.Core.List.{List, []}
 use lib.ListN.{length, getD}
 use Rattle.rules.specs.Refusals.{Refusal, refusal-number}
 use Rattle.rules.specs.Limits.{names}
-use Rattle.rules.specs.Tree.{Formal, Expression, Command, Assign, Call, Block, Declaration, Bound}
-use Rattle.rules.specs.Checker.{Meaning, Scope, Judged, fault, fine, Fine, ok, same-codes, distinct, with-formals, expression-codes, command-ok, block-ok, declaration-gives, bound-means}
-use Rattle.reader.specs.Stored.{HasWord, StoredExpression, StoredActuals, StoredFormals, StoredCommand, StoredBlock, StoredDeclaration, StoredBound}
+use Rattle.rules.specs.Tree.{Formal, Expression, Command, Assign, Call, Block, Declaration, Bound, Root}
+use Rattle.rules.specs.Checker.{Meaning, Scope, Judged, fault, fine, Fine, ok, same-codes, distinct, with-formals, expression-codes, command-ok, block-ok, declaration-gives, bound-means, Passed, expression-of-code, a-command, register-scope, root-is}
+use Rattle.reader.specs.Stored.{HasWord, StoredExpression, StoredActuals, StoredFormals, StoredCommand, StoredBlock, StoredDeclaration, StoredBound, StoredRoot}
 use Rattle.checker.specs.Rows.{Rows, ScopeAt}
 use Rattle.checker.specs.Answers.{answer, fine-answer, meaning-answer, ExpressionAt}
 use Rattle.checker.specs.declared.Answer.{Answer}
 use Rattle.checker.specs.declared.Answer.the-variants.{Is, Fault}
+use Rattle.checker.specs.declared.Verdict.{Verdict}
+use Rattle.checker.specs.declared.Verdict.the-variants as Verdicts
 
 -- The words below a node's row, and those from 4,000 on, are as they were.
 pub record Kept (words words′ : List ℕ) (node : ℕ) : Type 0 where
@@ -88,3 +90,35 @@ AssignsAt words registers scope node r =
 pub data NamesFrom (words : List ℕ) (to node : ℕ) : Judged Scope → Answer → Type 0 where
   names-from : {t : ℕ} {Δ : Scope} → Rows words t to Δ → t ≤ node → NamesFrom words to node (fine Δ) (Is t)
   names-fault : {r : Refusal} {p : ℕ} → NamesFrom words to node (fault r p) (Fault (refusal-number r) p)
+
+-- The command that stands there is fine, or its first fault.
+abbrev pub CommandFineAt : List ℕ → (registers scope node : ℕ) → Answer → Type 0
+CommandFineAt words registers scope node r = (c : Command) (Γ : Scope) → CommandAt words node c → ScopeAt words registers scope Γ → r ≡ fine-answer (command-ok Γ c)
+
+abbrev pub BlockFineAt : List ℕ → (registers scope node : ℕ) → Answer → Type 0
+BlockFineAt words registers scope node r = (b : Block) (Γ : Scope) → BlockAt words node b → ScopeAt words registers scope Γ → r ≡ fine-answer (block-ok Γ b)
+
+-- The names that the declaration gives, with rows from the answer's pointer to `tail`; or its first fault.
+abbrev pub DeclaresAt : (words words′ : List ℕ) (registers scope tail node : ℕ) → Answer → Type 0
+DeclaresAt words words′ registers scope tail node r =
+    (d : Declaration) (next : ℕ) (Γ : Scope) → DeclarationAt words node next d → ScopeAt words registers scope Γ → NamesFrom words′ tail next (declaration-gives Γ d) r
+
+-- The number of what the Bind's child means, or its first fault.
+abbrev pub MeansAt : List ℕ → (registers scope node : ℕ) → Answer → Type 0
+MeansAt words registers scope node r = (b : Bound) (Γ : Scope) → BoundAt words node b → ScopeAt words registers scope Γ → r ≡ meaning-answer (bound-means Γ b)
+
+-- A tree stands in the work words from node 0 on.
+pub record RootAt (words : List ℕ) (t : Root) : Type 0 where
+  pub depth : ℕ
+  pub next : ℕ
+  pub stored : StoredRoot words depth 0 next t
+
+-- The answer for a whole tree: what its root is, or the refusal's number and the node.
+abbrev pub verdict : Judged Passed → Verdict
+verdict (fault x p) = Verdicts.Fault (refusal-number x) p
+verdict (fine (expression-of-code c)) = Verdicts.Code c
+verdict (fine a-command) = Verdicts.Command
+
+-- What the root is, with the registers in scope; or its first fault.
+abbrev pub PassesAs : List ℕ → (registers : ℕ) → Verdict → Type 0
+PassesAs words registers r = (t : Root) → RootAt words t → r ≡ verdict (root-is (register-scope registers) t)

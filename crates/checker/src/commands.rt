@@ -3,14 +3,23 @@ ghost use mathlib.Core.Path.{_≡_};
 ghost use mathlib.Core.List.{List};
 ghost use Prim.Native.Nat.{ℕ, _<_, _≤_};
 ghost use lib.ListN.{length};
-ghost use Rattle.rules.specs.Tree.{Expression, Formal};
+ghost use Rattle.rules.specs.Tree.{Expression, Formal, Command, Block, Declaration, Bound};
 ghost use Rattle.rules.specs.Checker.{Scope, Meaning, fine, assignable, same-code, ref-code, expression-codes};
 ghost use Rattle.checker.specs.Rows.{Rows, ScopeAt};
 ghost use Rattle.checker.specs.Answers.{code-answer, fine-answer, meaning-answer, Numbered, ExpressionAt};
-ghost use Rattle.checker.specs.Commands.{ActualsAt, FormalsAt, AssignAt, AssignsAt, CallAt, CallsAt, CodesAt, AgreesAt};
-
-use reader::{end, kind, operand};
-use crate::{Answer, Found, expression, lookup, meaning};
+ghost use Rattle.checker.specs.Commands.{ActualsAt, FormalsAt, AssignAt, AssignsAt, CallAt, CallsAt, CodesAt, AgreesAt, Kept, CommandAt, BlockAt, DeclarationAt, BoundAt, CommandFineAt, BlockFineAt, DeclaresAt, MeansAt};
+use crate::Answer;
+use crate::Found;
+use crate::expression;
+use crate::formals::formals;
+use crate::formals::row_word;
+use crate::lookup;
+use crate::meaning;
+use crate::shares_name;
+use crate::truth;
+use reader::end;
+use reader::kind;
+use reader::operand;
 
 // Assign: the code of the value that a name of this meaning takes.
 fn assigned_code(node: usize, number: usize) -> Answer
@@ -87,7 +96,15 @@ fn actuals(work: &[u64], registers: usize, scope: usize, node: usize, count: usi
 }
 
 // The actuals' codes against the Formals'.
-fn agreement(work: &[u64], registers: usize, scope: usize, place: usize, node: usize, formal: usize, count: usize) -> Answer
+fn agreement(
+    work: &[u64],
+    registers: usize,
+    scope: usize,
+    place: usize,
+    node: usize,
+    formal: usize,
+    count: usize,
+) -> Answer
     requires { ⌜ 4000 ≤ length (now work) ⌝ }
     requires { ⌜ ((Γ : Scope) × ScopeAt (now work) registers scope Γ) ⌝ }
     requires { ⌜ ((es : List Expression) × ActualsAt (now work) node count es) ⌝ }
@@ -134,4 +151,128 @@ fn call(work: &[u64], registers: usize, scope: usize, node: usize) -> Answer
         return Answer::Fault(14, node);
     }
     agreement(work, registers, scope, node, node + 1, pointer + 1, count)
+}
+
+// The command at a node in the scope at a pointer: 0, or its first fault.
+pub(crate) fn command(work: &mut [u64], registers: usize, scope: usize, node: usize) -> Answer
+    requires { ⌜ 4000 ≤ length (now work) ⌝ }
+    requires { ⌜ scope ≤ node ⌝ }
+    requires { ⌜ ((Γ : Scope) × ScopeAt (now work) registers scope Γ) ⌝ }
+    requires { ⌜ ((c : Command) × CommandAt (now work) node c) ⌝ }
+    ensures { λ r. ⌜ CommandFineAt (now (work .entry)) registers scope node r ⌝ }
+    ensures { λ r. ⌜ Kept (now (work .entry)) (now (work .exit)) node ⌝ }
+{
+    let which = kind(work, node);
+    if which == 20 {
+        return assignment(work, registers, scope, node);
+    }
+    if which == 23 {
+        return block(work, registers, scope, node);
+    }
+    if which == 24 {
+        return call(work, registers, scope, node);
+    }
+    if which == 21 {
+        let test = expression(work, registers, scope, node + 1);
+        let Answer::Is(code) = test else {
+            return test;
+        };
+        let inside = end(work, node + 1);
+        let body = command(work, registers, scope, inside);
+        let Answer::Is(done) = body else {
+            return body;
+        };
+        return truth(node, 0, code);
+    }
+    let first = command(work, registers, scope, node + 1);
+    let Answer::Is(done) = first else {
+        return first;
+    };
+    let second = end(work, node + 1);
+    command(work, registers, scope, second)
+}
+
+// The block at a node: its declaration, then its command in the scope with the names that this gives.
+fn block(work: &mut [u64], registers: usize, scope: usize, node: usize) -> Answer
+    requires { ⌜ 4000 ≤ length (now work) ⌝ }
+    requires { ⌜ scope ≤ node ⌝ }
+    requires { ⌜ ((Γ : Scope) × ScopeAt (now work) registers scope Γ) ⌝ }
+    requires { ⌜ ((b : Block) × BlockAt (now work) node b) ⌝ }
+    ensures { λ r. ⌜ BlockFineAt (now (work .entry)) registers scope node r ⌝ }
+    ensures { λ r. ⌜ Kept (now (work .entry)) (now (work .exit)) node ⌝ }
+{
+    let declared = declaration(work, registers, scope, scope, node + 1);
+    let Answer::Is(inner) = declared else {
+        return declared;
+    };
+    let inside = end(work, node + 1);
+    command(work, registers, inner, inside)
+}
+
+// The declaration at a node: rows for its names, linked from `tail`, and the pointer of the newest.
+fn declaration(work: &mut [u64], registers: usize, scope: usize, tail: usize, node: usize) -> Answer
+    requires { ⌜ 4000 ≤ length (now work) ⌝ }
+    requires { ⌜ scope ≤ node ⌝ }
+    requires { ⌜ tail ≤ node ⌝ }
+    requires { ⌜ ((Γ : Scope) × ScopeAt (now work) registers scope Γ) ⌝ }
+    requires { ⌜ ((d : Declaration) × (next : ℕ) × DeclarationAt (now work) node next d) ⌝ }
+    ensures { λ r. ⌜ DeclaresAt (now (work .entry)) (now (work .exit)) registers scope tail node r ⌝ }
+    ensures { λ r. ⌜ Kept (now (work .entry)) (now (work .exit)) node ⌝ }
+{
+    let which = kind(work, node);
+    if which == 31 {
+        let first = declaration(work, registers, scope, tail, node + 1);
+        let Answer::Is(middle) = first else {
+            return first;
+        };
+        let after = end(work, node + 1);
+        let second = declaration(work, registers, scope, middle, after);
+        let Answer::Is(newest) = second else {
+            return second;
+        };
+        let repeated = shares_name(work, newest, middle, tail);
+        if repeated {
+            return Answer::Fault(12, node);
+        }
+        return second;
+    }
+    let name = operand(work, node);
+    let meant = bound(work, registers, scope, node + 1);
+    let Answer::Is(number) = meant else {
+        return meant;
+    };
+    work[2000 + node] = row_word(name, number, tail);
+    Answer::Is(node + 1)
+}
+
+// What a Bind's child means.
+fn bound(work: &mut [u64], registers: usize, scope: usize, node: usize) -> Answer
+    requires { ⌜ 4000 ≤ length (now work) ⌝ }
+    requires { ⌜ scope ≤ node ⌝ }
+    requires { ⌜ ((Γ : Scope) × ScopeAt (now work) registers scope Γ) ⌝ }
+    requires { ⌜ ((b : Bound) × BoundAt (now work) node b) ⌝ }
+    ensures { λ r. ⌜ MeansAt (now (work .entry)) registers scope node r ⌝ }
+    ensures { λ r. ⌜ Kept (now (work .entry)) (now (work .exit)) node ⌝ }
+{
+    let which = kind(work, node);
+    if which == 40 {
+        let value = expression(work, registers, scope, node + 1);
+        let Answer::Is(code) = value else {
+            return value;
+        };
+        return location_code(node, code);
+    }
+    if which == 41 {
+        let count = operand(work, node);
+        let parameters = formals(work, scope, scope, node + 1, count);
+        let Answer::Is(inner) = parameters else {
+            return parameters;
+        };
+        let body = block(work, registers, inner, node + 1 + count);
+        let Answer::Is(done) = body else {
+            return body;
+        };
+        return Answer::Is(8);
+    }
+    expression(work, registers, scope, node)
 }

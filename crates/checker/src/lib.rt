@@ -1,5 +1,6 @@
 // Scope and types of an image that was read: the scope, and expressions.
 mod commands;
+mod formals;
 
 ghost use mathlib.Core.Path.{_≡_};
 ghost use Prim.Native.Nat.{_<_, _≤_};
@@ -9,6 +10,9 @@ ghost use Rattle.rules.specs.Listing.{operator-number};
 ghost use Rattle.rules.specs.Checker.{Scope, Meaning, meaning-of, shares-name, bound-name, id-code, deref-code, valref-code, integers-give, equals-give, truths-give, operator-code, truth-only, expression-code};
 ghost use Rattle.checker.specs.Rows.{Rows, ScopeAt, RowFound};
 ghost use Rattle.checker.specs.Answers.{FoundAs, answer, code-answer, meaning-answer, Numbered, NameAt, ExpressionAt, CodeAt};
+ghost use Rattle.rules.specs.Tree.{Root};
+ghost use Rattle.checker.specs.Commands.{Kept, RootAt, PassesAs};
+use crate::commands::command;
 use reader::end;
 use reader::kind;
 use reader::operand;
@@ -22,6 +26,13 @@ pub enum Found {
 // A judgement: what was asked for, or a fault with its place.
 pub enum Answer {
     Is(usize),
+    Fault(u64, usize),
+}
+
+// What the checker makes of a tree: the root's code, a command, or the first fault with its place.
+pub enum Verdict {
+    Code(usize),
+    Command,
     Fault(u64, usize),
 }
 
@@ -248,4 +259,26 @@ pub fn expression(work: &[u64], registers: usize, scope: usize, node: usize) -> 
         return outer;
     };
     operation(which, node, first, second)
+}
+
+// The whole tree, with the registers in scope: what the root is, or the first fault.
+pub fn root(work: &mut [u64], registers: usize) -> Verdict
+    requires { ⌜ 4000 ≤ length (now work) ⌝ }
+    requires { ⌜ ((t : Root) × RootAt (now work) t) ⌝ }
+    ensures { λ r. ⌜ PassesAs (now (work .entry)) registers r ⌝ }
+    ensures { λ r. ⌜ Kept (now (work .entry)) (now (work .exit)) 0 ⌝ }
+{
+    let which = kind(work, 0);
+    if which < 20 {
+        let judged = expression(work, registers, 0, 0);
+        return match judged {
+            Answer::Is(code) => Verdict::Code(code),
+            Answer::Fault(number, place) => Verdict::Fault(number, place),
+        };
+    }
+    let judged = command(work, registers, 0, 0);
+    match judged {
+        Answer::Is(done) => Verdict::Command,
+        Answer::Fault(number, place) => Verdict::Fault(number, place),
+    }
 }

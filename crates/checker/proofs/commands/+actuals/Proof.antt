@@ -62,9 +62,10 @@ actuals-actuals-requires : (t : ℕ) → actuals-lts.Need-actuals-requires (actu
 actuals-actuals-requires t c κs =
     let start = c .before .before .before .before .before .before .before in
     let given = start .pre .1 .1 .1 in
-    let first = first-actual _ _ _ (given .0) (c .before .before .before .before .before .if1 .left) (given .1) in
-    (omega (arith, c .before .before .before .before .before .if1 .left, start .pre .0),
-        (start .pre .1 .0, (start .pre .1 .1 .0, (first .rest, subst (λ i. ActualsAt (now (start .args .work)) i (start .args .count - 1) (first .rest)) (sym (c .end .ensures)) (first .others)))))
+    let first = first-actual _ _ _ (given .0) (c .before .before .before .before .before .if1 .left) (given .1) in (
+      omega (arith, c .before .before .before .before .before .if1 .left, start .pre .0),
+      (start .pre .1 .0, (start .pre .1 .1 .0, (first .rest, subst (λ i. ActualsAt (now (start .args .work)) i (start .args .count - 1) (first .rest)) (sym (c .end .ensures)) (first .others)))),
+    )
 
 actuals-returns-3 : (t : ℕ) → actuals-lts.Need-returns-3 (actuals-calls t) (actuals-at t) actuals.Post
 actuals-returns-3 t c = actual-rest _ _ _ _ _ (c .before .before .before .before .before .before .if1 .left) _ (c .before .before .before .before .before .expression .ensures) _ _ _ (c .before .before .before .first .given .1) (c .before .end .ensures) (c .actuals .ensures)

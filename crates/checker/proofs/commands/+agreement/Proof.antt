@@ -91,10 +91,13 @@ agreement-agreement-requires t c κs =
     let given = start .pre .1 .1 .1 .0 in
     let formals = start .pre .1 .1 .1 .1 in
     let first = first-actual _ _ _ (given .0) (c .before .before .before .before .before .before .before .before .before .before .if1 .left) (given .1) in
-    let formal = first-formal _ _ _ (formals .0) (c .before .before .before .before .before .before .before .before .before .before .if1 .left) (formals .1) in
-    (omega (arith, c .before .before .before .before .before .before .before .before .before .before .if1 .left, start .pre .0),
-        (start .pre .1 .0,
-            (start .pre .1 .1 .0, ((first .rest, subst (λ i. ActualsAt (now (start .args .work)) i (start .args .count - 1) (first .rest)) (sym (c .end .ensures)) (first .others)), (formal .rest, formal .others)))))
+    let formal = first-formal _ _ _ (formals .0) (c .before .before .before .before .before .before .before .before .before .before .if1 .left) (formals .1) in (
+      omega (arith, c .before .before .before .before .before .before .before .before .before .before .if1 .left, start .pre .0),
+      (
+        start .pre .1 .0,
+        (start .pre .1 .1 .0, ((first .rest, subst (λ i. ActualsAt (now (start .args .work)) i (start .args .count - 1) (first .rest)) (sym (c .end .ensures)) (first .others)), (formal .rest, formal .others))),
+      ),
+    )
 
 agreement-returns-4 : (t : ℕ) → agreement-lts.Need-returns-4 (agreement-calls t) (agreement-at t) agreement.Post
 agreement-returns-4 t c = agree-rest _ _ _ _ _ _ _ (c .before .before .before .before .before .before .before .before .before .before .before .if1 .left) _ (c .before .before .before .before .before .before .before .before .before .before .expression .ensures) _ _ _ (c .before .before .before .before .before .before .before .before .first .given .1) (ap (λ w. w / 64) (c .before .before .before .before .before .before .operand .ensures)) (c .before .before .before .before .before .same .ensures) _ _ _ (c .before .before .before .agrees .given .1) (c .before .end .ensures) (c .agreement .ensures)

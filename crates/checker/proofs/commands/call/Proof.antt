@@ -71,9 +71,10 @@ agreement-requires : tie.Need-agreement-requires
 agreement-requires c κs =
     let start = c .before .before .before .before .before .before .before .before .before .before .before .before .before in
     let scope = start .pre .1 .0 in
-    let function = function-found _ _ (c .before .before .before .before .before .before .lookup .ensures (scope .0) (scope .1)) (c .before .before .before .before .number .given .1) (c .before .before .if1 .left) in
-    (start .pre .0,
-        (start .pre .1 .0, ((start .pre .1 .1 .1, call-actuals _ (c .before .before .before .before .before .before .before .before .before .before .before .operand .ensures) (start .pre .1 .1 .2)), found-formals _ _ _ _ function (c .before .operand2 .ensures) (c .if2 .left))))
+    let function = function-found _ _ (c .before .before .before .before .before .before .lookup .ensures (scope .0) (scope .1)) (c .before .before .before .before .number .given .1) (c .before .before .if1 .left) in (
+      start .pre .0,
+      (start .pre .1 .0, ((start .pre .1 .1 .1, call-actuals _ (c .before .before .before .before .before .before .before .before .before .before .before .operand .ensures) (start .pre .1 .1 .2)), found-formals _ _ _ _ function (c .before .operand2 .ensures) (c .if2 .left))),
+    )
 
 returns-5 : tie.Need-returns-5
 returns-5 c = call-agree _ _ _ _ _ (c .before .before .before .before .before .before .before .before .before .before .before .before .operand .ensures) _ (c .before .before .before .before .before .before .before .before .before .before .before .actuals .ensures) _ _ (c .before .before .before .before .before .before .before .before .before .given .given .1) (c .before .before .before .before .before .before .before .lookup .ensures) _ _ (c .before .before .before .before .before .number .given .1) (c .before .before .before .if1 .left) _ (c .before .before .operand2 .ensures) _ (c .before .if2 .left) (c .agreement .ensures)

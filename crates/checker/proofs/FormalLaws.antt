@@ -1,0 +1,154 @@
+-- Formals one after the other: each gets a row, linked to the one before it, unless its name is there already. Assumes nothing.
+use Prim.Native.Nat.{ℕ, suc, _+_, _*_, _-_, _/_, _%_, _<_, _≤_}
+use mathlib.Core.Path.{_≡_, refl, sym, ap, _∙_, subst}
+use mathlib.Core.Bool.{true, false}
+use mathlib.Core.List.{List, [], _∷_}
+use native.Mathlib.Omega.{arith}
+use lib.ListN.{length, getD, set}
+use Rattle.rules.specs.Refusals.{Repeated, refusal-number}
+use Rattle.rules.specs.Limits.{names, codes}
+use Rattle.rules.specs.Tree.{Formal}
+use Rattle.rules.specs.Checker.{code, Named, Scope, Judged, fault, fine, _>>=_, has-name, distinct, with-formals}
+use Rattle.reader.specs.Pack.{packed-operand}
+use Rattle.reader.specs.Stored.{HasWord, StoredFormals, no-formals, one-formal, operand-is}
+use Rattle.checker.specs.Rows.{row-word, code-at, Rows, one-row, RowFound}
+use Rattle.checker.specs.Commands.{FormalsAt, NamesFrom, names-from, names-fault}
+use Rattle.checker.specs.declared.Answer.{Answer}
+use Rattle.checker.specs.declared.Answer.the-variants.{Is, Fault}
+use Rattle.checker.proofs.RowLaws.{row-has, row-has-not}
+use Rattle.checker.proofs.KeptLaws.{kept-rows, kept-formals, kept-row, row-there}
+
+abbrev pub formals-give : Scope → List Formal → Judged Scope
+formals-give seen fs = distinct seen fs >>= λ done. fine (with-formals fs seen)
+
+abbrev pub FormalsFrom : (words words′ : List ℕ) (scope tail node count : ℕ) → Answer → Type 0
+FormalsFrom words words′ scope tail node count r =
+    (fs : List Formal) (seen : Scope) → FormalsAt words node count fs → Rows words tail scope seen → NamesFrom words′ scope (node + count) (formals-give seen fs) r
+
+abbrev pub named : Formal → Named
+named f = record { name = f .name; meaning = code (f .code) }
+
+-- ---- The first of some Formals.
+
+pub record FirstFormal (words : List ℕ) (node count : ℕ) (fs : List Formal) : Type 0 where
+  pub first : Formal
+  pub rest : List Formal
+  pub split : fs ≡ first ∷ rest
+  pub place-is : first .place ≡ node
+  pub name-low : first .name < names
+  pub code-low : first .code < codes
+  pub word : HasWord words node 42 (first .name + names * first .code) (suc node)
+  pub later : FormalsAt words (node + 1) (count - 1) rest
+
+pub first-formal : {words : List ℕ} {node count : ℕ} {fs : List Formal} → FormalsAt words node count fs → ¬ (count ≡ 0) → FirstFormal words node count fs
+first-formal {words} {count = count} a f = by (a .stored) (a .number) f
+  where
+    by : {i next : ℕ} {gs : List Formal} → StoredFormals words i next gs → length gs ≡ count → ¬ (count ≡ 0) → FirstFormal words i count gs
+    by no-formals q f = absurd (f (sym q))
+    by (one-formal {i = i} {k = k} {f = g} {fs = gs} p l c h s) q f =
+        record {
+          first = g;
+          rest = gs;
+          split = refl;
+          place-is = p;
+          name-low = l;
+          code-low = c;
+          word = h;
+          later = record { next = k; stored = subst (λ j. StoredFormals words j k gs) (following i) s; number = fewer (length gs) q };
+        }
+      where
+        following : (i : ℕ) → suc i ≡ i + 1
+        following i = omega arith
+
+        fewer : (n : ℕ) → suc n ≡ count → n ≡ count - 1
+        fewer n e = omega arith
+
+module _ {words : List ℕ} {node count : ℕ} {fs : List Formal} (o : FirstFormal words node count fs) (w : ℕ) (is : w ≡ packed-operand (getD words node 0)) where
+  formal-word : w ≡ o .first .name + 64 * o .first .code
+  formal-word = is ∙ operand-is (o .word) (omega arith)
+
+  pub formal-name : w % 64 ≡ o .first .name
+  formal-name = ap (λ v. v % 64) formal-word ∙ inside (o .first .name) (o .first .code) (o .name-low)
+    where
+      inside : (x c : ℕ) → x < 64 → (x + 64 * c) % 64 ≡ x
+      inside x c h = omega arith
+
+  pub formal-code : w / 64 ≡ o .first .code
+  formal-code = ap (λ v. v / 64) formal-word ∙ inside (o .first .name) (o .first .code) (o .name-low)
+    where
+      inside : (x c : ℕ) → x < 64 → (x + 64 * c) / 64 ≡ c
+      inside x c h = omega arith
+
+pub formal-node-low : (words : List ℕ) (node count : ℕ) → ((fs : List Formal) × FormalsAt words node count fs) → ¬ (count ≡ 0) → node < 2000
+formal-node-low words node count e f = first-formal (e .1) f .word .place-low
+
+pub formal-code-low : (words : List ℕ) (node count w : ℕ) → ((fs : List Formal) × FormalsAt words node count fs) → ¬ (count ≡ 0) → w ≡ packed-operand (getD words node 0) → w / 64 < 16
+formal-code-low words node count w e f is =
+    let o = first-formal (e .1) f in
+    omega (arith, formal-code o w is, o .code-low)
+
+-- ---- No Formals.
+
+pub formals-none : (words : List ℕ) (scope tail node count : ℕ) → count ≡ 0 → tail ≤ node → FormalsFrom words words scope tail node count (Is tail)
+unfolding distinct with-formals
+formals-none words scope tail node count z h fs seen a r = by fs (a .number ∙ z)
+  where
+    by : (gs : List Formal) → length gs ≡ 0 → NamesFrom words scope (node + count) (formals-give seen gs) (Is tail)
+    by [] q = names-from r (omega (arith, h))
+    by (g ∷ gs) q = absurd (never (length gs) q)
+      where
+        never : (n : ℕ) → suc n ≡ 0 → ⊥
+        never n e = omega arith
+
+-- ---- What the first Formal's name decides.
+
+give-repeated : (seen : Scope) (f : Formal) (fs : List Formal) → has-name (f .name) seen ≡ true → formals-give seen (f ∷ fs) ≡ fault Repeated (f .place)
+unfolding distinct with-formals
+give-repeated seen f fs q = rw q
+
+give-later : (seen : Scope) (f : Formal) (fs : List Formal) → has-name (f .name) seen ≡ false → formals-give seen (f ∷ fs) ≡ formals-give (named f ∷ seen) fs
+unfolding distinct with-formals
+give-later seen f fs q = rw q
+
+module _ (words : List ℕ) (scope tail node count w found : ℕ) (some-left : ¬ (count ≡ 0)) (is : w ≡ packed-operand (getD words node 0))
+    (looked : (Δ : Scope) → Rows words tail scope Δ → RowFound words scope (w % 64) Δ found) where
+  pub formals-repeated : ¬ (found ≡ scope) → FormalsFrom words words scope tail node count (Fault 12 node)
+  unfolding refusal-number
+  formals-repeated f fs seen a r =
+      let o = first-formal a some-left in
+      let has : has-name (o .first .name) seen ≡ true = ap (λ x. has-name x seen) (sym (formal-name o w is)) ∙ row-has (looked seen r) f in
+      let gives : formals-give seen fs ≡ fault Repeated node = ap (formals-give seen) (o .split) ∙ give-repeated seen (o .first) (o .rest) has ∙ ap (fault Repeated) (o .place-is) in
+      subst (λ j. NamesFrom words scope (node + count) j (Fault 12 node)) (sym gives) names-fault
+
+  -- The row of the first Formal, written at its node.
+  pub formal-rows : (v : ℕ) → 4000 ≤ length words → tail ≤ node → v ≡ row-word (w % 64) (w / 64) tail → (fs : List Formal) (a : FormalsAt words node count fs) (seen : Scope) →
+      Rows words tail scope seen → Rows (set words (2000 + node) v) (node + 1) scope (named (first-formal a some-left .first) ∷ seen)
+  formal-rows v long low row fs a seen r =
+      let o = first-formal a some-left in
+      let place = o .word .place-low in
+      subst (λ j. Rows (set words (2000 + node) v) j scope (named (o .first) ∷ seen)) (following node)
+      (one-row {x = o .first .name} {m = o .first .code} {l = tail}
+      record {
+        word = row-there words node v place long ∙ row ∙ ap (λ x. row-word x (w / 64) tail) (formal-name o w is) ∙ ap (λ m. row-word (o .first .name) m tail) (formal-code o w is);
+        node-low = place;
+        name-low = o .name-low;
+        meaning-low = omega (arith, o .code-low);
+        link-low = low;
+      }
+      refl refl (code-at (o .code-low)) (kept-rows (kept-row words node v place) r low))
+    where
+      following : (i : ℕ) → suc i ≡ i + 1
+      following i = omega arith
+
+  pub formals-more : (v : ℕ) (words″ : List ℕ) (answer : Answer) → 4000 ≤ length words → tail ≤ node → v ≡ row-word (w % 64) (w / 64) tail → found ≡ scope →
+      FormalsFrom (set words (2000 + node) v) words″ scope (node + 1) (node + 1) (count - 1) answer → FormalsFrom words words″ scope tail node count answer
+  formals-more v words″ answer long low row absent later fs seen a r =
+      let o = first-formal a some-left in
+      let has : has-name (o .first .name) seen ≡ false = ap (λ x. has-name x seen) (sym (formal-name o w is)) ∙ row-has-not (looked seen r) absent in
+      let gives : formals-give seen fs ≡ formals-give (named (o .first) ∷ seen) (o .rest) = ap (formals-give seen) (o .split) ∙ give-later seen (o .first) (o .rest) has in
+      subst (λ j. NamesFrom words″ scope (node + count) j answer) (sym gives)
+      (subst (λ n. NamesFrom words″ scope n (formals-give (named (o .first) ∷ seen) (o .rest)) answer) (together node count some-left)
+      (later (o .rest) (named (o .first) ∷ seen) (kept-formals (kept-row words node v (o .word .place-low)) (o .later)) (formal-rows v long low row fs a seen r)))
+    where
+      together : (i n : ℕ) → ¬ (n ≡ 0) → i + 1 + (n - 1) ≡ i + n
+      together i n f = omega (arith, f)

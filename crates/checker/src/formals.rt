@@ -1,0 +1,50 @@
+// The Formals of an Abs: a row for each, unless a name comes twice.
+ghost use mathlib.Core.Path.{_≡_};
+ghost use mathlib.Core.List.{List};
+ghost use Prim.Native.Nat.{_+_, _<_, _≤_};
+ghost use lib.ListN.{length};
+ghost use Rattle.rules.specs.Tree.{Formal};
+ghost use Rattle.rules.specs.Checker.{Scope, fine, _>>=_ as _and-then_, distinct, with-formals};
+ghost use Rattle.checker.specs.Rows.{Rows, row-word};
+ghost use Rattle.checker.specs.Commands.{Kept, FormalsAt, NamesFrom};
+use crate::Answer;
+use crate::find_row;
+use reader::operand;
+
+// The word of a row.
+pub(crate) fn row_word(name: usize, number: usize, link: usize) -> u64
+    requires { ⌜ name < 64 ⌝ }
+    requires { ⌜ number < 16 ⌝ }
+    requires { ⌜ link ≤ 2000 ⌝ }
+    ensures { λ r. ⌜ r ≡ row-word name number link ⌝ }
+{
+    (name + 64 * number + 1024 * link) as u64
+}
+
+// A row for each Formal from a node on, linked from `tail`; a name that has a row between `tail` and `scope` is refused there.
+pub(crate) fn formals(
+    work: &mut [u64],
+    scope: usize,
+    tail: usize,
+    node: usize,
+    count: usize,
+) -> Answer
+    requires { ⌜ 4000 ≤ length (now work) ⌝ }
+    requires { ⌜ tail ≤ node ⌝ }
+    requires { ⌜ ((fs : List Formal) × FormalsAt (now work) node count fs) ⌝ }
+    requires { ⌜ ((seen : Scope) × Rows (now work) tail scope seen) ⌝ }
+    ensures { λ r. ⌜ ((fs : List Formal) (seen : Scope) → FormalsAt (now (work .entry)) node count fs → Rows (now (work .entry)) tail scope seen → NamesFrom (now (work .exit)) scope (node + count) (distinct seen fs and-then λ done. fine (with-formals fs seen)) r) ⌝ }
+    ensures { λ r. ⌜ Kept (now (work .entry)) (now (work .exit)) node ⌝ }
+{
+    if count == 0 {
+        return Answer::Is(tail);
+    }
+    let word = operand(work, node);
+    let name = word % 64;
+    let found = find_row(work, tail, scope, name);
+    if found != scope {
+        return Answer::Fault(12, node);
+    }
+    work[2000 + node] = row_word(name, word / 64, tail);
+    formals(work, scope, node + 1, node + 1, count - 1)
+}
