@@ -205,7 +205,7 @@ module _ (words : List ℕ) where
   root-stored (Shape.root-expression h) l s = Stored.root-expression (expression-stored h l s)
   root-stored (Shape.root-command h) l s = Stored.root-command (command-stored h l s)
 
-root-next : {d i j : ℕ} {t : Root} → ShapedRoot d i j t → j ≡ i + length (root-words t)
+pub root-next : {d i j : ℕ} {t : Root} → ShapedRoot d i j t → j ≡ i + length (root-words t)
 unfolding root-words
 root-next (Shape.root-expression h) = expression-next h
 root-next (Shape.root-command h) = command-next h

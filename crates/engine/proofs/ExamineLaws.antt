@@ -1,0 +1,150 @@
+-- From the reader's and the checker's answers to the image's, and which work words they leave alone. Assumes nothing.
+use Prim.Native.Nat.{ℕ, zero, suc, _+_, _<_, _≤_}
+use mathlib.Core.Path.{_≡_, refl, sym, ap, _∙_, subst}
+use mathlib.Core.List.{List, [], _∷_}
+use native.Mathlib.Omega.{arith}
+use native.Mathlib.Nat.{zero-add, suc-add}
+use lib.ListN.{length, getD, drop}
+use Rattle.rules.specs.Refusals.{Refusal, refusal-number}
+use Rattle.rules.specs.Limits.{most-depth, work-words}
+use Rattle.rules.specs.Tree.{Root}
+use Rattle.rules.specs.Reader.{Reading, bad, image, read}
+use Rattle.rules.specs.Listing.{root-nodes}
+use Rattle.rules.specs.ReaderExact.{IsImage, read-exact}
+use Rattle.rules.specs.Checker.{Judged, fault, fine, Passed, expression-of-code, a-command, register-scope, root-is}
+use Rattle.rules.specs.Engine.{check-image, check-reading, checked, check-answer}
+use Rattle.reader.specs.Pack.{root-words}
+use Rattle.reader.specs.Put.{put, put-length, put-beyond}
+use Rattle.reader.specs.Answers.{ShapeAnswer, Shape-refused, Shape-read}
+use Rattle.reader.specs.Answers as Reads
+use Rattle.reader.specs.Stored.{StoredRoot}
+use Rattle.reader.specs.StoredLaws.{stored-by-put, root-next}
+use Rattle.reader.specs.declared.Shape.{Shape}
+use Rattle.reader.specs.declared.Shape.the-variants as Shapes
+use Rattle.checker.specs.Commands.{Kept, RootAt, verdict, PassesAs}
+use Rattle.checker.specs.declared.Verdict.{Verdict}
+use Rattle.checker.specs.declared.Verdict.the-variants as Verdicts
+use Rattle.engine.specs.Answers.{check-reply, Beyond}
+use Rattle.engine.specs.declared.Checked.{Checked}
+use Rattle.engine.specs.declared.Checked.the-variants.{Code, Command, Refused}
+
+-- ---- Work words from 8,192 on.
+
+pub beyond-then : {a b c : List ℕ} → Beyond a b → Beyond b c → Beyond a c
+beyond-then g h = record { same-length = h .same-length ∙ g .same-length; same-beyond = h .same-beyond ∙ g .same-beyond }
+
+drop-more : (n m : ℕ) (a : List ℕ) → drop (n + m) a ≡ drop m (drop n a)
+drop-more zero m a = ap (λ k. drop k a) (zero-add m)
+drop-more (suc n) m [] = ap (λ k. drop {A = ℕ} k []) (suc-add n m) ∙ sym (none-left m)
+  where
+    none-left : (m : ℕ) → drop {A = ℕ} m [] ≡ []
+    none-left zero = refl
+    none-left (suc m) = refl
+drop-more (suc n) m (x ∷ a) = ap (λ k. drop k (x ∷ a)) (suc-add n m) ∙ drop-more n m a
+
+beyond-read : {a b : List ℕ} → Reads.Kept 2000 a b → Beyond a b
+beyond-read {a} {b} k =
+    record { same-length = k .same-length; same-beyond = drop-more 2000 6192 b ∙ ap (drop 6192) (k .same-beyond) ∙ sym (drop-more 2000 6192 a) }
+
+all-same : (a b : List ℕ) → length b ≡ length a → ((i : ℕ) → getD b i 0 ≡ getD a i 0) → b ≡ a
+all-same [] [] q f = refl
+all-same [] (y ∷ b) q f = absurd (omega (arith, q))
+all-same (x ∷ a) [] q f = absurd (omega (arith, q))
+all-same (x ∷ a) (y ∷ b) q f = two-parts (f 0) (all-same a b (omega (arith, q)) (λ i. f (suc i)))
+  where
+    two-parts : y ≡ x → b ≡ a → _≡_ {A = List ℕ} (y ∷ b) (x ∷ a)
+    two-parts g h = cc
+
+drop-same : (n : ℕ) (a b : List ℕ) → length b ≡ length a → ((i : ℕ) → n ≤ i → getD b i 0 ≡ getD a i 0) → drop n b ≡ drop n a
+drop-same zero a b q f = all-same a b q (λ i. f i (omega arith))
+drop-same (suc n) [] [] q f = refl
+drop-same (suc n) [] (y ∷ b) q f = absurd (omega (arith, q))
+drop-same (suc n) (x ∷ a) [] q f = absurd (omega (arith, q))
+drop-same (suc n) (x ∷ a) (y ∷ b) q f = drop-same n a b (omega (arith, q)) (λ i h. f (suc i) (omega (arith, h)))
+
+pub beyond-kept : {a b : List ℕ} {node : ℕ} → Kept a b node → Beyond a b
+beyond-kept {a} {b} k = record { same-length = k .same-length; same-beyond = drop-same 8192 a b (k .same-length) (λ i h. k .same-beyond i (omega (arith, h))) }
+
+-- ---- The shape.
+
+two-shapes : (s : Shape) (n r x p : ℕ) → s ≡ Shapes.Image n r → s ≡ Shapes.Refused x p → ⊥
+two-shapes s n r x p g h = let z : _≡_ {A = ℕ} 0 1 = cc in omega arith
+
+same-registers : (s : Shape) (n r m q : ℕ) → s ≡ Shapes.Image n r → s ≡ Shapes.Image m q → r ≡ q
+same-registers s n r m q g h = cc
+
+same-refused : (s : Shape) (x p y q : ℕ) → s ≡ Shapes.Refused x p → s ≡ Shapes.Refused y q → Refused x p ≡ Refused y q
+same-refused s x p y q g h = ap of-shape (sym g ∙ h)
+  where
+    of-shape : Shape → Checked
+    of-shape (Shapes.Image n r) = Command
+    of-shape (Shapes.Refused x p) = Refused x p
+
+module _ (words before after : List ℕ) (shape : Shape) (answered : ShapeAnswer (read words) shape before after) where
+  pub shape-refused : (x p : ℕ) → shape ≡ Shapes.Refused x p → (Refused x p ≡ check-reply (check-answer (check-image words))) × Beyond before after
+  unfolding check-image
+  shape-refused x p q = by (read words) answered
+    where
+      by : (g : Reading) → ShapeAnswer g shape before after → (Refused x p ≡ check-reply (check-answer (check-reading g))) × Beyond before after
+      by (bad y o) a = (same-refused shape x p (refusal-number y) o q (a .answer), beyond-read (a .kept))
+      by (image r t) a = absurd (two-shapes shape (length (root-nodes t)) r x p (a .answer) q)
+
+  -- A tree that was read stands in the work words.
+  pub record TreeRead (registers : ℕ) : Type 0 where
+    pub tree : Root
+    pub reads : read words ≡ image registers tree
+    pub stands : RootAt after tree
+    pub beyond : Beyond before after
+
+  pub tree-read : (nodes registers : ℕ) → 8192 ≤ length before → shape ≡ Shapes.Image nodes registers → TreeRead registers
+  tree-read nodes registers room q = by (read words) refl answered
+    where
+      by : (g : Reading) → read words ≡ g → ShapeAnswer g shape before after → TreeRead registers
+      by (bad y o) e a = absurd (two-shapes shape nodes registers (refusal-number y) o q (a .answer))
+      by (image r t) e a =
+          let is : IsImage words r t = read-exact words r t .0 e in
+          record {
+            tree = t;
+            reads = e ∙ ap (λ k. image k t) (same-registers shape (length (root-nodes t)) r nodes registers (a .answer) q);
+            stands = record { depth = most-depth; next = length (root-nodes t); stored = subst (λ ws. StoredRoot ws most-depth 0 (length (root-nodes t)) t) (sym (a .written)) (stored-by-put before (is .shape) (is .size) (omega (arith, room))) };
+            beyond = record {
+              same-length = ap length (a .written) ∙ put-length 0 (root-words t) before;
+              same-beyond = ap (drop 8192) (a .written) ∙ put-beyond 8192 0 (root-words t) before (omega (arith, root-next (is .shape), is .size));
+            };
+          }
+
+-- ---- The verdict.
+
+abbrev of-verdict : Verdict → Checked
+of-verdict (Verdicts.Code c) = Code c
+of-verdict Verdicts.Command = Command
+of-verdict (Verdicts.Fault x p) = Refused x p
+
+module _ (words after : List ℕ) (registers : ℕ) (t : Root) (reads : read words ≡ image registers t) (stands : RootAt after t) (v : Verdict) (judged : PassesAs after registers v) where
+  of-reading : (a : Checked) → ((j : Judged Passed) → v ≡ verdict j → a ≡ check-reply (check-answer (checked registers t j))) → a ≡ check-reply (check-answer (check-image words))
+  unfolding check-image
+  of-reading a done = subst (λ g. a ≡ check-reply (check-answer (check-reading g))) (sym reads) (done (root-is (register-scope registers) t) (judged t stands))
+
+  pub code-passes : (c : ℕ) → v ≡ Verdicts.Code c → Code c ≡ check-reply (check-answer (check-image words))
+  code-passes c q = of-reading (Code c) (λ j h. by j (sym q ∙ h))
+    where
+      by : (j : Judged Passed) → Verdicts.Code c ≡ verdict j → Code c ≡ check-reply (check-answer (checked registers t j))
+      by (fault x p) h = ap of-verdict h
+      by (fine (expression-of-code d)) h = ap of-verdict h
+      by (fine a-command) h = ap of-verdict h
+
+  pub command-passes : v ≡ Verdicts.Command → Command ≡ check-reply (check-answer (check-image words))
+  command-passes q = of-reading Command (λ j h. by j (sym q ∙ h))
+    where
+      by : (j : Judged Passed) → Verdicts.Command ≡ verdict j → Command ≡ check-reply (check-answer (checked registers t j))
+      by (fault x p) h = ap of-verdict h
+      by (fine (expression-of-code d)) h = ap of-verdict h
+      by (fine a-command) h = ap of-verdict h
+
+  pub fault-refused : (x p : ℕ) → v ≡ Verdicts.Fault x p → Refused x p ≡ check-reply (check-answer (check-image words))
+  fault-refused x p q = of-reading (Refused x p) (λ j h. by j (sym q ∙ h))
+    where
+      by : (j : Judged Passed) → Verdicts.Fault x p ≡ verdict j → Refused x p ≡ check-reply (check-answer (checked registers t j))
+      by (fault y o) h = ap of-verdict h
+      by (fine (expression-of-code d)) h = ap of-verdict h
+      by (fine a-command) h = ap of-verdict h

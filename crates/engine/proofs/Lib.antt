@@ -1,0 +1,3 @@
+mod CheckLaws
+mod ClearLaws
+mod ExamineLaws
