@@ -1,0 +1,92 @@
+//! The images that are timed. All of them pass the checker.
+
+use second::build::*;
+use second::engine::{check, Answer, WORK_WORDS};
+use second::generate::limits::with_nodes;
+use second::kinds::{MOST_DEPTH, MOST_NODES};
+use second::node::Node;
+use second::tree::{Command, Expression, Name};
+use second::{encode, Refusal};
+
+/// An image and what it is.
+pub struct Timed {
+    pub name: &'static str,
+    pub image: Vec<u32>,
+}
+
+impl Timed {
+    fn new(name: &'static str, image: Vec<u32>) -> Timed {
+        if let Answer::Refused(Refusal { number, place }) = check(&image, WORK_WORDS) {
+            panic!("{name} is refused with {number} at {place}");
+        }
+        Timed { name, image }
+    }
+
+    pub fn nodes(&self) -> u32 {
+        self.image[0]
+    }
+}
+
+/// The images whose check is timed for each node.
+pub fn checked() -> Vec<Timed> {
+    vec![
+        Timed::new("straight line: Assigns under CSeqs", encode(&with_nodes(MOST_NODES as usize))),
+        Timed::new("nested blocks and names", image(1, nested())),
+        Timed::new("deep: Sums down to depth 64", image(1, deep())),
+        Timed::new("small: 5 × (3 + 2)", image(0, mul(num(5), sum(num(3), num(2))))),
+    ]
+}
+
+/// The smallest image there is.
+pub fn smallest() -> Timed {
+    Timed::new("smallest: one Num", image(0, num(1)))
+}
+
+/// Blocks within blocks, each with names of its own, over names bound far
+/// outside: 2,000 nodes in which every name is looked up through many others.
+fn nested() -> Command {
+    const BLOCKS: usize = 24;
+    const OUTER: Name = 8;
+    const LOCALS: Name = 20;
+    let outer = |index: u32| 1 + index % OUTER;
+    let around = |command: Command| {
+        let blocks = (0..BLOCKS).fold(command, |command, _| {
+            let local = |index| bind(32 + index, id(outer(index)));
+            blk(declarations((0..LOCALS).map(local).collect()), command)
+        });
+        let cells = (0..OUTER).map(|index| bind_ref(outer(index), num(index))).collect();
+        blk(declarations(cells), blocks)
+    };
+    // What room is left is filled with Assigns of outer names: with their CSeqs
+    // 3 × count − 1 nodes, and 2 more for a Sum in place of an Id.
+    let least = assign(0, id(1));
+    let room = MOST_NODES as usize - nodes(&around(least.clone())) + nodes(&least);
+    let sums = (0..3).find(|sums| (room + 1 - 2 * sums).is_multiple_of(3)).expect("one fits");
+    let command = |index: usize| {
+        let name = outer(index as u32);
+        assign(name, if index < sums { sum(id(name), id(1)) } else { id(name) })
+    };
+    around(balanced((0..(room + 1 - 2 * sums) / 3).map(command).collect()))
+}
+
+/// Sums nested to the right down to the greatest depth, from a spine of CSeqs:
+/// nearly 2,000 nodes, of which most stand deep.
+fn deep() -> Command {
+    const SPINE: u32 = 18;
+    let value = |assign_depth: u32| -> Expression {
+        (assign_depth + 1..MOST_DEPTH).fold(id(0), |right, _| sum(num(1), right))
+    };
+    (1..=SPINE).rev().fold(assign(0, num(0)), |rest, depth| cseq(assign(0, value(depth + 1)), rest))
+}
+
+fn balanced(mut all: Vec<Command>) -> Command {
+    if all.len() == 1 {
+        return all.remove(0);
+    }
+    let second = all.split_off(all.len() / 2);
+    cseq(balanced(all), balanced(second))
+}
+
+fn nodes(command: &Command) -> usize {
+    Node::from(command).preorder().len()
+}

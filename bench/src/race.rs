@@ -1,0 +1,23 @@
+//! One row of a table: the same work by the engine and the second interpreter.
+
+pub struct Race {
+    pub name: &'static str,
+    /// What a time is divided by: the nodes of a check.
+    pub units: u64,
+    /// Nanoseconds a call.
+    pub engine: f64,
+    pub second: f64,
+}
+
+/// Prints races with the time for each unit and how many times longer the
+/// second interpreter takes.
+pub fn print_table(title: &str, units: &str, races: &[Race]) {
+    println!("{title}");
+    println!("  {:<36} {units:>7} {:>9} {:>9} {:>14}", "", "engine", "second", "second/engine");
+    for Race { name, units, engine, second } in races {
+        let count = *units as f64;
+        let ratio = second / engine;
+        let (engine, second) = (engine / count, second / count);
+        println!("  {name:<36} {units:>7} {engine:>9.2} {second:>9.2} {ratio:>14.2}");
+    }
+}

@@ -1,0 +1,132 @@
+//! The command line: long comparisons by one command.
+
+use compare::difference::Difference;
+use compare::sample::{compare_check, Sample};
+use compare::tally::Tally;
+use second::generate::Family;
+use std::process::ExitCode;
+use std::time::{Duration, Instant};
+
+const HELP: &str = "\
+compare: holds the engine's static library against the second interpreter
+
+usage: compare COMMAND
+
+  check COUNT SEED           compares the check of COUNT images made from SEED,
+                             SEED + 1, and so on, of all families
+  check COUNT SEED FAMILY    the same, of one family
+  help                       prints this
+
+Progress goes to standard error. The first difference is printed, as a tree and as
+words, and ends the comparison. Exit status: 0 no difference, 1 a difference, 2 bad
+usage.
+
+families: small medium large faulty limits damaged shaped plausible words host
+";
+
+/// How often progress is told.
+const PROGRESS: Duration = Duration::from_secs(2);
+
+/// Compares one sample and counts what it was answered.
+type Comparison = fn(Sample, &mut Tally) -> Result<(), Box<Difference>>;
+
+/// The comparisons by their command.
+const COMPARISONS: [(&str, Comparison); 1] = [("check", compare_check)];
+
+/// A command line, understood.
+enum Request {
+    Help,
+    Compare { name: &'static str, comparison: Comparison, samples: Samples },
+}
+
+struct Samples {
+    count: u64,
+    seed: u64,
+    /// One family, or a mixture of all.
+    family: Option<Family>,
+}
+
+fn main() -> ExitCode {
+    let arguments: Vec<String> = std::env::args().skip(1).collect();
+    match understand(&arguments) {
+        Ok(Request::Help) => {
+            print!("{HELP}");
+            ExitCode::SUCCESS
+        }
+        Ok(Request::Compare { name, comparison, samples }) => {
+            compare_all(name, comparison, &samples)
+        }
+        Err(message) => {
+            eprintln!("compare: {message}");
+            ExitCode::from(2)
+        }
+    }
+}
+
+fn understand(arguments: &[String]) -> Result<Request, String> {
+    let arguments: Vec<&str> = arguments.iter().map(String::as_str).collect();
+    let (command, rest) = match arguments.as_slice() {
+        [] => return Err("no command; `compare help` lists them".to_string()),
+        ["help" | "--help" | "-h"] => return Ok(Request::Help),
+        [command, rest @ ..] => (*command, rest),
+    };
+    let Some((name, comparison)) = COMPARISONS.into_iter().find(|(name, _)| *name == command)
+    else {
+        return Err(format!("no command {command}; `compare help` lists them"));
+    };
+    let (count, seed, family) = match rest {
+        [count, seed] => (count, seed, None),
+        [count, seed, family] => (count, seed, Some(*family)),
+        _ => return Err(format!("{name} takes COUNT, SEED and FAMILY or not; see `compare help`")),
+    };
+    let family = match family {
+        None => None,
+        Some(family) => Some(
+            Family::named(family)
+                .ok_or_else(|| format!("no family {family}; `compare help` lists them"))?,
+        ),
+    };
+    let samples = Samples { count: number(count, "COUNT")?, seed: number(seed, "SEED")?, family };
+    Ok(Request::Compare { name, comparison, samples })
+}
+
+fn number(text: &str, what: &str) -> Result<u64, String> {
+    text.parse().map_err(|_| format!("{what} must be a whole number, not {text}"))
+}
+
+impl Samples {
+    fn sample(&self, index: u64) -> Sample {
+        let seed = self.seed.wrapping_add(index);
+        match self.family {
+            Some(family) => Sample { family, seed },
+            None => Sample::mixed(seed),
+        }
+    }
+}
+
+fn compare_all(name: &str, comparison: Comparison, samples: &Samples) -> ExitCode {
+    let mut tally = Tally::default();
+    let began = Instant::now();
+    let mut told = began;
+    for index in 0..samples.count {
+        let sample = samples.sample(index);
+        if let Err(difference) = comparison(sample, &mut tally) {
+            println!("{difference}");
+            println!("after {} calls that agreed; this case alone:", tally.calls());
+            println!("compare {name} 1 {} {}", sample.seed, sample.family_name());
+            return ExitCode::FAILURE;
+        }
+        if told.elapsed() >= PROGRESS {
+            told = Instant::now();
+            eprintln!("{name}: {} of {} images, no difference", index + 1, samples.count);
+        }
+    }
+    print!("{}", tally.text());
+    println!(
+        "{name}: {} images, {} calls, no difference, {:.1} s",
+        samples.count,
+        tally.calls(),
+        began.elapsed().as_secs_f64(),
+    );
+    ExitCode::SUCCESS
+}

@@ -1,0 +1,58 @@
+//! The binary: its commands, and clear errors for bad usage.
+
+use std::process::Command;
+
+/// Standard output, standard error and the exit status.
+fn compare(arguments: &[&str]) -> (String, String, Option<i32>) {
+    let output =
+        Command::new(env!("CARGO_BIN_EXE_compare")).args(arguments).output().expect("it starts");
+    let text = |bytes| String::from_utf8(bytes).expect("text");
+    (text(output.stdout), text(output.stderr), output.status.code())
+}
+
+#[test]
+fn check_counts_what_it_compared() {
+    let (output, _, status) = compare(&["check", "300", "9"]);
+    assert_eq!(status, Some(0), "{output}");
+    assert!(output.contains("check: 300 images, "), "{output}");
+    assert!(output.contains(" calls, no difference"), "{output}");
+    assert!(output.contains("  command\n"), "{output}");
+}
+
+#[test]
+fn check_takes_each_family() {
+    for (family, _) in second::generate::Family::ALL {
+        let (output, _, status) = compare(&["check", "3", "18446744073709551614", family]);
+        assert_eq!(status, Some(0), "{output}");
+        assert!(output.contains("check: 3 images, "), "{output}");
+        assert!(compare(&["help"]).0.contains(family));
+    }
+}
+
+#[test]
+fn help_goes_to_standard_output() {
+    for word in ["help", "--help", "-h"] {
+        let (output, error, status) = compare(&[word]);
+        assert_eq!((status, error.as_str()), (Some(0), ""));
+        assert!(output.contains("check COUNT SEED"));
+    }
+}
+
+#[test]
+fn bad_usage_says_what_is_wrong() {
+    let cases: [(&[&str], &str); 8] = [
+        (&[], "no command"),
+        (&["compare"], "no command compare"),
+        (&["check"], "check takes COUNT, SEED"),
+        (&["check", "1"], "check takes COUNT, SEED"),
+        (&["check", "1", "2", "small", "4"], "check takes COUNT, SEED"),
+        (&["check", "many", "2"], "COUNT must be a whole number, not many"),
+        (&["check", "1", "-2"], "SEED must be a whole number, not -2"),
+        (&["check", "1", "2", "tiny"], "no family tiny"),
+    ];
+    for (arguments, message) in cases {
+        let (output, error, status) = compare(arguments);
+        assert_eq!(status, Some(2), "{arguments:?}");
+        assert!(output.is_empty() && error.contains(message), "{arguments:?}: {error}");
+    }
+}

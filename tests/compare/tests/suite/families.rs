@@ -1,0 +1,94 @@
+//! Every family of the generators, tens of thousands of images in all.
+
+use compare::sample::{compare_check, Sample};
+use compare::tally::Tally;
+use second::generate::Family;
+
+/// Compares so many images of a family; the tally says what came up.
+fn family(family: Family, count: u64) -> Tally {
+    let mut tally = Tally::default();
+    for seed in 0..count {
+        let sample = Sample { family, seed: 0xc0de_0000 + seed };
+        compare_check(sample, &mut tally).unwrap_or_else(|difference| panic!("{difference}"));
+    }
+    assert!(tally.calls() >= count);
+    tally
+}
+
+/// Each of these came up, so often at least.
+fn reaches(tally: &Tally, refusals: &[u32], often: u64) {
+    for number in refusals {
+        assert!(tally.refused(*number) >= often, "{number} in\n{}", tally.text());
+    }
+}
+
+#[test]
+fn small() {
+    let tally = family(Family::Small, 10_000);
+    reaches(&tally, &[0, 22], 500);
+}
+
+#[test]
+fn medium() {
+    let tally = family(Family::Medium, 3_000);
+    reaches(&tally, &[0, 22], 100);
+}
+
+#[test]
+fn large() {
+    let tally = family(Family::Large, 600);
+    reaches(&tally, &[0, 22], 20);
+}
+
+#[test]
+fn faulty() {
+    let tally = family(Family::Faulty, 4_000);
+    reaches(&tally, &[0, 22], 100);
+}
+
+#[test]
+fn limits() {
+    let tally = family(Family::Limits, 2_000);
+    reaches(&tally, &[0, 2, 6, 22], 50);
+}
+
+#[test]
+fn damaged() {
+    let tally = family(Family::Damaged, 12_000);
+    reaches(&tally, &[0, 1, 2, 3, 4, 5, 6, 10, 11, 12, 13, 14, 22], 30);
+}
+
+#[test]
+fn shaped() {
+    let tally = family(Family::Shaped, 10_000);
+    reaches(&tally, &[0, 10, 11, 22], 50);
+}
+
+#[test]
+fn plausible() {
+    let tally = family(Family::Plausible, 10_000);
+    reaches(&tally, &[0, 1, 2, 3, 4, 5, 22], 20);
+}
+
+#[test]
+fn words() {
+    let tally = family(Family::Words, 4_000);
+    reaches(&tally, &[1, 2, 22], 50);
+}
+
+#[test]
+fn host() {
+    let tally = family(Family::Host, 6_000);
+    reaches(&tally, &[0, 1, 2, 3, 4, 5, 10, 11, 22], 20);
+}
+
+/// The mixture that long comparisons are made of.
+#[test]
+fn mixture() {
+    let mut tally = Tally::default();
+    for seed in 0..5_000 {
+        compare_check(Sample::mixed(seed), &mut tally)
+            .unwrap_or_else(|difference| panic!("{difference}"));
+    }
+    reaches(&tally, &[0, 1, 2, 3, 4, 5, 6, 10, 11, 12, 13, 14, 22], 1);
+}

@@ -1,0 +1,54 @@
+//! What the tests share: one comparison that must find nothing, and the paper's
+//! images.
+
+use compare::check;
+use second::build::*;
+use second::engine::{Answer, WORK_WORDS};
+use second::generate::random::Random;
+use second::tree::{Place, Root};
+use second::Refusal;
+
+/// The answer that both give, with work words enough.
+pub fn agreed(image: &[u32], random: &mut Random) -> Answer {
+    agreed_at(image, WORK_WORDS, random)
+}
+
+/// The answer that both give with a work slice of this length.
+pub fn agreed_at(image: &[u32], work_length: usize, random: &mut Random) -> Answer {
+    check::compare(image, work_length, random).unwrap_or_else(|difference| panic!("{difference}"))
+}
+
+/// The answer that both give to a tree with this many registers.
+pub fn agreed_tree(registers: u32, root: impl Into<Root>) -> Answer {
+    agreed(&image(registers, root), &mut Random::new(0))
+}
+
+pub fn refused(number: u32, place: Place) -> Answer {
+    Answer::Refused(Refusal::new(number, place))
+}
+
+/// Words 5 0, 6 1 4 1 1, 0 5 0 3 2: 5 × (3 + 2).
+pub const CALCULATOR: [u32; 12] = [5, 0, 6, 1, 4, 1, 1, 0, 5, 0, 3, 2];
+
+/// The images of the cases A to L, each with the checker's answer by the paper.
+/// B and C are A's image, and G's three runs are of one image.
+pub fn papers_images() -> Vec<(&'static str, Vec<u32>, Answer)> {
+    let cell = blk(bind_ref(1, id(0)), assign(0, sum(id(1), id(1))));
+    let body = block(bind_ref(3, id(2)), assign(0, id(3)));
+    let function = blk(bind_abs(1, &[(2, 0)], body), call(1, vec![num(7)]));
+    let location = blk(bind_ref(1, deref(0)), assign(0, sum(valref(1), num(1))));
+    let unassignable = blk(bind_ref(1, deref(0)), assign(1, deref(0)));
+    let unseen = blk(dseq(bind_ref(1, num(1)), bind_ref(2, id(1))), assign(1, num(0)));
+    vec![
+        ("A", CALCULATOR.to_vec(), Answer::Code(0)),
+        ("D", image(0, sub(num(3), num(5))), Answer::Code(0)),
+        ("E", image(0, div(num(1), num(0))), Answer::Code(0)),
+        ("F", image(1, div(id(0), num(2))), Answer::Code(0)),
+        ("G", image(2, factorial()), Answer::Command),
+        ("H", image(1, cell), Answer::Command),
+        ("I", image(1, function), Answer::Command),
+        ("J", image(1, location), Answer::Command),
+        ("K", image(1, unassignable), refused(13, 4)),
+        ("L", image(0, unseen), refused(10, 7)),
+    ]
+}
