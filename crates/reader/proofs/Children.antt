@@ -15,7 +15,8 @@ use Rattle.rules.specs.ReaderSound.{number-of}
 use Rattle.reader.specs.Scan.{Want, an-expression, a-formal, a-block, child-wants}
 use Rattle.reader.specs.Tables.{want-of, wants-by, wants-at, rest-wants, rest-wants-by, rest-wants-at, WantedAt}
 use Rattle.reader.specs.Answers.{Passing}
-use Rattle.reader.proofs.Rows.{counts, firsts, lasts, static-count, all-below, at-each, Row-at, no-kind, a-kind, RowOf, row-at}
+use Rattle.reader.specs.KindRows.{counts, firsts, lasts}
+use Rattle.reader.proofs.Rows.{static-count, all-below, at-each, Row-at, no-kind, a-kind, RowOf, row-at}
 use Rattle.reader.proofs.Faults.{known-low}
 
 known-wants : (k w : ℕ) (kind : Kind) → kind-of k ≡ some kind → wants-at k w ≡ child-wants kind w

@@ -13,7 +13,8 @@ use Rattle.rules.specs.ReaderComplete.{kind-number}
 use Rattle.rules.specs.ReaderSound.{number-of}
 use Rattle.reader.specs.Scan.{accepts}
 use Rattle.reader.specs.Tables.{want-of, fault-by, fault-of}
-use Rattle.reader.proofs.Rows.{bit, bounds, accepted, Row-at, no-kind, a-kind, RowOf, row-at}
+use Rattle.reader.specs.KindRows.{bounds, accepted}
+use Rattle.reader.proofs.Rows.{bit, Row-at, no-kind, a-kind, RowOf, row-at}
 
 kind-low : (k : Kind) → kind-number k < 43
 kind-low (expression-kind num) = omega arith

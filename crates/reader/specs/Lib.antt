@@ -5,3 +5,4 @@ pub mod Tables
 pub mod Answers
 pub mod Stored
 pub mod StoredLaws
+pub mod KindRows

@@ -1,503 +1,93 @@
 // The table of kinds, by numbers: what a node's operand is below, where a kind may stand, how many children it has and what is wanted
 // of them.
 ghost use mathlib.Core.Path.{_≡_};
-ghost use Prim.Native.Nat.{_<_};
-ghost use lib.ListN.{length};
+ghost use Prim.Native.Nat.{_+_, _*_, _<_};
+ghost use lib.ListN.{length, getD};
+ghost use Rattle.reader.specs.KindRows.{bounds, accepted, counts, firsts, lasts, bit-at};
 ghost use Rattle.reader.specs.Tables.{fault-of, wants-at, WantedAt};
 ghost use Rattle.reader.specs.Answers.{Passing};
 
-// For each kind, the number that its operands are below; 0 where no kind has this number.
-const BOUNDS: [u64; 43] = [
-    0,
-    4294967296,
-    2,
-    64,
-    1,
-    1,
-    1,
-    1,
-    1,
-    1,
-    1,
-    1,
-    1,
-    1,
-    1,
-    1,
-    64,
-    64,
-    0,
-    0,
-    64,
-    1,
-    1,
-    1,
-    576,
-    0,
-    0,
-    0,
-    0,
-    0,
-    64,
-    1,
-    0,
-    0,
-    0,
-    0,
-    0,
-    0,
-    0,
-    0,
-    1,
-    9,
-    512,
-];
+// One bit of a mask over the kinds.
+fn has(mask: u64, kind: usize) -> u64
+    requires { ⌜ kind < 43 ⌝ }
+    ensures { λ r. ⌜ r ≡ bit-at mask kind ⌝ }
+{
+    (mask >> kind) % 2
+}
 
-// For each want and each kind, whether the kind may stand there: rows of 43 for an expression, a command, a declaration, what a
-// Bind binds, a Formal, a Blk, the root.
-const ACCEPTED: [u64; 301] = [
-    0,
-    1,
-    1,
-    1,
-    1,
-    1,
-    1,
-    1,
-    1,
-    1,
-    1,
-    1,
-    1,
-    1,
-    1,
-    1,
-    1,
-    1,
-    0,
-    0,
-    0,
-    0,
-    0,
-    0,
-    0,
-    0,
-    0,
-    0,
-    0,
-    0,
-    0,
-    0,
-    0,
-    0,
-    0,
-    0,
-    0,
-    0,
-    0,
-    0,
-    0,
-    0,
-    0,
-    0,
-    0,
-    0,
-    0,
-    0,
-    0,
-    0,
-    0,
-    0,
-    0,
-    0,
-    0,
-    0,
-    0,
-    0,
-    0,
-    0,
-    0,
-    0,
-    0,
-    1,
-    1,
-    1,
-    1,
-    1,
-    0,
-    0,
-    0,
-    0,
-    0,
-    0,
-    0,
-    0,
-    0,
-    0,
-    0,
-    0,
-    0,
-    0,
-    0,
-    0,
-    0,
-    0,
-    0,
-    0,
-    0,
-    0,
-    0,
-    0,
-    0,
-    0,
-    0,
-    0,
-    0,
-    0,
-    0,
-    0,
-    0,
-    0,
-    0,
-    0,
-    0,
-    0,
-    0,
-    0,
-    0,
-    0,
-    0,
-    0,
-    0,
-    0,
-    0,
-    0,
-    1,
-    1,
-    0,
-    0,
-    0,
-    0,
-    0,
-    0,
-    0,
-    0,
-    0,
-    0,
-    0,
-    0,
-    1,
-    1,
-    1,
-    1,
-    1,
-    1,
-    1,
-    1,
-    1,
-    1,
-    1,
-    1,
-    1,
-    1,
-    1,
-    1,
-    1,
-    0,
-    0,
-    0,
-    0,
-    0,
-    0,
-    0,
-    0,
-    0,
-    0,
-    0,
-    0,
-    0,
-    0,
-    0,
-    0,
-    0,
-    0,
-    0,
-    0,
-    0,
-    0,
-    1,
-    1,
-    0,
-    0,
-    0,
-    0,
-    0,
-    0,
-    0,
-    0,
-    0,
-    0,
-    0,
-    0,
-    0,
-    0,
-    0,
-    0,
-    0,
-    0,
-    0,
-    0,
-    0,
-    0,
-    0,
-    0,
-    0,
-    0,
-    0,
-    0,
-    0,
-    0,
-    0,
-    0,
-    0,
-    0,
-    0,
-    0,
-    0,
-    0,
-    0,
-    0,
-    0,
-    0,
-    0,
-    1,
-    0,
-    0,
-    0,
-    0,
-    0,
-    0,
-    0,
-    0,
-    0,
-    0,
-    0,
-    0,
-    0,
-    0,
-    0,
-    0,
-    0,
-    0,
-    0,
-    0,
-    0,
-    0,
-    0,
-    1,
-    0,
-    0,
-    0,
-    0,
-    0,
-    0,
-    0,
-    0,
-    0,
-    0,
-    0,
-    0,
-    0,
-    0,
-    0,
-    0,
-    0,
-    0,
-    0,
-    0,
-    1,
-    1,
-    1,
-    1,
-    1,
-    1,
-    1,
-    1,
-    1,
-    1,
-    1,
-    1,
-    1,
-    1,
-    1,
-    1,
-    1,
-    0,
-    0,
-    1,
-    1,
-    1,
-    1,
-    1,
-    0,
-    0,
-    0,
-    0,
-    0,
-    0,
-    0,
-    0,
-    0,
-    0,
-    0,
-    0,
-    0,
-    0,
-    0,
-    0,
-    0,
-    0,
-];
+// The number that a kind's operands are below; 0 where no kind has this number.
+fn bound(kind: usize) -> u64
+    requires { ⌜ kind < 43 ⌝ }
+    ensures { λ r. ⌜ r ≡ getD bounds kind 0 ⌝ }
+{
+    if kind == 1 {
+        return 4294967296;
+    }
+    if kind == 2 {
+        return 2;
+    }
+    if kind == 24 {
+        return 576;
+    }
+    if kind == 41 {
+        return 9;
+    }
+    if kind == 42 {
+        return 512;
+    }
+    63 * has(1074987016, kind) + has(1102748844024, kind)
+}
 
-// For each kind, how many children it has; a Call and an Abs have as many as their operands say.
-const COUNTS: [u64; 43] = [
-    0,
-    0,
-    0,
-    0,
-    2,
-    2,
-    2,
-    2,
-    2,
-    2,
-    2,
-    2,
-    2,
-    2,
-    2,
-    1,
-    0,
-    0,
-    0,
-    0,
-    1,
-    2,
-    2,
-    2,
-    0,
-    0,
-    0,
-    0,
-    0,
-    0,
-    1,
-    2,
-    0,
-    0,
-    0,
-    0,
-    0,
-    0,
-    0,
-    0,
-    1,
-    0,
-    0,
-];
+// 1 where a kind may stand where this is wanted.
+fn stands(want: usize, kind: usize) -> u64
+    requires { ⌜ kind < 43 ⌝ }
+    requires { ⌜ want < 7 ⌝ }
+    ensures { λ r. ⌜ r ≡ getD accepted (want * 43 + kind) 0 ⌝ }
+{
+    if want == 0 {
+        return has(262142, kind);
+    }
+    if want == 1 {
+        return has(32505856, kind);
+    }
+    if want == 2 {
+        return has(3221225472, kind);
+    }
+    if want == 3 {
+        return has(3298535145470, kind);
+    }
+    if want == 4 {
+        return has(4398046511104, kind);
+    }
+    if want == 5 {
+        return has(8388608, kind);
+    }
+    has(32767998, kind)
+}
 
-// What is wanted of a child that is not the last, and of the last one.
-const FIRSTS: [u64; 43] = [
-    0,
-    0,
-    0,
-    0,
-    0,
-    0,
-    0,
-    0,
-    0,
-    0,
-    0,
-    0,
-    0,
-    0,
-    0,
-    0,
-    0,
-    0,
-    0,
-    0,
-    0,
-    0,
-    1,
-    2,
-    0,
-    0,
-    0,
-    0,
-    0,
-    0,
-    3,
-    2,
-    0,
-    0,
-    0,
-    0,
-    0,
-    0,
-    0,
-    0,
-    0,
-    4,
-    0,
-];
+// How many children a kind has, but for a Call and an Abs.
+fn count(kind: usize) -> u64
+    requires { ⌜ kind < 43 ⌝ }
+    ensures { λ r. ⌜ r ≡ getD counts kind 0 ⌝ }
+{
+    has(2162196464, kind) + has(1102748647408, kind)
+}
 
-const LASTS: [u64; 43] = [
-    0,
-    0,
-    0,
-    0,
-    0,
-    0,
-    0,
-    0,
-    0,
-    0,
-    0,
-    0,
-    0,
-    0,
-    0,
-    0,
-    0,
-    0,
-    0,
-    0,
-    0,
-    1,
-    1,
-    1,
-    0,
-    0,
-    0,
-    0,
-    0,
-    0,
-    3,
-    2,
-    0,
-    0,
-    0,
-    0,
-    0,
-    0,
-    0,
-    0,
-    0,
-    5,
-    0,
-];
+// What is wanted of a child that is not the last.
+fn first(kind: usize) -> u64
+    requires { ⌜ kind < 43 ⌝ }
+    ensures { λ r. ⌜ r ≡ getD firsts kind 0 ⌝ }
+{
+    has(1077936128, kind) + 2 * has(3229614080, kind) + 4 * has(2199023255552, kind)
+}
+
+// What is wanted of the last child.
+fn last(kind: usize) -> u64
+    requires { ⌜ kind < 43 ⌝ }
+    ensures { λ r. ⌜ r ≡ getD lasts kind 0 ⌝ }
+{
+    has(2200111677440, kind) + 2 * has(3221225472, kind) + 4 * has(2199023255552, kind)
+}
 
 // The checks of a node but its depth: kind (3), wrong sort (5), operand (4); 0 where it passes them.
 pub(crate) fn node_fault(kind: usize, operand: u64, want: usize) -> u64
@@ -507,15 +97,15 @@ pub(crate) fn node_fault(kind: usize, operand: u64, want: usize) -> u64
     if 43 <= kind {
         return 3;
     }
-    let bound = BOUNDS[kind];
-    if bound == 0 {
+    let limit = bound(kind);
+    if limit == 0 {
         return 3;
     }
-    let accepted = ACCEPTED[want * 43 + kind];
+    let accepted = stands(want, kind);
     if accepted == 0 {
         return 5;
     }
-    if bound <= operand {
+    if limit <= operand {
         return 4;
     }
     0
@@ -532,7 +122,7 @@ pub(crate) fn child_count(kind: usize, operand: u64) -> usize
     if kind == 41 {
         return operand as usize + 1;
     }
-    COUNTS[kind] as usize
+    count(kind) as usize
 }
 
 // What is wanted of the child that has this many with it to come.
@@ -542,8 +132,8 @@ pub(crate) fn child_want(kind: usize, left: usize) -> usize
     ensures { λ r. ⌜ WantedAt kind left r ⌝ }
 {
     if left == 1 {
-        LASTS[kind] as usize
+        last(kind) as usize
     } else {
-        FIRSTS[kind] as usize
+        first(kind) as usize
     }
 }

@@ -1,32 +1,32 @@
 -- `tables::child_want` answers the number of what is wanted of a child, by its parent's kind and how many children are left. Assumes nothing.
+use mathlib.Core.Path.{sym, subst}
+use Rattle.reader.specs.Tables.{WantedAt}
 use Rattle.reader.proofs.Children.{last-wanted, first-wanted}
 use borrow.Author.Needs.{needs}
 use Rattle.reader.proofs.tables.child_want.Statement.{statement}
 use Rattle.reader.proofs.tables.child_want.Tie as tie
+use Rattle.reader.proofs.tables.child_want.Reads as reads
+use Rattle.reader.proofs.tables.child_want.Lts as lts
+use Rattle.reader.proofs.tables.first.Reads as first-reads
+use Rattle.reader.proofs.tables.last.Reads as last-reads
 
-mul-result : tie.Need-mul-result
-mul-result c = search needs
+last-requires : tie.Need-last-requires
+last-requires c κs = search needs
 
-array-read-result : tie.Need-array-read-result
-array-read-result c = search needs
-
-mul-result-2 : tie.Need-mul-result-2
-mul-result-2 c = search needs
-
-array-read-result-2 : tie.Need-array-read-result-2
-array-read-result-2 c = search needs
+first-requires : tie.Need-first-requires
+first-requires c κs = search needs
 
 returns : tie.Need-returns
 returns c =
-    let start = c .before in
-    last-wanted (start .args .kind) (start .args .left) (start .pre .0) (c .if1 .taken)
+    let start = c .before .before in
+    let a = start .args in
+    subst (WantedAt (a .kind) (a .left)) (sym (c .last .ensures)) (last-wanted (a .kind) (a .left) (start .pre .0) (c .before .if1 .taken))
 
 returns-2 : tie.Need-returns-2
 returns-2 c =
-    let start = c .before in
-    first-wanted (start .args .kind) (start .args .left) (start .pre .0) (start .pre .1) (c .if1 .left)
+    let start = c .before .before in
+    let a = start .args in
+    subst (WantedAt (a .kind) (a .left)) (sym (c .first .ensures)) (first-wanted (a .kind) (a .left) (start .pre .0) (start .pre .1) (c .before .if1 .left))
 
 pub child-want-spec : {M : Type 1} → statement M
-child-want-spec =
-    tie.close
-    (tie.spec mul-result array-read-result mul-result-2 array-read-result-2 returns returns-2)
+child-want-spec = tie.close (tie.spec last-requires first-requires returns returns-2)
