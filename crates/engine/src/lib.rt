@@ -56,6 +56,7 @@ fn examine(image: &[u32], work: &mut [u64]) -> Checked
     }
 }
 
+// By `check-exact` (rules, ImageExact.antt) an image passes here exactly when it meets the paper's shape, scope and type rules.
 // The checker alone: any image words, any work words. Under 8,192 work words nothing is touched; every other call leaves the first
 // 8,192 of them 0 and the rest as they were.
 pub fn check(image: &[u32], work: &mut [u64]) -> Checked
