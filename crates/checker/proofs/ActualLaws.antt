@@ -5,7 +5,6 @@ use mathlib.Core.List.{List, [], _∷_}
 use native.Mathlib.Omega.{arith}
 use lib.ListN.{length, getD}
 use Rattle.rules.specs.Limits.{names, codes}
-use Rattle.rules.specs.Refusals.{Refusal}
 use Rattle.rules.specs.Tree.{Expression, Formal}
 use Rattle.rules.specs.Checker.{Scope, Judged, fault, fine, _>>=_, Fine, ok, same-code, same-codes, expression-code, expression-codes}
 use Rattle.reader.specs.Pack.{packed-operand, packed-end}
@@ -15,7 +14,8 @@ use Rattle.checker.specs.Answers.{answer, code-answer, fine-answer, Expr
 use Rattle.checker.specs.Commands.{ActualsAt, FormalsAt, CodesAt, AgreesAt}
 use Rattle.checker.specs.declared.Answer.{Answer}
 use Rattle.checker.specs.declared.Answer.the-variants.{Is, Fault}
-use Rattle.checker.proofs.AnswerLaws.{two-answers, same-is, then-fault, then-fine, then-code}
+use Rattle.checker.proofs.AnswerLaws.{two-answers, same-is, same-fine, then-inverse, then-fault, then-fine, then-code}
+use Rattle.checker.proofs.FormalLaws.{first-formal, formal-code}
 use Rattle.checker.proofs.ExpressionLaws.{expression-low, expression-end}
 
 -- ---- The first of some.
@@ -43,35 +43,6 @@ first-actual words node count es f a = by (a .stored) (a .number)
 
 pub first-actual-low : (words : List ℕ) (node count : ℕ) → (count ≡ 0 → ⊥) → ((es : List Expression) × ActualsAt words node count es) → node < 2000
 first-actual-low words node count f a = expression-low (first-actual words node count (a .0) f (a .1) .stands .stored)
-
-pub record FirstFormal (words : List ℕ) (node count : ℕ) (fs : List Formal) : Type 0 where
-  pub first : Formal
-  pub rest : List Formal
-  pub split : fs ≡ first ∷ rest
-  pub coded : packed-operand (getD words node 0) / 64 ≡ first .code
-  pub low : node < 2000
-  pub others : FormalsAt words (node + 1) (count - 1) rest
-
-pub first-formal : (words : List ℕ) (node count : ℕ) (fs : List Formal) → (count ≡ 0 → ⊥) → FormalsAt words node count fs → FirstFormal words node count fs
-first-formal words node count fs f a = by (a .stored) (a .number)
-  where
-    after : (i : ℕ) → suc i ≡ i + 1
-    after i = omega arith
-
-    parted : (x c : ℕ) → x < 64 → (x + 64 * c) / 64 ≡ c
-    parted x c l = omega arith
-
-    by : {j : ℕ} {fs : List Formal} → StoredFormals words node j fs → length fs ≡ count → FirstFormal words node count fs
-    by no-formals q = absurd (f (sym q))
-    by {j = j} (one-formal {f = g} {fs = fs} p l m h s) q =
-        record {
-          first = g;
-          rest = fs;
-          split = refl;
-          coded = ap (λ w. w / 64) (operand-is h (omega arith)) ∙ parted (g .name) (g .code) l;
-          low = h .place-low;
-          others = record { next = j; stored = subst (λ i. StoredFormals words i j fs) (after node) s; number = omega (arith, q) };
-        }
 
 -- ---- All the actuals.
 
@@ -106,27 +77,19 @@ module _ (words : List ℕ) (registers scope node count : ℕ) (some-left : coun
 -- ---- Against the Formals.
 
 -- Codes that are all there are the first one and the others.
-record CodesParted (Γ : Scope) (e : Expression) (es : List Expression) (cs : List ℕ) : Type 0 where
-  head : ℕ
-  tail : List ℕ
-  whole : cs ≡ head ∷ tail
-  first-is : expression-code Γ e ≡ fine head
-  rest-are : expression-codes Γ es ≡ fine tail
+pub record CodesParted (Γ : Scope) (e : Expression) (es : List Expression) (cs : List ℕ) : Type 0 where
+  pub head : ℕ
+  pub tail : List ℕ
+  pub whole : cs ≡ head ∷ tail
+  pub first-is : expression-code Γ e ≡ fine head
+  pub rest-are : expression-codes Γ es ≡ fine tail
 
-codes-parted : (Γ : Scope) (e : Expression) (es : List Expression) (cs : List ℕ) → expression-codes Γ (e ∷ es) ≡ fine cs → CodesParted Γ e es cs
+pub codes-parted : (Γ : Scope) (e : Expression) (es : List Expression) (cs : List ℕ) → expression-codes Γ (e ∷ es) ≡ fine cs → CodesParted Γ e es cs
 unfolding expression-codes
-codes-parted Γ e es cs = by (expression-code Γ e) (expression-codes Γ es) refl refl
-  where
-    never : {A : Type 0} (r : Refusal) (p : ℕ) (a : A) → fault r p ≡ fine a → ⊥
-    never r p a q = let z : _≡_ {A = ℕ} 0 1 = cc in omega arith
-
-    inject : (a b : List ℕ) → fine a ≡ fine b → a ≡ b
-    inject a b q = cc
-
-    by : (i : Judged ℕ) (j : Judged (List ℕ)) → expression-code Γ e ≡ i → expression-codes Γ es ≡ j → (i >>= λ c. j >>= λ cs. fine (c ∷ cs)) ≡ fine cs → CodesParted Γ e es cs
-    by (fault r p) j a b q = absurd (never r p cs q)
-    by (fine c) (fault r p) a b q = absurd (never r p cs q)
-    by (fine c) (fine d) a b q = record { head = c; tail = d; whole = sym (inject (c ∷ d) cs q); first-is = a; rest-are = b }
+codes-parted Γ e es cs q =
+    let first = then-inverse (expression-code Γ e) (λ c. expression-codes Γ es >>= λ ds. fine (c ∷ ds)) cs q in
+    let rest = then-inverse (expression-codes Γ es) (λ ds. fine (first .0 ∷ ds)) cs (first .2) in
+    record { head = first .0; tail = rest .0; whole = sym (same-fine (first .0 ∷ rest .0) cs (rest .2)); first-is = first .1; rest-are = rest .1 }
 
 pub agree-none : (words : List ℕ) (registers scope place node formal count : ℕ) → count ≡ 0 → AgreesAt words registers scope place node formal count (Is 0)
 agree-none words registers scope place node formal count q es fs cs Γ a b s k = by fs (b .number ∙ q)
@@ -148,14 +111,14 @@ module _ (words : List ℕ) (registers scope place node formal count : ℕ) (som
         r ≡ fine-answer (same-code place (f .code) c >>= λ done. same-codes place rest cs)) → AgreesAt words registers scope place node formal count r
     pair r done es fs cs Γ a b s k =
         let f = first-actual words node count es some-left a in
-        let g = first-formal words formal count fs some-left b in
+        let g = first-formal b some-left in
         let parted = codes-parted Γ (f .first) (f .rest) cs (subst (λ l. expression-codes Γ l ≡ fine cs) (f .split) k) in
         let code-is : parted .head ≡ c = same-is one (parted .head) c (judged (f .first) Γ (f .stands) s ∙ ap code-answer (parted .first-is)) got in
         subst (λ l. r ≡ fine-answer (same-codes place l cs)) (sym (g .split))
         (subst (λ l. r ≡ fine-answer (same-codes place (g .first ∷ g .rest) l)) (sym (parted .whole))
         (subst (λ h. r ≡ fine-answer (same-code place (g .first .code) h >>= λ done. same-codes place (g .rest) (parted .tail))) (sym code-is)
-        (done (g .rest) (f .rest) (parted .tail) Γ (g .first) (f .others) (g .others) s (parted .rest-are)
-        (subst (λ w. agrees ≡ fine-answer (same-code place w c)) (coded ∙ g .coded) compared))))
+        (done (g .rest) (f .rest) (parted .tail) Γ (g .first) (f .others) (g .later) s (parted .rest-are)
+        (subst (λ w. agrees ≡ fine-answer (same-code place w c)) (coded ∙ formal-code g (packed-operand (getD words formal 0)) refl) compared))))
 
     pub agree-apart : (x p : ℕ) → agrees ≡ Fault x p → AgreesAt words registers scope place node formal count agrees
     agree-apart x p q = pair agrees (λ rest others cs Γ f a b s k h. then-fault (λ done. 0) (λ done. 0) (same-code place (f .code) c) (λ done. same-codes place rest cs) agrees x p h q)

@@ -2,9 +2,11 @@
 use Prim.Native.Nat.{ℕ, zero, suc}
 use mathlib.Core.Path.{_≡_, refl, sym, ap, _∙_, subst}
 use native.Mathlib.Omega.{arith}
-use Rattle.rules.specs.Refusals.{refusal-number}
+use Rattle.rules.specs.Refusals.{Refusal, refusal-number}
 use Rattle.rules.specs.Checker.{Judged, fault, fine, _>>=_, Fine, ok, truth-only}
 use Rattle.checker.specs.Answers.{answer, code-answer, fine-answer}
+use Rattle.checker.specs.declared.Found.{Found}
+use Rattle.checker.specs.declared.Found.the-variants.{Bound, Nothing}
 use Rattle.checker.specs.declared.Answer.{Answer}
 use Rattle.checker.specs.declared.Answer.the-variants.{Is, Fault}
 
@@ -36,3 +38,24 @@ pub truth-fine : (p t : ℕ) → code-answer (truth-only p 0 t) ≡ fine-answer 
 truth-fine p zero = refl
 truth-fine p (suc zero) = refl
 truth-fine p (suc (suc t)) = refl
+
+-- ---- Judgements that are fine, and what a look-up finds.
+
+pub no-fault : {A : Type 0} (r : Refusal) (p : ℕ) (a : A) → _≡_ {A = Judged A} (fault r p) (fine a) → ⊥
+no-fault r p a q = let z : _≡_ {A = ℕ} 0 1 = cc in omega arith
+
+pub same-fine : {A : Type 0} (a b : A) → _≡_ {A = Judged A} (fine a) (fine b) → a ≡ b
+same-fine a b q = cc
+
+pub then-inverse : {A B : Type 0} (j : Judged A) (f : A → Judged B) (b : B) → (j >>= f) ≡ fine b → (a : A) × (j ≡ fine a) × (f a ≡ fine b)
+then-inverse (fault r p) f b q = absurd (no-fault r p b q)
+then-inverse (fine a) f b q = (a, refl, q)
+
+pub nothing-bound : (f : Found) (a b : ℕ) → f ≡ Nothing → f ≡ Bound a b → ⊥
+nothing-bound f a b g h = let z : _≡_ {A = ℕ} 0 1 = cc in omega arith
+
+pub same-number : (f : Found) (a b c d : ℕ) → f ≡ Bound a b → f ≡ Bound c d → a ≡ c
+same-number f a b c d g h = cc
+
+pub same-pointer : (f : Found) (a b c d : ℕ) → f ≡ Bound a b → f ≡ Bound c d → b ≡ d
+same-pointer f a b c d g h = cc

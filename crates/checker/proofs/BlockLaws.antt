@@ -16,7 +16,8 @@ use Rattle.checker.specs.declared.Answer.{Answer}
 use Rattle.checker.specs.declared.Answer.the-variants.{Is, Fault}
 use Rattle.checker.proofs.AnswerLaws.{two-answers, same-is}
 use Rattle.checker.proofs.KeptLaws.{kept-command, kept-scope, scope-with}
-use Rattle.checker.proofs.StandingLaws.{command-low, declaration-low, declaration-on, declaration-end, after-node, kept-end}
+use Rattle.checker.proofs.PlaceLaws.{after-node}
+use Rattle.checker.proofs.StandingLaws.{command-low, declaration-low, declaration-on, declaration-end, kept-end}
 
 -- ---- Names that were declared.
 

@@ -15,26 +15,12 @@ use Rattle.checker.specs.Answers.{code-answer, fine-answer, meaning-answ
 use Rattle.checker.specs.Commands.{Kept, FormalsAt, BlockAt, BoundAt, NamesFrom, names-from, names-fault, BlockFineAt, MeansAt}
 use Rattle.checker.specs.declared.Answer.{Answer}
 use Rattle.checker.specs.declared.Answer.the-variants.{Is, Fault}
-use Rattle.checker.proofs.AnswerLaws.{two-answers, same-is, then-fault, then-fine, then-code}
+use Rattle.checker.proofs.AnswerLaws.{two-answers, same-is, no-fault, same-fine, then-inverse, then-fault, then-fine, then-code}
+use Rattle.checker.proofs.PlaceLaws.{after-node}
 use Rattle.checker.proofs.ExpressionLaws.{operator-below, expression-low}
 use Rattle.checker.proofs.NameLaws.{scope-numbered}
 use Rattle.checker.proofs.KeptLaws.{kept-lower, kept-then, kept-block, kept-scope, scope-with}
 use Rattle.checker.proofs.FormalLaws.{formals-give, FormalsFrom, named}
-
-following : (i : ℕ) → suc i ≡ i + 1
-following i = omega arith
-
--- ---- Judgements that are fine.
-
-pub no-fault : {A : Type 0} (r : Refusal) (p : ℕ) (a : A) → _≡_ {A = Judged A} (fault r p) (fine a) → ⊥
-no-fault r p a q = let z : _≡_ {A = ℕ} 0 1 = cc in omega arith
-
-pub same-fine : {A : Type 0} (a b : A) → _≡_ {A = Judged A} (fine a) (fine b) → a ≡ b
-same-fine a b q = cc
-
-pub then-inverse : {A B : Type 0} (j : Judged A) (f : A → Judged B) (b : B) → (j >>= f) ≡ fine b → (a : A) × (j ≡ fine a) × (f a ≡ fine b)
-then-inverse (fault r p) f b q = absurd (no-fault r p b q)
-then-inverse (fine a) f b q = (a, refl, q)
 
 -- ---- Every code is below 8.
 
@@ -143,7 +129,7 @@ module _ {words : List ℕ} {node : ℕ} where
       (function-at (subst (λ n. HasWord words n 41 (length fs) k) here w) (subst (λ n. StoredFormals words (suc n) j fs) here f))
 
   pub bound-meaning : {registers scope : ℕ} {b : Bound} (Γ : Scope) (m : Meaning) → BoundAt words (node + 1) b → ScopeAt words registers scope Γ → bound-means Γ b ≡ fine m → MeaningAt words node m
-  bound-meaning Γ m at s q = stored-meaning Γ m s (at .stored) (sym (following node)) q
+  bound-meaning Γ m at s q = stored-meaning Γ m s (at .stored) (sym (after-node node)) q
 
   pub meaning-low : {m : Meaning} → MeaningAt words node m → meaning-number m < 16
   meaning-low (code-at l) = omega (arith, l)
@@ -200,7 +186,7 @@ seen-bound words node which b known at = by (at .stored)
     by : {d j : ℕ} {b : Bound} → StoredBound words d node j b → SeenBound words node which b
     by {d = d} {j = j} (plain-of h) = seen-plain {w = which} (omega (arith, known, expression-kind h)) (record { depth = d; next = j; stored = h })
     by {d = suc d} {j = j} (ref {e = e} w h) =
-        of-kind (kind-is w (omega arith)) (seen-ref (record { depth = d; next = j; stored = subst (λ i. StoredExpression words d i j e) (following node) h }))
+        of-kind (kind-is w (omega arith)) (seen-ref (record { depth = d; next = j; stored = subst (λ i. StoredExpression words d i j e) (after-node node) h }))
     by {d = suc d} (abs {j = j} {k = k} {fs = fs} {b = b} l w f h) =
         let counted : packed-operand (getD words node 0) ≡ length fs = operand-is w (omega arith) in
         let here : j ≡ node + 1 + packed-operand (getD words node 0) = last node j (length fs) (packed-operand (getD words node 0)) (formals-next f) counted in
@@ -210,7 +196,7 @@ seen-bound words node which b known at = by (at .stored)
           formals = fs;
           body = b;
           same = refl;
-          formals-at = record { next = j; stored = subst (λ i. StoredFormals words i j fs) (following node) f; number = sym counted };
+          formals-at = record { next = j; stored = subst (λ i. StoredFormals words i j fs) (after-node node) f; number = sym counted };
           block-at = record { depth = d; next = k; stored = subst (λ i. StoredBlock words d i k b) here h };
           low = omega (arith, here, block-low h);
         })

@@ -18,15 +18,11 @@ use Rattle.checker.specs.declared.Found.{Found}
 use Rattle.checker.specs.declared.Found.the-variants.{Bound, Nothing}
 use Rattle.checker.specs.declared.Answer.{Answer}
 use Rattle.checker.specs.declared.Answer.the-variants.{Is, Fault}
-use Rattle.checker.proofs.AnswerLaws.{then-fault, then-fine}
+use Rattle.checker.proofs.ActualLaws.{codes-parted}
+use Rattle.checker.proofs.AnswerLaws.{nothing-bound, same-number, same-pointer, same-fine, then-fault, then-fine}
+use Rattle.checker.proofs.PlaceLaws.{after-node, name-part, number-part}
 
 -- ---- The node's word: the name and the count.
-
-name-part : (x n : ℕ) → x < 64 → (x + 64 * n) % 64 ≡ x
-name-part x n l = omega arith
-
-count-part : (x n : ℕ) → x < 64 → (x + 64 * n) / 64 ≡ n
-count-part x n l = omega arith
 
 pub call-place : {words : List ℕ} {node x : ℕ} {es : List Expression} → CallAt words node x es → node < 2000
 call-place a = a .word .place-low
@@ -36,7 +32,7 @@ call-name {x = x} word q a = ap (λ w. w % 64) (q ∙ operand-is (a .word) (omeg
 
 pub call-actuals : {words : List ℕ} {node x : ℕ} {es : List Expression} (word : ℕ) → word ≡ packed-operand (getD words node 0) → CallAt words node x es → ActualsAt words (node + 1) (word / 64) es
 call-actuals {words} {node} {x} {es} word q a =
-    subst (λ n. ActualsAt words (node + 1) n es) (sym (ap (λ w. w / 64) (q ∙ operand-is (a .word) (omega arith)) ∙ count-part x (a .count) (a .name-low))) (a .actuals)
+    subst (λ n. ActualsAt words (node + 1) n es) (sym (ap (λ w. w / 64) (q ∙ operand-is (a .word) (omega arith)) ∙ number-part x (a .count) (a .name-low))) (a .actuals)
 
 -- ---- Counts.
 
@@ -53,34 +49,13 @@ count-apart p (g ∷ fs) [] f = refl
 count-apart p (g ∷ fs) (c ∷ cs) f = count-apart p fs cs (λ q. f (omega (arith, q)))
 
 codes-length : (Γ : Scope) (es : List Expression) (cs : List ℕ) → expression-codes Γ es ≡ fine cs → length cs ≡ length es
-unfolding expression-codes
-codes-length Γ [] cs q = ap length (sym (inject [] cs q))
+codes-length Γ [] cs q = ap length (sym (same-fine [] cs (none-left q)))
   where
-    inject : (a b : List ℕ) → fine a ≡ fine b → a ≡ b
-    inject a b q = cc
-codes-length Γ (e ∷ es) cs q = by (expression-code Γ e) (expression-codes Γ es) (codes-length Γ es) q
-  where
-    never : (r : Refusal) (p : ℕ) (a : List ℕ) → fault r p ≡ fine a → ⊥
-    never r p a q = let z : _≡_ {A = ℕ} 0 1 = cc in omega arith
-
-    inject : (a b : List ℕ) → fine a ≡ fine b → a ≡ b
-    inject a b q = cc
-
-    by : (i : Judged ℕ) (j : Judged (List ℕ)) → ((ds : List ℕ) → j ≡ fine ds → length ds ≡ length es) → (i >>= λ c. j >>= λ cs. fine (c ∷ cs)) ≡ fine cs → length cs ≡ suc (length es)
-    by (fault r p) j later q = absurd (never r p cs q)
-    by (fine c) (fault r p) later q = absurd (never r p cs q)
-    by (fine c) (fine d) later q = ap length (sym (inject (c ∷ d) cs q)) ∙ ap suc (later d refl)
+    none-left : expression-codes Γ [] ≡ fine cs → _≡_ {A = Judged (List ℕ)} (fine []) (fine cs)
+    none-left p = unfold expression-codes in p
+codes-length Γ (e ∷ es) cs q = let parted = codes-parted Γ e es cs q in ap length (parted .whole) ∙ ap suc (codes-length Γ es (parted .tail) (parted .rest-are))
 
 -- ---- What was found.
-
-nothing-bound : (f : Found) (a b : ℕ) → f ≡ Nothing → f ≡ Bound a b → ⊥
-nothing-bound f a b g h = let z : _≡_ {A = ℕ} 0 1 = cc in omega arith
-
-same-number : (f : Found) (a b c d : ℕ) → f ≡ Bound a b → f ≡ Bound c d → a ≡ c
-same-number f a b c d g h = cc
-
-same-pointer : (f : Found) (a b c d : ℕ) → f ≡ Bound a b → f ≡ Bound c d → b ≡ d
-same-pointer f a b c d g h = cc
 
 unfoldable after-function : (p : ℕ) → List ℕ → List Formal → Judged Fine
 after-function p cs fs = same-count p fs cs >>= λ done. same-codes p fs cs
@@ -103,10 +78,7 @@ function-found {words} {o} {f} number pointer found q e = by found q
     at : {k : ℕ} {m : Meaning} → MeaningAt words k m → meaning-number m ≡ 8 → FunctionAt words (suc k) (some m)
     at (code-at l) q = absurd (omega (arith, l, q))
     at {k = k} (function-at {fs = fs} {j = j} h g) q =
-        record { formals = fs; meant = refl; counted = operand-is h (omega arith); low = h .place-low; end = j; stored = subst (λ i. StoredFormals words i j fs) (after k) g }
-      where
-        after : (k : ℕ) → suc (suc k) ≡ suc k + 1
-        after k = omega arith
+        record { formals = fs; meant = refl; counted = operand-is h (omega arith); low = h .place-low; end = j; stored = subst (λ i. StoredFormals words i j fs) (after-node (suc k)) g }
 
     by : {o : Option Meaning} {f : Found} → FoundAs words o f → f ≡ Bound number pointer → FunctionAt words pointer o
     by found-nothing q = absurd (nothing-bound _ _ _ refl q)

@@ -14,14 +14,9 @@ use Rattle.checker.specs.declared.Found.{Found}
 use Rattle.checker.specs.declared.Found.the-variants.{Bound, Nothing}
 use Rattle.checker.specs.declared.Answer.{Answer}
 use Rattle.checker.specs.declared.Answer.the-variants.{Is, Fault}
+use Rattle.checker.proofs.AnswerLaws.{nothing-bound, same-number}
 
 -- ---- A name's meaning.
-
-nothing-bound : (f : Found) (a b : ℕ) → f ≡ Nothing → f ≡ Bound a b → ⊥
-nothing-bound f a b g h = let z : _≡_ {A = ℕ} 0 1 = cc in omega arith
-
-same-bound : (f : Found) (a b c d : ℕ) → f ≡ Bound a b → f ≡ Bound c d → a ≡ c
-same-bound f a b c d g h = cc
 
 pub meaning-absent : (words : List ℕ) (node : ℕ) {o : Option Meaning} {f : Found} → FoundAs words o f → f ≡ Nothing → Fault 10 node ≡ meaning-answer (bound-name node o)
 unfolding refusal-number
@@ -31,8 +26,8 @@ meaning-absent words node found-register q = absurd (nothing-bound _ _ _ q refl)
 
 pub meaning-present : (words : List ℕ) (node n k : ℕ) {o : Option Meaning} {f : Found} → FoundAs words o f → f ≡ Bound n k → Is n ≡ meaning-answer (bound-name node o)
 meaning-present words node n k found-nothing q = absurd (nothing-bound _ _ _ refl q)
-meaning-present words node n k (found-binding h) q = ap Is (same-bound _ _ _ _ _ q refl)
-meaning-present words node n k found-register q = ap Is (same-bound _ _ _ _ _ q refl)
+meaning-present words node n k (found-binding h) q = ap Is (same-number _ _ _ _ _ q refl)
+meaning-present words node n k found-register q = ap Is (same-number _ _ _ _ _ q refl)
 
 -- ---- Id, DeRef and ValRef.
 

@@ -17,7 +17,8 @@ use Rattle.checker.specs.declared.Answer.{Answer}
 use Rattle.checker.specs.declared.Answer.the-variants.{Is, Fault}
 use Rattle.checker.proofs.AnswerLaws.{then-fault, then-fine, then-code, truth-fine}
 use Rattle.checker.proofs.ExpressionLaws.{expression-low, expression-on, expression-end}
-use Rattle.checker.proofs.StandingLaws.{command-low, command-on, command-end, after-node}
+use Rattle.checker.proofs.PlaceLaws.{after-node}
+use Rattle.checker.proofs.StandingLaws.{command-low, command-on, command-end}
 use Rattle.checker.proofs.KeptLaws.{kept-command, kept-scope}
 
 -- ---- Which command it is.

@@ -18,7 +18,8 @@ use Rattle.checker.specs.Commands.{Kept, BoundAt, DeclarationAt, NamesFr
 use Rattle.checker.specs.declared.Answer.{Answer}
 use Rattle.checker.specs.declared.Answer.the-variants.{Is, Fault}
 use Rattle.checker.proofs.AnswerLaws.{two-answers, same-is}
-use Rattle.checker.proofs.StandingLaws.{declaration-on, bound-on, after-node}
+use Rattle.checker.proofs.PlaceLaws.{after-node}
+use Rattle.checker.proofs.StandingLaws.{declaration-on, bound-on}
 use Rattle.checker.proofs.StandingLaws as Standing
 use Rattle.checker.proofs.KeptLaws.{kept-lower, kept-then, kept-declaration, kept-meaning, kept-rows, kept-scope, kept-row, row-there, rows-append}
 use Rattle.checker.proofs.BoundLaws.{bound-low, bound-meaning, meaning-low}

@@ -15,6 +15,7 @@ use Rattle.checker.specs.Rows.{ScopeAt}
 use Rattle.checker.specs.Answers.{code-answer, NameAt, id-at, deref-at, valref-at, ExpressionAt, CodeAt}
 use Rattle.checker.specs.declared.Answer.{Answer}
 use Rattle.checker.specs.declared.Answer.the-variants.{Is, Fault}
+use Rattle.checker.proofs.PlaceLaws.{after-node}
 use Rattle.checker.proofs.AnswerLaws.{then-fault, then-code}
 
 pub operator-above : (o : Operator) → 3 < operator-number o
@@ -88,10 +89,7 @@ pub data Seen (words : List ℕ) (node : ℕ) : (which : ℕ) → Expression →
   seen-negation : {e : Expression} → ExpressionAt words (node + 1) e → Seen words node 15 (Not node e)
 
 child-place : {words : List ℕ} {d i j : ℕ} {e : Expression} → StoredExpression words d (suc i) j e → StoredExpression words d (i + 1) j e
-child-place {words} {d} {i} {j} {e} s = subst (λ k. StoredExpression words d k j e) (after i) s
-  where
-    after : (i : ℕ) → suc i ≡ i + 1
-    after i = omega arith
+child-place {words} {d} {i} {j} {e} s = subst (λ k. StoredExpression words d k j e) (after-node i) s
 
 pub seen : (words : List ℕ) (node which : ℕ) (e : Expression) → which ≡ packed-kind (getD words node 0) → ExpressionAt words node e → Seen words node which e
 seen words node which e k at = by (at .stored) k

@@ -15,6 +15,7 @@ use Rattle.checker.specs.Rows.{row-word, code-at, Rows, one-row, RowFoun
 use Rattle.checker.specs.Commands.{FormalsAt, NamesFrom, names-from, names-fault}
 use Rattle.checker.specs.declared.Answer.{Answer}
 use Rattle.checker.specs.declared.Answer.the-variants.{Is, Fault}
+use Rattle.checker.proofs.PlaceLaws.{after-node, name-part, number-part}
 use Rattle.checker.proofs.RowLaws.{row-has, row-has-not}
 use Rattle.checker.proofs.KeptLaws.{kept-rows, kept-formals, kept-row, row-there}
 
@@ -54,12 +55,9 @@ first-formal {words} {count = count} a f = by (a .stored) (a .number) f
           name-low = l;
           code-low = c;
           word = h;
-          later = record { next = k; stored = subst (λ j. StoredFormals words j k gs) (following i) s; number = fewer (length gs) q };
+          later = record { next = k; stored = subst (λ j. StoredFormals words j k gs) (after-node i) s; number = fewer (length gs) q };
         }
       where
-        following : (i : ℕ) → suc i ≡ i + 1
-        following i = omega arith
-
         fewer : (n : ℕ) → suc n ≡ count → n ≡ count - 1
         fewer n e = omega arith
 
@@ -68,16 +66,10 @@ module _ {words : List ℕ} {node count : ℕ} {fs : List Formal} (o : FirstForm
   formal-word = is ∙ operand-is (o .word) (omega arith)
 
   pub formal-name : w % 64 ≡ o .first .name
-  formal-name = ap (λ v. v % 64) formal-word ∙ inside (o .first .name) (o .first .code) (o .name-low)
-    where
-      inside : (x c : ℕ) → x < 64 → (x + 64 * c) % 64 ≡ x
-      inside x c h = omega arith
+  formal-name = ap (λ v. v % 64) formal-word ∙ name-part (o .first .name) (o .first .code) (o .name-low)
 
   pub formal-code : w / 64 ≡ o .first .code
-  formal-code = ap (λ v. v / 64) formal-word ∙ inside (o .first .name) (o .first .code) (o .name-low)
-    where
-      inside : (x c : ℕ) → x < 64 → (x + 64 * c) / 64 ≡ c
-      inside x c h = omega arith
+  formal-code = ap (λ v. v / 64) formal-word ∙ number-part (o .first .name) (o .first .code) (o .name-low)
 
 pub formal-node-low : (words : List ℕ) (node count : ℕ) → ((fs : List Formal) × FormalsAt words node count fs) → ¬ (count ≡ 0) → node < 2000
 formal-node-low words node count e f = first-formal (e .1) f .word .place-low
@@ -126,7 +118,7 @@ module _ (words : List ℕ) (scope tail node count w found : ℕ) (some-left : �
   formal-rows v long low row fs a seen r =
       let o = first-formal a some-left in
       let place = o .word .place-low in
-      subst (λ j. Rows (set words (2000 + node) v) j scope (named (o .first) ∷ seen)) (following node)
+      subst (λ j. Rows (set words (2000 + node) v) j scope (named (o .first) ∷ seen)) (after-node node)
       (one-row {x = o .first .name} {m = o .first .code} {l = tail}
       record {
         word = row-there words node v place long ∙ row ∙ ap (λ x. row-word x (w / 64) tail) (formal-name o w is) ∙ ap (λ m. row-word (o .first .name) m tail) (formal-code o w is);
@@ -136,9 +128,6 @@ module _ (words : List ℕ) (scope tail node count w found : ℕ) (some-left : �
         link-low = low;
       }
       refl refl (code-at (o .code-low)) (kept-rows (kept-row words node v place) r low))
-    where
-      following : (i : ℕ) → suc i ≡ i + 1
-      following i = omega arith
 
   pub formals-more : (v : ℕ) (words″ : List ℕ) (answer : Answer) → 4000 ≤ length words → tail ≤ node → v ≡ row-word (w % 64) (w / 64) tail → found ≡ scope →
       FormalsFrom (set words (2000 + node) v) words″ scope (node + 1) (node + 1) (count - 1) answer → FormalsFrom words words″ scope tail node count answer

@@ -11,6 +11,7 @@ mod ExpressionLaws
 mod FormalLaws
 mod KeptLaws
 mod NameLaws
+mod PlaceLaws
 mod RootLaws
 mod RowLaws
 mod StandingLaws

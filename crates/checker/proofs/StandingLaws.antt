@@ -66,10 +66,6 @@ pub declaration-end : {words : List ℕ} {d i j : ℕ} {c : Declaration} → Sto
 declaration-end (bind l h a) = end-is h (omega arith)
 declaration-end (dseq h a b) = end-is h (omega arith)
 
--- The first child of a node stands after it.
-pub after-node : (i : ℕ) → suc i ≡ i + 1
-after-node i = omega arith
-
 -- A node's end is the same where its word was kept.
 pub kept-end : {words words′ : List ℕ} {node : ℕ} (i : ℕ) → Kept words words′ node → i < 2000 → packed-end (getD words′ i 0) ≡ packed-end (getD words i 0)
 kept-end i k l = ap packed-end (k .same-below i (omega (arith, l)))

@@ -227,7 +227,7 @@ fn truth(node: usize, result: usize, code: usize) -> Answer
 }
 
 // The code of the expression at a node in the scope at a pointer, or its first fault.
-pub fn expression(work: &[u64], registers: usize, scope: usize, node: usize) -> Answer
+pub(crate) fn expression(work: &[u64], registers: usize, scope: usize, node: usize) -> Answer
     requires { ⌜ 4000 ≤ length (now work) ⌝ }
     requires { ⌜ ((Γ : Scope) × ScopeAt (now work) registers scope Γ) ⌝ }
     requires { ⌜ ((e : Expression) × ExpressionAt (now work) node e) ⌝ }

@@ -11,7 +11,7 @@ use lib.ListN.{length, getD, replicate, length-replicate, length-append}
 use Rattle.rules.specs.Basics.{missing}
 use Rattle.rules.specs.Kinds.{Kind, kind-of, operand-bound, operand-fits, num, boo, id, deref, valref, binary, negation, assign, loop, cseq, blk, call, bind, dseq, expression-kind, command-kind, declaration-kind, ref, abs, formal}
 use Rattle.rules.specs.Reader.{upper-part}
-use Rattle.rules.specs.ReaderSound.{number-of}
+use Rattle.rules.specs.ReaderNodes.{number-of}
 use Rattle.reader.specs.Scan.{Want, an-expression, a-formal, a-block, child-wants}
 use Rattle.reader.specs.Tables.{want-of, wants-by, wants-at, rest-wants, rest-wants-by, rest-wants-at, WantedAt}
 use Rattle.reader.specs.Answers.{Passing}

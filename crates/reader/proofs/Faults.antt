@@ -10,7 +10,7 @@ use Rattle.rules.specs.Basics.{true-test, false-test}
 use Rattle.rules.specs.Kinds.{Kind, kind-of, operand-bound, operand-fits, num, boo, id, deref, valref, binary, negation, assign, loop, cseq, blk, call, bind, dseq, expression-kind, command-kind, declaration-kind, ref, abs, formal}
 use Rattle.rules.specs.Tree.{arithmetic, Eq, order, logic, Sum, Sub, Mul, Div, Lt, Le, Gt, Ge, And, Or}
 use Rattle.rules.specs.ReaderComplete.{kind-number}
-use Rattle.rules.specs.ReaderSound.{number-of}
+use Rattle.rules.specs.ReaderNodes.{number-of}
 use Rattle.reader.specs.Scan.{accepts}
 use Rattle.reader.specs.Tables.{want-of, fault-by, fault-of}
 use Rattle.reader.specs.KindRows.{bounds, accepted}

@@ -16,7 +16,7 @@ use Rattle.rules.specs.Refusals as Refusals
 use Rattle.rules.specs.Kinds.{Kind, kind-of, operand-fits}
 use Rattle.rules.specs.Reader.{Node, Got, refused, got, Read, then, _>>=_, give, Header, or-refuse, node, nodes-of}
 use Rattle.rules.specs.Listing.{a-node}
-use Rattle.rules.specs.ReaderSound.{number-of}
+use Rattle.rules.specs.ReaderNodes.{number-of}
 use Rattle.reader.specs.Pack.{pack, node-words}
 use Rattle.reader.specs.Put.{put, put-length, put-none, put-append, set-put, put-beyond}
 use Rattle.reader.specs.Scan.{Want, accepts, accepting, child-wants, scan-list, scan}

@@ -17,6 +17,7 @@ pub mod Basics
 pub mod Listing
 pub mod Shape
 pub mod ReaderComplete
+pub mod ReaderNodes
 pub mod ReaderSound
 pub mod ReaderExact
 pub mod FireExact

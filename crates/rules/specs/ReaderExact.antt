@@ -16,7 +16,8 @@ use Rattle.rules.specs.Reader.{Node, Got, refused, got, nodes-of, Readin
 use Rattle.rules.specs.Listing.{expression-nodes, formal-nodes, all-nodes, command-nodes, block-nodes, declaration-nodes, bound-nodes, root-nodes, kind-words, operand-words, image-words}
 use Rattle.rules.specs.Shape.{ShapedExpression, ShapedFormal, Many, none-left, one-more, ShapedCommand, ShapedBlock, ShapedDeclaration, ShapedBound, ShapedRoot}
 use Rattle.rules.specs.Shape as Shape
-use Rattle.rules.specs.ReaderSound.{Answers, RootRead, root-answers}
+use Rattle.rules.specs.ReaderNodes.{Answers}
+use Rattle.rules.specs.ReaderSound.{RootRead, root-answers}
 use Rattle.rules.specs.ReaderComplete.{root-read}
 
 -- The words are the image of the tree t with r registers.

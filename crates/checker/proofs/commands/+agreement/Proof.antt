@@ -5,7 +5,8 @@ use native.Mathlib.Omega.{arith}
 use denote.Ref.{now}
 use borrow.Author.Needs.{needs}
 use Rattle.checker.specs.Commands.{ActualsAt}
-use Rattle.checker.proofs.ActualLaws.{first-actual, first-actual-low, first-formal, agree-none, agree-fault, agree-apart, agree-rest}
+use Rattle.checker.proofs.FormalLaws.{first-formal}
+use Rattle.checker.proofs.ActualLaws.{first-actual, first-actual-low, agree-none, agree-fault, agree-apart, agree-rest}
 use Prim.Native.Nat.{ℕ, _<_}
 use borrow.Fn.Kinds.{In}
 use borrow.Fn.PlainCycle.{Measures, is, falls, and}
@@ -57,7 +58,7 @@ agreement-operand-requires : (t : ℕ) → agreement-lts.Need-operand-requires (
 agreement-operand-requires t c κs =
     let start = c .before .before .before .before .before .before in
     let formals = start .pre .1 .1 .1 .1 in
-    omega (arith, first-formal _ _ _ (formals .0) (c .before .before .before .before .if1 .left) (formals .1) .low, start .pre .1 .0)
+    omega (arith, first-formal (formals .1) (c .before .before .before .before .if1 .left) .word .place-low, start .pre .1 .0)
 
 agreement-same-requires : (t : ℕ) → agreement-lts.Need-same-requires (agreement-calls t) (agreement-at t) agreement.Post
 agreement-same-requires t c κs = search needs
@@ -80,7 +81,7 @@ agreement-add-agreement : (t : ℕ) → agreement-lts.Need-add-agreement (agreem
 agreement-add-agreement t c =
     let start = c .before .before .before .before .before .before .before .before .before .before .before .before in
     let formals = start .pre .1 .1 .1 .1 in
-    record { fits = omega (arith, first-formal _ _ _ (formals .0) (c .before .before .before .before .before .before .before .before .before .before .if1 .left) (formals .1) .low) }
+    record { fits = omega (arith, first-formal (formals .1) (c .before .before .before .before .before .before .before .before .before .before .if1 .left) .word .place-low) }
 
 agreement-sub-agreement : (t : ℕ) → agreement-lts.Need-sub-agreement (agreement-calls t) (agreement-at t) agreement.Post
 agreement-sub-agreement t c = omega (arith, c .before .before .before .before .before .before .before .before .before .before .if1 .left)
@@ -91,11 +92,11 @@ agreement-agreement-requires t c κs =
     let given = start .pre .1 .1 .1 .0 in
     let formals = start .pre .1 .1 .1 .1 in
     let first = first-actual _ _ _ (given .0) (c .before .before .before .before .before .before .before .before .before .before .if1 .left) (given .1) in
-    let formal = first-formal _ _ _ (formals .0) (c .before .before .before .before .before .before .before .before .before .before .if1 .left) (formals .1) in (
+    let formal = first-formal (formals .1) (c .before .before .before .before .before .before .before .before .before .before .if1 .left) in (
       omega (arith, c .before .before .before .before .before .before .before .before .before .before .if1 .left, start .pre .0),
       (
         start .pre .1 .0,
-        (start .pre .1 .1 .0, ((first .rest, subst (λ i. ActualsAt (now (start .args .work)) i (start .args .count - 1) (first .rest)) (sym (c .end .ensures)) (first .others)), (formal .rest, formal .others))),
+        (start .pre .1 .1 .0, ((first .rest, subst (λ i. ActualsAt (now (start .args .work)) i (start .args .count - 1) (first .rest)) (sym (c .end .ensures)) (first .others)), (formal .rest, formal .later))),
       ),
     )
 

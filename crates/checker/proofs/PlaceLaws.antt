@@ -1,0 +1,14 @@
+-- Places and packed operands: the node after a node, and the two parts of an operand that has a name and a number. Assumes nothing.
+use Prim.Native.Nat.{ℕ, suc, _+_, _*_, _/_, _%_, _<_}
+use mathlib.Core.Path.{_≡_}
+use native.Mathlib.Omega.{arith}
+
+-- The first child of a node stands after it.
+pub after-node : (i : ℕ) → suc i ≡ i + 1
+after-node i = omega arith
+
+pub name-part : (x n : ℕ) → x < 64 → (x + 64 * n) % 64 ≡ x
+name-part x n h = omega arith
+
+pub number-part : (x n : ℕ) → x < 64 → (x + 64 * n) / 64 ≡ n
+number-part x n h = omega arith
