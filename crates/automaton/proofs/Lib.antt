@@ -1,0 +1,5 @@
+mod JudgeLaws
+mod LookupLaws
+mod ModelLaws
+mod RegionLaws
+mod SharedLaws

@@ -1,0 +1,40 @@
+-- put_control: the regions after the writes. Assumes nothing.
+use mathlib.Core.Path.{refl}
+use native.Mathlib.Omega.{arith}
+use Prim.Native.Nat.{_+_}
+use denote.Ref.{now}
+use lib.ListN.{length-set}
+use Rattle.automaton.proofs.RegionLaws.{control-put}
+use borrow.Author.Needs.{needs}
+use Rattle.automaton.proofs.machine.put_control.Statement.{statement}
+use Rattle.automaton.proofs.machine.put_control.Tie as tie
+use Rattle.automaton.proofs.machine.put_control.Reads as reads
+use Rattle.automaton.proofs.machine.put_control.Lts as lts
+
+-- src/machine.rt:45:10
+add-work : tie.Need-add-work
+add-work c = search needs
+
+-- src/machine.rt:45:5
+mul-work : tie.Need-mul-work
+mul-work c = search needs
+
+-- src/machine.rt:45:5
+slice-write-work : tie.Need-slice-write-work
+slice-write-work c = search needs
+
+-- src/machine.rt:46:17
+add-m : tie.Need-add-m
+add-m c = search needs
+
+-- src/machine.rt:38:1
+same-length : tie.Need-same-length
+same-length c = search needs
+
+-- src/machine.rt:38:1
+returns : tie.Need-returns
+returns c = (refl, control-put (now (c .args .work)) (c .args .m) (c .pre .0) (c .args .item) (c .pre .1))
+
+pub put-control-spec : {M : Type 1} → statement M
+put-control-spec =
+    tie.close (tie.spec add-work mul-work slice-write-work add-m same-length returns)

@@ -1,0 +1,4 @@
+pub mod Regions
+pub mod Represents
+pub mod Rows
+pub mod Steps

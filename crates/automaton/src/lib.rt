@@ -1,0 +1,3 @@
+// The automaton: one step, and the run.
+mod machine;
+mod shared;

@@ -1,0 +1,46 @@
+-- `quotient` answers what the rules compute. Assumes nothing.
+use Rattle.integers.proofs.SignedLaws.{magnitude-positive}
+use Rattle.integers.proofs.QuotientLaws.{quotient-answered, quotient-by-zero}
+use borrow.Author.Needs.{needs}
+use Rattle.integers.proofs.quotient.Statement.{statement}
+use Rattle.integers.proofs.quotient.Tie as tie
+
+returns : tie.Need-returns
+returns c = quotient-by-zero (c .before .args .first) (c .before .args .second) (c .if1 .taken)
+
+magnitude-requires : tie.Need-magnitude-requires
+magnitude-requires c κs = search needs
+
+magnitude-requires-2 : tie.Need-magnitude-requires-2
+magnitude-requires-2 c κs = search needs
+
+opposite-requires : tie.Need-opposite-requires
+opposite-requires c κs = search needs
+
+div-with-sign : tie.Need-div-with-sign
+div-with-sign c =
+    let tested = c .before .before .before in
+    rw (c .before .magnitude2 .ensures) (magnitude-positive (tested .before .args .second) (tested .if1 .left))
+
+with-sign-requires : tie.Need-with-sign-requires
+with-sign-requires c κs = search needs
+
+returns-2 : tie.Need-returns-2
+returns-2 c =
+    let signs = c .before in
+    let second = signs .before in
+    let first = second .before in
+    let tested = first .before in
+    quotient-answered (tested .before .args .first) (tested .before .args .second) (first .magnitude .result) (second .magnitude2 .result) (signs .opposite .result) (c .with-sign .result) (tested .if1 .left) (first .magnitude .ensures) (second .magnitude2 .ensures) (signs .opposite .ensures) (c .with-sign .ensures)
+
+pub quotient-spec : {M : Type 1} → statement M
+quotient-spec =
+    tie.close
+    (tie.spec
+    returns
+    magnitude-requires
+    magnitude-requires-2
+    opposite-requires
+    div-with-sign
+    with-sign-requires
+    returns-2)

@@ -1,0 +1,33 @@
+-- Integers held as words, by two's complement in 64 bits, and what an arithmetic mark comes to in words. Assumes nothing.
+use Prim.Native.Nat.{ℕ, _-_, _^_}
+use mathlib.Core.Bool.{Bool, true, false, cond, not, Bool·beq}
+use lib.Dec.{ltb}
+use lib.IntN.{ℤ, pos, negsuc, negℤ}
+use lib.Signed.{nonNeg}
+use Rattle.rules.specs.Integers.{Result, number, failed}
+use Rattle.rules.specs.Refusals.{reason-number}
+use Rattle.integers.specs.declared.Computed.{Computed}
+use Rattle.integers.specs.declared.Computed.the-variants.{Number, Failed}
+
+-- The integer that a word holds: a word below 2^63 holds itself, any other holds what it is less 2^64 (`negsuc n` is −(n + 1)).
+unfoldable pub integer-of : ℕ → ℤ
+integer-of word = cond (ltb word (2 ^ 63)) (pos word) (negsuc (2 ^ 64 - 1 - word))
+
+-- The word that holds an integer of the range.
+unfoldable pub word-of : ℤ → ℕ
+word-of (pos n) = n
+word-of (negsuc n) = 2 ^ 64 - 1 - n
+
+-- A result of the rules, in words.
+unfoldable pub computed : Result → Computed
+computed (number z) = Number (word-of z)
+computed (failed reason) = Failed (reason-number reason)
+
+-- One of two integers is negative and the other is not.
+unfoldable pub opposite : ℤ → ℤ → Bool
+opposite y z = not (Bool·beq (nonNeg y) (nonNeg z))
+
+-- The integer of a sign and a magnitude: true is negative.
+unfoldable pub signed : Bool → ℕ → ℤ
+signed true magnitude = negℤ (pos magnitude)
+signed false magnitude = pos magnitude

@@ -1,0 +1,115 @@
+// The arithmetic of the automaton: 64-bit integers, each held in one word by two's complement.
+ghost use mathlib.Core.Path.{_≡_};
+ghost use lib.IntN.{natAbs};
+ghost use lib.Signed.{ltZ};
+ghost use Rattle.rules.specs.Tree.{Sum, Sub, Mul, Div};
+ghost use Rattle.rules.specs.Integers.{compute, ranged};
+ghost use Rattle.integers.specs.Words.{integer-of, computed, opposite, signed};
+
+// 2^63: the words from here on hold the negative integers, and it is the magnitude of the least of them.
+const LEAST: u64 = 9223372036854775808;
+
+// What an arithmetic mark comes to: the word of an integer, or the number of the reason for which its step is withheld.
+pub enum Computed {
+    Number(u64),
+    Failed(u64),
+}
+
+// Whether the first is below the second: with 2^63 added, words are in the order of their integers.
+pub fn less(first: u64, second: u64) -> bool
+    ensures { λ r. ⌜ r ≡ ltZ (integer-of first) (integer-of second) ⌝ }
+{
+    let first_place = std::num::wrapping_add_u64(first, LEAST);
+    let second_place = std::num::wrapping_add_u64(second, LEAST);
+    first_place < second_place
+}
+
+// The first plus the second: in range where the word is below the first exactly if the second is negative.
+pub fn sum(first: u64, second: u64) -> Computed
+    ensures { λ r. ⌜ r ≡ computed (compute Sum (integer-of first) (integer-of second)) ⌝ }
+{
+    let word = std::num::wrapping_add_u64(first, second);
+    if less(word, first) == (LEAST <= second) {
+        Computed::Number(word)
+    } else {
+        Computed::Failed(32)
+    }
+}
+
+// The first minus the second: in range where the word is above the first exactly if the second is negative.
+pub fn difference(first: u64, second: u64) -> Computed
+    ensures { λ r. ⌜ r ≡ computed (compute Sub (integer-of first) (integer-of second)) ⌝ }
+{
+    let word = std::num::wrapping_sub_u64(first, second);
+    if less(first, word) == (LEAST <= second) {
+        Computed::Number(word)
+    } else {
+        Computed::Failed(32)
+    }
+}
+
+// How far an integer is from zero.
+fn magnitude(word: u64) -> u64
+    ensures { λ r. ⌜ r ≡ natAbs (integer-of word) ⌝ }
+{
+    if word < LEAST {
+        word
+    } else {
+        u64::MAX - word + 1
+    }
+}
+
+// Whether one of two integers is negative and the other is not.
+fn opposite(first: u64, second: u64) -> bool
+    ensures { λ r. ⌜ r ≡ opposite (integer-of first) (integer-of second) ⌝ }
+{
+    (first < LEAST) != (second < LEAST)
+}
+
+// The integer of a sign and a magnitude.
+fn with_sign(negative: bool, magnitude: u64) -> Computed
+    ensures { λ r. ⌜ r ≡ computed (ranged (signed negative magnitude)) ⌝ }
+{
+    if negative {
+        if magnitude <= LEAST {
+            return Computed::Number(std::num::wrapping_sub_u64(0, magnitude));
+        }
+        return Computed::Failed(32);
+    }
+    if magnitude < LEAST {
+        return Computed::Number(magnitude);
+    }
+    Computed::Failed(32)
+}
+
+// The first times the second, by their magnitudes. A division tells whether the product fits, except where both are below 2^32.
+pub fn product(first: u64, second: u64) -> Computed
+    ensures { λ r. ⌜ r ≡ computed (compute Mul (integer-of first) (integer-of second)) ⌝ }
+{
+    let multiplicand = magnitude(first);
+    let multiplier = magnitude(second);
+    let negative = opposite(first, second);
+    if (multiplicand | multiplier) < 4294967296 {
+        return with_sign(negative, multiplicand * multiplier);
+    }
+    if multiplicand == 0 {
+        return Computed::Number(0);
+    }
+    if LEAST / multiplicand < multiplier {
+        return Computed::Failed(32);
+    }
+    with_sign(negative, multiplicand * multiplier)
+}
+
+// The first by the second, the fraction dropped toward zero, by their magnitudes.
+pub fn quotient(first: u64, second: u64) -> Computed
+    ensures { λ r. ⌜ r ≡ computed (compute Div (integer-of first) (integer-of second)) ⌝ }
+{
+    if second == 0 {
+        return Computed::Failed(31);
+    }
+    let dividend = magnitude(first);
+    let divisor = magnitude(second);
+    let negative = opposite(first, second);
+    with_sign(negative, dividend / divisor)
+}
