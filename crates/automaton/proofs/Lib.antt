@@ -1,5 +1,7 @@
 mod JudgeLaws
 mod LookupLaws
 mod ModelLaws
+mod NodeLaws
 mod RegionLaws
 mod SharedLaws
+mod TopLaws
