@@ -31,6 +31,9 @@ put-fits before m after r w f p low =
     subst (Fits after) (sym (p .machine-is))
     (fits-still before after m (raised-control m) f (ap (λ κ. κ .size) (p .regions-are)) (omega (arith, low)) (f .few-values) (f .few-bindings) (f .few-cells))
 
+pub put-after : (before : List ℕ) (m : Machine) → Fits before m → (after : List ℕ) (r : Machine) (w : ℕ) → Put before m w after r → m .control < 511 → Fits after r × (r .control < 512)
+put-after before m f after r w p low = (put-fits before m after r w f p (omega (arith, low)), omega (arith, ap (λ k. k .control) (p .machine-is), low))
+
 module _ (words : List ℕ) (m : Machine) (f : Fits words m) where
   -- A 513th value entry.
   pub push-withheld : (label payload : ℕ) → m .values ≡ 512 → Pushes words m label payload (Withheld 35) words

@@ -62,12 +62,7 @@ pub(crate) fn put_value(work: &mut [u64], mut m: Machine, label: u64, payload: u
 }
 
 // One more row: a name, what it is bound to, and the pointer of the row below it.
-pub(crate) fn put_row(
-    work: &mut [u64],
-    mut m: Machine,
-    label: u64,
-    payload: u64,
-) -> Machine
+pub(crate) fn put_row(work: &mut [u64], mut m: Machine, label: u64, payload: u64) -> Machine
     requires { ⌜ Fits (now work) m ⌝ }
     requires { ⌜ m .bindings < 512 ⌝ }
     ensures { λ r. ⌜ r ≡ raised-rows m ⌝ }

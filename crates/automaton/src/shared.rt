@@ -30,13 +30,7 @@ pub(crate) fn put_two(work: &mut [u64], m: Machine, below: u64, top: u64) -> Ste
 }
 
 // Three entries go on control.
-pub(crate) fn put_three(
-    work: &mut [u64],
-    m: Machine,
-    below: u64,
-    middle: u64,
-    top: u64,
-) -> Stepped
+pub(crate) fn put_three(work: &mut [u64], m: Machine, below: u64, middle: u64, top: u64) -> Stepped
     requires { ⌜ Fits (now work) m ⌝ }
     ensures { λ r. ⌜ PutsThree (now (work .entry)) m below middle top r (now (work .exit)) ⌝ }
 {

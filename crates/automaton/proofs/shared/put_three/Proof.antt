@@ -1,3 +1,9 @@
+-- put_three: three entries more on control, or 36. Assumes nothing.
+use Prim.Native.Nat.{_<_, _≤_}
+use mathlib.Core.Path.{_≡_, ap, _∙_}
+use native.Mathlib.Omega.{arith}
+use denote.Ref.{now}
+use Rattle.automaton.proofs.SharedLaws.{put-after, put-three-withheld, put-three-made}
 use borrow.Author.Needs.{needs}
 use Rattle.automaton.proofs.shared.put_three.Statement.{statement}
 use Rattle.automaton.proofs.shared.put_three.Tie as tie
@@ -7,7 +13,7 @@ use Rattle.automaton.proofs.machine.put_control.Reads as put-control-re
 
 -- src/shared.rt:44:9
 returns : tie.Need-returns
-returns c = ?
+returns c = let start = c .before .before .before in put-three-withheld _ _ (start .pre) _ _ _ (c .if1 .taken)
 
 -- src/shared.rt:46:9
 put-control-requires : tie.Need-put-control-requires
@@ -15,11 +21,20 @@ put-control-requires c κs = search needs
 
 -- src/shared.rt:47:9
 put-control-requires-2 : tie.Need-put-control-requires-2
-put-control-requires-2 c κs = ?
+put-control-requires-2 c κs =
+    let start = c .before .before .before .before .before .before .before .before in
+    let first = c .before .before .before .put-control in
+    put-after _ _ (start .pre) _ _ _ (record { machine-is = first .ensures .0; regions-are = first .ensures .1 }) (omega (arith, c .before .before .before .before .before .if1 .left))
 
 -- src/shared.rt:48:19
 put-control-requires-3 : tie.Need-put-control-requires-3
-put-control-requires-3 c κs = ?
+put-control-requires-3 c κs =
+    let start = c .before .before .before .before .before .before .before .before .before .before .before .before in
+    let first = c .before .before .before .before .before .before .before .put-control in
+    let second = c .before .before .before .put-control2 in
+    let low = c .before .before .before .before .before .before .before .before .before .if1 .left in
+    let after = put-after _ _ (start .pre) _ _ _ (record { machine-is = first .ensures .0; regions-are = first .ensures .1 }) (omega (arith, low)) in
+    put-after _ _ (after .0) _ _ _ (record { machine-is = second .ensures .0; regions-are = second .ensures .1 }) (omega (arith, low, ap (λ k. k .control) (first .ensures .0)))
 
 -- src/shared.rt:33:1
 same-length : tie.Need-same-length
@@ -27,7 +42,12 @@ same-length c = search needs
 
 -- src/shared.rt:33:1
 returns-2 : tie.Need-returns-2
-returns-2 c = ?
+returns-2 c =
+    let start = c .before .before .before .before .before .before .before .before .before .before .before .before .before .before .before in
+    let first = c .before .before .before .before .before .before .before .before .before .before .put-control in
+    let second = c .before .before .before .before .before .before .put-control2 in
+    let third = c .before .before .put-control3 in
+    put-three-made _ _ (start .pre) _ _ _ _ _ _ _ _ _ (c .before .before .before .before .before .before .before .before .before .before .before .before .if1 .left) (record { machine-is = first .ensures .0; regions-are = first .ensures .1 }) (record { machine-is = second .ensures .0; regions-are = second .ensures .1 }) (record { machine-is = third .ensures .0; regions-are = third .ensures .1 })
 
 pub put-three-spec : {M : Type 1} → statement M
 put-three-spec =

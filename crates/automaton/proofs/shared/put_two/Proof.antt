@@ -1,3 +1,9 @@
+-- put_two: two entries more on control, or 36. Assumes nothing.
+use Prim.Native.Nat.{_<_, _≤_}
+use mathlib.Core.Path.{_≡_, ap, _∙_}
+use native.Mathlib.Omega.{arith}
+use denote.Ref.{now}
+use Rattle.automaton.proofs.SharedLaws.{put-after, put-two-withheld, put-two-made}
 use borrow.Author.Needs.{needs}
 use Rattle.automaton.proofs.shared.put_two.Statement.{statement}
 use Rattle.automaton.proofs.shared.put_two.Tie as tie
@@ -7,7 +13,7 @@ use Rattle.automaton.proofs.machine.put_control.Reads as put-control-re
 
 -- src/shared.rt:26:9
 returns : tie.Need-returns
-returns c = ?
+returns c = let start = c .before .before .before in put-two-withheld _ _ (start .pre) _ _ (c .if1 .taken)
 
 -- src/shared.rt:28:9
 put-control-requires : tie.Need-put-control-requires
@@ -15,7 +21,10 @@ put-control-requires c κs = search needs
 
 -- src/shared.rt:29:19
 put-control-requires-2 : tie.Need-put-control-requires-2
-put-control-requires-2 c κs = ?
+put-control-requires-2 c κs =
+    let start = c .before .before .before .before .before .before .before .before in
+    let first = c .before .before .before .put-control in
+    put-after _ _ (start .pre) _ _ _ (record { machine-is = first .ensures .0; regions-are = first .ensures .1 }) (omega (arith, c .before .before .before .before .before .if1 .left))
 
 -- src/shared.rt:21:1
 same-length : tie.Need-same-length
@@ -23,7 +32,11 @@ same-length c = search needs
 
 -- src/shared.rt:21:1
 returns-2 : tie.Need-returns-2
-returns-2 c = ?
+returns-2 c =
+    let start = c .before .before .before .before .before .before .before .before .before .before .before in
+    let first = c .before .before .before .before .before .before .put-control in
+    let second = c .before .before .put-control2 in
+    put-two-made _ _ (start .pre) _ _ _ _ _ _ (c .before .before .before .before .before .before .before .before .if1 .left) (record { machine-is = first .ensures .0; regions-are = first .ensures .1 }) (record { machine-is = second .ensures .0; regions-are = second .ensures .1 })
 
 pub put-two-spec : {M : Type 1} → statement M
 put-two-spec =
