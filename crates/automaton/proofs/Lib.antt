@@ -1,7 +1,9 @@
+mod DispatchLaws
 mod JudgeLaws
 mod LookupLaws
 mod ModelLaws
 mod NodeLaws
 mod RegionLaws
 mod SharedLaws
+mod StepLaws
 mod TopLaws

@@ -1,4 +1,5 @@
 pub mod Regions
 pub mod Represents
 pub mod Rows
+pub mod Runs
 pub mod Steps

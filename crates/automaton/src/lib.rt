@@ -1,3 +1,87 @@
 // The automaton: one step, and the run.
 mod machine;
 mod shared;
+mod stubs;
+
+ghost use mathlib.Core.Path.{_≡_};
+ghost use mathlib.Core.List.{List, _∷_};
+ghost use Prim.Native.Nat.{ℕ};
+ghost use Rattle.rules.specs.Checker.{Passed};
+ghost use Rattle.rules.specs.States.{State, Item, Entry, Environment, Store};
+ghost use Rattle.rules.specs.Rules.{Rule, Effect, Table};
+ghost use Rattle.rules.specs.History.{History};
+ghost use Rattle.rules.specs.Continuation.{Invariant};
+ghost use Rattle.rules.specs.Run.{run, judge};
+ghost use Rattle.automaton.specs.Steps.{Holds};
+ghost use Rattle.automaton.specs.Runs.{Enabled, StepsFrom, RunAnswer};
+use crate::stubs::close;
+use crate::stubs::command_rule;
+use crate::stubs::declaration_rule;
+use crate::stubs::expression_rule;
+use crate::machine::Machine;
+use crate::machine::Stepped;
+use crate::stubs::make_cell;
+use crate::stubs::mark_rule;
+use reader::kind;
+
+// How a run ends, with the steps made and the machine in its last state: control is empty, or a step is withheld, with the number of the
+// reason.
+pub enum Ending {
+    Ended(u64, Machine),
+    Stopped(u64, u64, Machine),
+}
+
+// One step: the item on top of control is taken off, and its rule is applied.
+fn step(work: &mut [u64], mut m: Machine) -> Stepped
+    requires { ⌜ Enabled (now work) m ⌝ }
+    ensures { λ r. ⌜ StepsFrom (now (work .entry)) m r (now (work .exit)) ⌝ }
+{
+    let height = m.control;
+    let word = work[2047 + height];
+    m.control = height - 1;
+    if 2048 <= word {
+        return mark_rule(work, m, word);
+    }
+    let node = word as usize;
+    let which = kind(work, node);
+    if which < 20 {
+        return expression_rule(work, m, node, which);
+    }
+    if which < 30 {
+        return command_rule(work, m, node, which);
+    }
+    if which < 40 {
+        return declaration_rule(work, m, node, which);
+    }
+    if which == 40 {
+        return make_cell(work, m, node);
+    }
+    close(work, m, node)
+}
+
+// The run: steps until control is empty, a step is withheld, or the budget is used up.
+pub fn run(work: &mut [u64], first: Machine, budget: u64) -> Ending
+    requires { ⌜ ((a : Passed) × (r : ℕ) × (σ : State) × (h : History) × Holds (now work) first σ × Invariant a r σ h) ⌝ }
+    ensures { λ ending. ⌜ ((a : Passed) (r : ℕ) (σ : State) (h : History) → Holds (now (work .entry)) first σ → Invariant a r σ h → RunAnswer (run budget 0 σ) ending (now (work .entry)) (now (work .exit))) ⌝ }
+{
+    let mut m = first;
+    let mut left = budget;
+    let ending = loop {
+        if m.control == 0 {
+            break Ending::Ended(budget - left, m);
+        }
+        if left == 0 {
+            break Ending::Stopped(30, budget - left, m);
+        }
+        match step(work, m) {
+            Stepped::Made(next) => {
+                m = next;
+                left = left - 1;
+            }
+            Stepped::Withheld(reason) => {
+                break Ending::Stopped(reason, budget - left, m);
+            }
+        }
+    };
+    ending
+}
