@@ -4,6 +4,7 @@ mod LookupLaws
 mod ModelLaws
 mod NodeLaws
 mod RegionLaws
+mod RunLaws
 mod SharedLaws
 mod StepLaws
 mod TopLaws
