@@ -1,10 +1,16 @@
+mod CopyLaws
 mod DispatchLaws
+mod EnvironmentLaws
+mod ExpressionKindLaws
+mod ExpressionLaws
 mod JudgeLaws
 mod LookupLaws
 mod ModelLaws
+mod NameLaws
 mod NodeLaws
 mod RegionLaws
 mod RunLaws
 mod SharedLaws
+mod StartLaws
 mod StepLaws
 mod TopLaws

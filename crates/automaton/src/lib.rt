@@ -1,6 +1,8 @@
 // The automaton: one step, and the run.
+mod expressions;
 mod machine;
 mod shared;
+mod start;
 mod stubs;
 
 ghost use mathlib.Core.Path.{_≡_};
@@ -17,7 +19,7 @@ ghost use Rattle.automaton.specs.Runs.{Enabled, StepsFrom, RunAnswer};
 use crate::stubs::close;
 use crate::stubs::command_rule;
 use crate::stubs::declaration_rule;
-use crate::stubs::expression_rule;
+use crate::expressions::expression_rule;
 use crate::machine::Machine;
 use crate::machine::Stepped;
 use crate::stubs::make_cell;

@@ -10,13 +10,6 @@ ghost use Rattle.automaton.specs.Steps.{Applicable, Steps};
 use crate::machine::Machine;
 use crate::machine::Stepped;
 
-pub(crate) fn expression_rule(work: &mut [u64], m: Machine, node: usize, which: usize) -> Stepped
-    requires { ⌜ which ≡ packed-kind (getD (now work) node 0) ⌝ }
-    requires { ⌜ ((e : Expression) × Applicable (now work) m node (expression e)) ⌝ }
-    ensures { λ r. ⌜ ((e : Expression) → Steps (now (work .entry)) m node (expression e) r (now (work .exit))) ⌝ }
-{
-    Stepped::Withheld(0)
-}
 pub(crate) fn command_rule(work: &mut [u64], m: Machine, node: usize, which: usize) -> Stepped
     requires { ⌜ which ≡ packed-kind (getD (now work) node 0) ⌝ }
     requires { ⌜ ((c : Command) × Applicable (now work) m node (command c)) ⌝ }

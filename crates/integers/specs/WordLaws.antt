@@ -3,17 +3,19 @@
 -- rules' result, and the four orders from `ltZ`. Assumes nothing.
 use mathlib.Core.Path.{_≡_, refl, sym, ap, _∙_, subst}
 use mathlib.Core.Bool.{Bool, true, false, cond, not}
+use mathlib.Core.List.{List, [], _∷_}
 use Prim.Native.Nat.{ℕ, zero, suc, _-_, _^_, _≤_, _<_}
 use native.Mathlib.Omega.{arith}
 use native.Mathlib.Decide.{decLt}
 use lib.Dec.{T, ltb, leb, eqb, ltb→lt, lt→ltb}
 use lib.IntN.{ℤ, pos, negsuc, _+ℤ_, _-ℤ_, _*ℤ_}
+use lib.ListN.{length, getD}
 use lib.Signed.{ltZ, leZ, quotZ}
 use borrow.Author.Tests.{lt-ltb, le-ltb, le-leb, lt-leb, eqb-true, eq-eqb}
 use Rattle.rules.specs.Refusals.{Reason, OutOfRange, reason-number}
 use Rattle.rules.specs.Tree.{Arithmetic, Sum, Sub, Mul, Div, Lt, Le, Gt, Ge}
 use Rattle.rules.specs.Integers.{Result, in-range, ranged, divide, compute, number, failed, equal-integers, compare}
-use Rattle.integers.specs.Words.{integer-of, word-of, computed}
+use Rattle.integers.specs.Words.{integer-of, word-of, computed, integers-of, words-of}
 use Rattle.integers.specs.declared.Computed.the-variants.{Number, Failed}
 
 -- A number is below another or is not.
@@ -156,3 +158,26 @@ compare-gt a b = refl
 pub compare-ge : (a b : ℤ) → compare Ge a b ≡ not (ltZ a b)
 unfolding compare
 compare-ge a b = not-less b a
+
+-- ---- Lists of integers.
+
+pub integers-length : (ws : List ℕ) → length (integers-of ws) ≡ length ws
+unfolding integers-of
+integers-length [] = refl
+integers-length (w ∷ ws) = ap suc (integers-length ws)
+
+pub integers-at : (ws : List ℕ) (i : ℕ) → i < length ws → getD (integers-of ws) i (pos 0) ≡ integer-of (getD ws i 0)
+unfolding integers-of
+integers-at [] i h = absurd (omega (arith, h))
+integers-at (w ∷ ws) zero h = refl
+integers-at (w ∷ ws) (suc i) h = integers-at ws i (omega (arith, h))
+
+-- Words below 2^64 are those of the integers they hold.
+pub words-back : (ws : List ℕ) → ((i : ℕ) → i < length ws → getD ws i 0 < 18446744073709551616) → words-of (integers-of ws) ≡ ws
+unfolding integers-of words-of
+words-back [] low = refl
+words-back (w ∷ ws) low =
+    two-parts (word-of-integer w (low 0 (omega arith))) (words-back ws (λ i h. low (suc i) (omega (arith, h))))
+  where
+    two-parts : word-of (integer-of w) ≡ w → words-of (integers-of ws) ≡ ws → _≡_ {A = List ℕ} (word-of (integer-of w) ∷ words-of (integers-of ws)) (w ∷ ws)
+    two-parts p q = cc

@@ -1,6 +1,7 @@
 -- Integers held as words, by two's complement in 64 bits, and what an arithmetic mark comes to in words. Assumes nothing.
 use Prim.Native.Nat.{ℕ, _-_, _^_}
 use mathlib.Core.Bool.{Bool, true, false, cond, not, Bool·beq}
+use mathlib.Core.List.{List, [], _∷_}
 use lib.Dec.{ltb}
 use lib.IntN.{ℤ, pos, negsuc, negℤ}
 use lib.Signed.{nonNeg}
@@ -31,3 +32,12 @@ opposite y z = not (Bool·beq (nonNeg y) (nonNeg z))
 unfoldable pub signed : Bool → ℕ → ℤ
 signed true magnitude = negℤ (pos magnitude)
 signed false magnitude = pos magnitude
+
+-- The integers that some words hold, and the words that hold some integers.
+unfoldable pub integers-of : List ℕ → List ℤ
+integers-of [] = []
+integers-of (w ∷ ws) = integer-of w ∷ integers-of ws
+
+unfoldable pub words-of : List ℤ → List ℕ
+words-of [] = []
+words-of (z ∷ zs) = word-of z ∷ words-of zs

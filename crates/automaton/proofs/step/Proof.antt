@@ -18,7 +18,7 @@ use Rattle.automaton.proofs.step.Lts as lts
 use Rattle.automaton.proofs.stubs.close.Reads as close-reads
 use Rattle.automaton.proofs.stubs.command_rule.Reads as command-rule-reads
 use Rattle.automaton.proofs.stubs.declaration_rule.Reads as declaration-rule-reads
-use Rattle.automaton.proofs.stubs.expression_rule.Reads as expression-rule-reads
+use Rattle.automaton.proofs.expressions.expression_rule.Reads as expression-rule-reads
 use Rattle.automaton.proofs.stubs.make_cell.Reads as make-cell-reads
 use Rattle.automaton.proofs.stubs.mark_rule.Reads as mark-rule-reads
 use Rattle.reader.proofs.kind.Reads as kind-reads

@@ -1,0 +1,56 @@
+// The state in which a run starts, and the registers when it ends.
+ghost use mathlib.Core.Path.{_≡_};
+ghost use Prim.Native.Nat.{ℕ, _<_, _≤_};
+ghost use lib.ListN.{length, take, drop};
+ghost use Rattle.rules.specs.Tree.{Root};
+ghost use Rattle.automaton.specs.Starts.{RootStands, StartsAt};
+use crate::machine::Machine;
+use crate::machine::put_cell;
+use crate::machine::put_control;
+use crate::machine::put_row;
+
+// The root on control, and a cell and a name for each register.
+pub fn start(work: &mut [u64], registers: &[u64]) -> Machine
+    requires { ⌜ 8192 ≤ length (now work) ⌝ }
+    requires { ⌜ length (now registers) ≤ 16 ⌝ }
+    ensures { λ r. ⌜ ((t : Root) → RootStands (now (work .entry)) t → StartsAt t (now (registers .entry)) r (now (work .entry)) (now (work .exit))) ⌝ }
+{
+    let mut m = Machine {
+        control: 0,
+        values: 0,
+        environment: 0,
+        declared: 0,
+        cells: 0,
+        base: 0,
+        bindings: 0,
+    };
+    let mut i = 0;
+    while i < registers.len() {
+        let named = put_row(work, m, 64 + 129 * i as u64, i as u64);
+        m = put_cell(work, named, 0, registers[i]);
+        i = i + 1;
+    }
+    let ready = Machine {
+        control: 0,
+        values: 0,
+        environment: i,
+        declared: i,
+        cells: i,
+        base: i,
+        bindings: i,
+    };
+    put_control(work, ready, 0)
+}
+
+// The contents of the first cells.
+pub fn take_registers(work: &[u64], registers: &mut [u64])
+    requires { ⌜ 8192 ≤ length (now work) ⌝ }
+    requires { ⌜ length (now registers) ≤ 16 ⌝ }
+    ensures { λ r. ⌜ now (registers .exit) ≡ take (length (now (registers .entry))) (drop 4608 (now (work .entry))) ⌝ }
+{
+    let mut i = 0;
+    while i < registers.len() {
+        registers[i] = work[4608 + i];
+        i = i + 1;
+    }
+}
