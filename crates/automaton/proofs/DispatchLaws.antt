@@ -72,19 +72,20 @@ module _ (words : List ℕ) (m : Machine) (w : ℕ) (top : w ≡ getD words (204
   pub applicable : (en : Enabled words m) → ItemSort words w (en .item) × Applicable words (lowered m) w (en .item)
   applicable en =
       let t = taken words m (en .enabled) in
-      subst (λ v. ItemSort words v (en .item) × Applicable words (lowered m) v (en .item)) (sym top)
-      (t .sort,
-      record {
-        control = en .control;
-        values = en .values;
-        environment = en .environment;
-        store = en .store;
-        locations = en .locations;
-        bindings = en .bindings;
-        rule = en .rule;
-        effect = en .effect;
-        ready = t .ready;
-      })
+      subst (λ v. ItemSort words v (en .item) × Applicable words (lowered m) v (en .item)) (sym top) (
+        t .sort,
+        record {
+          control = en .control;
+          values = en .values;
+          environment = en .environment;
+          store = en .store;
+          locations = en .locations;
+          bindings = en .bindings;
+          rule = en .rule;
+          effect = en .effect;
+          ready = t .ready;
+        },
+      )
 
   -- Its answer is the step's.
   pub answered : (r : Stepped) (after : List ℕ) → ((i : Item) → ItemSort words w i → Steps words (lowered m) w i r after) → StepsFrom words m r after

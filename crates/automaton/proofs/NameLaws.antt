@@ -27,14 +27,14 @@ use Rattle.automaton.proofs.NodeLaws.{node-word, ExpressionTop, express
 
 -- ---- Values by their labels.
 
-record OfLocation (label payload l : ℕ) : Type 0 where
+pub record OfLocation (label payload l : ℕ) : Type 0 where
   pub label-is : label ≡ 1
   pub payload-is : payload ≡ l
 
-location-value : {t p l : ℕ} → ValueAs t p (location l) → OfLocation t p l
+pub location-value : {t p l : ℕ} → ValueAs t p (location l) → OfLocation t p l
 location-value location-as = record { label-is = refl; payload-is = refl }
 
-bound-value : {nodes : List ℕ} {rows : List Slot} {t p : ℕ} {v : Value} → BindableAs nodes rows t p (value v) → ValueAs t p v
+pub bound-value : {nodes : List ℕ} {rows : List Slot} {t p : ℕ} {v : Value} → BindableAs nodes rows t p (value v) → ValueAs t p v
 bound-value (value-as h) = h
 
 plain-value : {t p : ℕ} {v : Value} → IsPlain v → ValueAs t p v → t ≡ 0
@@ -47,12 +47,12 @@ link-label x t q h g = omega arith
 
 -- ---- The cell at a location.
 
-record CellOf (cells : List Slot) (l : ℕ) (v : Value) : Type 0 where
+pub record CellOf (cells : List Slot) (l : ℕ) (v : Value) : Type 0 where
   pub cell : Slot
   pub at : slot-at l cells ≡ some cell
   pub holds : ValueAs (cell .label) (cell .payload) v
 
-cell-of : {cells : List Slot} {S : Store} (l : ℕ) (v : Value) → StoreAs cells S → find l S ≡ some v → CellOf cells l v
+pub cell-of : {cells : List Slot} {S : Store} (l : ℕ) (v : Value) → StoreAs cells S → find l S ≡ some v → CellOf cells l v
 unfolding find slot-at
 cell-of l v no-cell q = missing q
 cell-of l v (one-cell {s = s} {cells = cells} {c = c} {S = S} e h older) q =
@@ -63,11 +63,11 @@ cell-of l v (one-cell {s = s} {cells = cells} {c = c} {S = S} e h older) q =
     choose false u p rest = let o = rest p in record { cell = o .cell; at = rw u (o .at); holds = o .holds }
 
 -- Its words.
-record CellWords (words : List ℕ) (l : ℕ) (v : Value) : Type 0 where
+pub record CellWords (words : List ℕ) (l : ℕ) (v : Value) : Type 0 where
   pub within : l < 256
   pub holds : ValueAs (getD words (4864 + l) 0) (getD words (4608 + l) 0) v
 
-cell-words : (words : List ℕ) (m : Machine) {S : Store} (l : ℕ) (v : Value) → Fits words m → StoreAs (regions words m .cells) S → find l S ≡ some v → CellWords words l v
+pub cell-words : (words : List ℕ) (m : Machine) {S : Store} (l : ℕ) (v : Value) → Fits words m → StoreAs (regions words m .cells) S → find l S ≡ some v → CellWords words l v
 unfolding regions
 cell-words words m l v f s q =
     let c = cell-of l v s q in

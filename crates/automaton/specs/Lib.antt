@@ -1,4 +1,6 @@
+pub mod Formals
 pub mod Regions
+pub mod Replaced
 pub mod Represents
 pub mod Rows
 pub mod Runs

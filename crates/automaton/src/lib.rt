@@ -1,9 +1,14 @@
 // The automaton: one step, and the run.
+mod commands;
+mod declarations;
+pub mod ends;
 mod expressions;
-mod machine;
+mod frames;
+pub mod machine;
+mod marks;
+mod operators;
 mod shared;
-mod start;
-mod stubs;
+pub mod start;
 
 ghost use mathlib.Core.Path.{_≡_};
 ghost use mathlib.Core.List.{List, _∷_};
@@ -16,14 +21,14 @@ ghost use Rattle.rules.specs.Continuation.{Invariant};
 ghost use Rattle.rules.specs.Run.{run, judge};
 ghost use Rattle.automaton.specs.Steps.{Holds};
 ghost use Rattle.automaton.specs.Runs.{Enabled, StepsFrom, RunAnswer};
-use crate::stubs::close;
-use crate::stubs::command_rule;
-use crate::stubs::declaration_rule;
+use crate::commands::command_rule;
+use crate::declarations::close;
+use crate::declarations::declaration_rule;
+use crate::declarations::make_cell;
 use crate::expressions::expression_rule;
 use crate::machine::Machine;
 use crate::machine::Stepped;
-use crate::stubs::make_cell;
-use crate::stubs::mark_rule;
+use crate::marks::mark_rule;
 use reader::kind;
 
 // How a run ends, with the steps made and the machine in its last state: control is empty, or a step is withheld, with the number of the

@@ -1,7 +1,6 @@
-// The state in which a run starts, and the registers when it ends.
-ghost use mathlib.Core.Path.{_≡_};
-ghost use Prim.Native.Nat.{ℕ, _<_, _≤_};
-ghost use lib.ListN.{length, take, drop};
+// The state in which a run starts.
+ghost use Prim.Native.Nat.{_≤_};
+ghost use lib.ListN.{length};
 ghost use Rattle.rules.specs.Tree.{Root};
 ghost use Rattle.automaton.specs.Starts.{RootStands, StartsAt};
 use crate::machine::Machine;
@@ -40,17 +39,4 @@ pub fn start(work: &mut [u64], registers: &[u64]) -> Machine
         bindings: i,
     };
     put_control(work, ready, 0)
-}
-
-// The contents of the first cells.
-pub fn take_registers(work: &[u64], registers: &mut [u64])
-    requires { ⌜ 8192 ≤ length (now work) ⌝ }
-    requires { ⌜ length (now registers) ≤ 16 ⌝ }
-    ensures { λ r. ⌜ now (registers .exit) ≡ take (length (now (registers .entry))) (drop 4608 (now (work .entry))) ⌝ }
-{
-    let mut i = 0;
-    while i < registers.len() {
-        registers[i] = work[4608 + i];
-        i = i + 1;
-    }
 }

@@ -54,10 +54,11 @@ loop-less c = omega (arith, c .before .before .before .before .before .before .b
 
 loop-again : tie.Need-loop-again Inv-loop μ-loop
 loop-again c =
-    let l = c .before .before .before .before .before .before .before .before .before .before .loop in
-    (omega (arith, l .inv .0),
-    λ a r σ h held inv.
-        goes-round _ σ a r _ _ _ _ (l .inv .1 a r σ h held inv) (c .before .before .before .before .before .before .before .before .if1 .left) (c .before .before .before .before .before .before .before .if2 .left) _ _ (c .before .before .before .before .before .step .ensures) _ (c .before .next .given .1) (l .inv .0))
+    let l = c .before .before .before .before .before .before .before .before .before .before .loop in (
+      omega (arith, l .inv .0),
+      λ a r σ h held inv.
+          goes-round _ σ a r _ _ _ _ (l .inv .1 a r σ h held inv) (c .before .before .before .before .before .before .before .before .if1 .left) (c .before .before .before .before .before .before .before .if2 .left) _ _ (c .before .before .before .before .before .step .ensures) _ (c .before .next .given .1) (l .inv .0),
+    )
 
 enum-known-reason : tie.Need-enum-known-reason Inv-loop μ-loop
 enum-known-reason c = search needs

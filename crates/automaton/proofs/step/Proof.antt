@@ -15,12 +15,12 @@ use Rattle.automaton.proofs.step.Statement.{statement}
 use Rattle.automaton.proofs.step.Tie as tie
 use Rattle.automaton.proofs.step.Reads as reads
 use Rattle.automaton.proofs.step.Lts as lts
-use Rattle.automaton.proofs.stubs.close.Reads as close-reads
-use Rattle.automaton.proofs.stubs.command_rule.Reads as command-rule-reads
-use Rattle.automaton.proofs.stubs.declaration_rule.Reads as declaration-rule-reads
+use Rattle.automaton.proofs.declarations.close.Reads as close-reads
+use Rattle.automaton.proofs.commands.command_rule.Reads as command-rule-reads
+use Rattle.automaton.proofs.declarations.declaration_rule.Reads as declaration-rule-reads
 use Rattle.automaton.proofs.expressions.expression_rule.Reads as expression-rule-reads
-use Rattle.automaton.proofs.stubs.make_cell.Reads as make-cell-reads
-use Rattle.automaton.proofs.stubs.mark_rule.Reads as mark-rule-reads
+use Rattle.automaton.proofs.declarations.make_cell.Reads as make-cell-reads
+use Rattle.automaton.proofs.marks.mark_rule.Reads as mark-rule-reads
 use Rattle.reader.proofs.kind.Reads as kind-reads
 
 -- src/lib.rt:40:21

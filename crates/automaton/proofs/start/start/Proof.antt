@@ -43,9 +43,10 @@ shared-slice-read-put-cell c = c .before .before .before .before .before .before
 put-cell-requires : tie.Need-put-cell-requires Inv-loop μ-loop
 put-cell-requires c κs =
     let set = c .before .before .before .before .before .before .before .loop .inv .1 in
-    let row = c .before .before .before .before .put-row in
-    (row-fits _ _ _ _ (set .fits) (omega (arith, ap (λ k. k .bindings) (set .machine-is), c .before .before .before .before .before .before .loop-test .taken, c .before .before .before .before .before .before .before .before .before .before .pre .1)) (row .ensures .0) (row .ensures .1),
-    omega (arith, ap (λ k. k .cells) (row .ensures .0), ap (λ k. k .cells) (set .machine-is), c .before .before .before .before .before .before .loop-test .taken, c .before .before .before .before .before .before .before .before .before .before .pre .1))
+    let row = c .before .before .before .before .put-row in (
+      row-fits _ _ _ _ (set .fits) (omega (arith, ap (λ k. k .bindings) (set .machine-is), c .before .before .before .before .before .before .loop-test .taken, c .before .before .before .before .before .before .before .before .before .before .pre .1)) (row .ensures .0) (row .ensures .1),
+      omega (arith, ap (λ k. k .cells) (row .ensures .0), ap (λ k. k .cells) (set .machine-is), c .before .before .before .before .before .before .loop-test .taken, c .before .before .before .before .before .before .before .before .before .before .pre .1),
+    )
 
 add-i : tie.Need-add-i Inv-loop μ-loop
 add-i c = record { fits = omega (arith, c .before .before .before .before .before .before .before .before .before .loop-test .taken, c .before .before .before .before .before .before .before .before .before .before .before .before .before .pre .1) }
@@ -56,9 +57,10 @@ loop-less c = omega (arith, c .before .before .before .before .before .before .b
 loop-again : tie.Need-loop-again Inv-loop μ-loop
 loop-again c =
     let row = c .before .before .before .before .before .before .before .put-row in
-    let cell = c .before .before .put-cell in
-    (omega (arith, c .before .before .before .before .before .before .before .before .before .loop-test .taken),
-    one-set _ _ _ _ _ _ _ _ _ (c .before .before .before .before .before .before .before .before .before .before .loop .inv .1) (c .before .before .before .before .before .before .before .before .before .loop-test .taken) (c .before .before .before .before .before .before .before .before .before .before .before .before .before .pre .1) (c .before .before .before .shared-slice-known2 .given (c .before .before .before .before .before .before .before .before .before .before .loop .i) .fits) (row .ensures .0) (row .ensures .1) (cell .ensures .0) (cell .ensures .1))
+    let cell = c .before .before .put-cell in (
+      omega (arith, c .before .before .before .before .before .before .before .before .before .loop-test .taken),
+      one-set _ _ _ _ _ _ _ _ _ (c .before .before .before .before .before .before .before .before .before .before .loop .inv .1) (c .before .before .before .before .before .before .before .before .before .loop-test .taken) (c .before .before .before .before .before .before .before .before .before .before .before .before .before .pre .1) (c .before .before .before .shared-slice-known2 .given (c .before .before .before .before .before .before .before .before .before .before .loop .i) .fits) (row .ensures .0) (row .ensures .1) (cell .ensures .0) (cell .ensures .1),
+    )
 
 put-control-requires : tie.Need-put-control-requires Inv-loop μ-loop
 put-control-requires c κs = (ready-fits _ _ _ _ _ (c .before .before .loop .inv .1), omega arith)

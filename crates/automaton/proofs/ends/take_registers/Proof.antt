@@ -7,11 +7,12 @@ use denote.Ref.{now}
 use borrow.Author.Needs.{needs}
 use lib.ListN.{length, getD, set, drop, length-drop}
 use lib.Seq.{paste, paste-zero, getD-drop}
+use Rattle.automaton.proofs.ResultLaws.{registers-taken}
 use Rattle.automaton.proofs.CopyLaws.{copy-next, copy-length, copy-end}
-use Rattle.automaton.proofs.start.take_registers.Statement.{statement}
-use Rattle.automaton.proofs.start.take_registers.Tie as tie
-use Rattle.automaton.proofs.start.take_registers.Reads as reads
-use Rattle.automaton.proofs.start.take_registers.Lts as lts
+use Rattle.automaton.proofs.ends.take_registers.Statement.{statement}
+use Rattle.automaton.proofs.ends.take_registers.Tie as tie
+use Rattle.automaton.proofs.ends.take_registers.Reads as reads
+use Rattle.automaton.proofs.ends.take_registers.Lts as lts
 
 abbrev Inv-loop : tie.InvT-loop
 Inv-loop work registers₀ i₀ registers i = (i ≤ length registers₀) × (registers ≡ paste registers₀ 0 (drop 4608 work) i)
@@ -30,56 +31,47 @@ kept c registers i inv = copy-length _ (drop 4608 (now (c .args .work))) _ i (in
 low : (c : lts.In-loop reads.Pre reads.Post Inv-loop μ-loop) → c .before .loop .i < length (now (c .before .before .args .registers))
 low c = let l = c .before .loop in omega (arith, c .loop-test .taken, kept (c .before .before) (l .registers) (l .i) (l .inv))
 
--- src/start.rt:52:5
 loop-holds : tie.Need-loop-holds Inv-loop μ-loop
 loop-holds c = (omega arith, paste-zero _ 0 (drop 4608 (now (c .args .work))))
 
--- src/start.rt:53:29
 add-registers : tie.Need-add-registers Inv-loop μ-loop
 add-registers c = record { fits = omega (arith, low c, c .before .before .pre .1) }
 
--- src/start.rt:53:24
 mul-registers : tie.Need-mul-registers Inv-loop μ-loop
 mul-registers c = record { fits = omega (arith, low c, c .before .before .pre .1) }
 
--- src/start.rt:53:24
 shared-slice-read-registers : tie.Need-shared-slice-read-registers Inv-loop μ-loop
 shared-slice-read-registers c = omega (arith, low (c .before), c .before .before .before .pre .1, c .before .before .before .pre .0)
 
--- src/start.rt:53:9
 mul-registers-2 : tie.Need-mul-registers-2 Inv-loop μ-loop
 mul-registers-2 c = record { fits = omega (arith, low (c .before), c .before .before .before .pre .1) }
 
--- src/start.rt:53:9
 slice-write-registers : tie.Need-slice-write-registers Inv-loop μ-loop
 slice-write-registers c = c .before .loop-test .taken
 
--- src/start.rt:54:13
 add-i : tie.Need-add-i Inv-loop μ-loop
 add-i c = record { fits = omega (arith, low (c .before), c .before .before .before .pre .1) }
 
--- src/start.rt:52:5
 loop-less : tie.Need-loop-less Inv-loop μ-loop
 loop-less c = omega (arith, low (c .before))
 
--- src/start.rt:52:5
 loop-again : tie.Need-loop-again Inv-loop μ-loop
 loop-again c =
     let l = c .before .before .loop in
-    let start = c .before .before .before in
-    (omega (arith, low (c .before)),
-    ap (set (l .registers) (l .i)) (sym (getD-drop 4608 (now (start .args .work)) (l .i) 0))
-    ∙ copy-next _ (drop 4608 (now (start .args .work))) _ (l .i) (l .inv .1) (low (c .before)) (omega (arith, low (c .before), start .pre .1, enough start)))
+    let start = c .before .before .before in (
+      omega (arith, low (c .before)),
+      ap (set (l .registers) (l .i)) (sym (getD-drop 4608 (now (start .args .work)) (l .i) 0))
+          ∙ copy-next _ (drop 4608 (now (start .args .work))) _ (l .i) (l .inv .1) (low (c .before)) (omega (arith, low (c .before), start .pre .1, enough start)),
+    )
 
--- src/start.rt:46:1
 same-length : tie.Need-same-length Inv-loop μ-loop
 same-length c = let l = c .before .loop in kept (c .before .before) (l .registers) (l .i) (l .inv)
 
--- src/start.rt:46:1
 returns : tie.Need-returns Inv-loop μ-loop
-returns c =
+returns c m σ held hold =
     let l = c .before .loop in
     copy-end _ (drop 4608 (now (c .before .before .args .work))) _ (l .i) (l .inv .1) (both (l .inv .0) (c .loop-test .left) (kept (c .before .before) (l .registers) (l .i) (l .inv)))
+    ∙ registers-taken (now (c .before .before .args .work)) m σ _ (c .before .before .pre .1) held hold
   where
     both : {a d e : ℕ} → a ≤ d → e ≤ a → e ≡ d → a ≡ d
     both p q r = omega arith
