@@ -4,9 +4,9 @@ ghost use mathlib.Core.List.{List};
 ghost use Prim.Native.Nat.{ℕ, _<_, _≤_};
 ghost use lib.ListN.{length};
 ghost use Rattle.rules.specs.Tree.{Expression, Formal, Command, Block, Declaration, Bound};
-ghost use Rattle.rules.specs.Checker.{Scope, Meaning, fine, assignable, same-code, ref-code, expression-codes};
-ghost use Rattle.checker.specs.Rows.{Rows, ScopeAt};
-ghost use Rattle.checker.specs.Answers.{code-answer, fine-answer, meaning-answer, Numbered, ExpressionAt};
+ghost use Rattle.rules.specs.Checker.{Scope, Meaning, assignable, same-code, ref-code};
+ghost use Rattle.checker.specs.Rows.{ScopeAt};
+ghost use Rattle.checker.specs.Answers.{code-answer, fine-answer, meaning-answer, Numbered};
 ghost use Rattle.checker.specs.Commands.{ActualsAt, FormalsAt, AssignAt, AssignsAt, CallAt, CallsAt, CodesAt, AgreesAt, Kept, CommandAt, BlockAt, DeclarationAt, BoundAt, CommandFineAt, BlockFineAt, DeclaresAt, MeansAt};
 use crate::Answer;
 use crate::Found;
@@ -84,15 +84,17 @@ fn actuals(work: &[u64], registers: usize, scope: usize, node: usize, count: usi
     requires { ⌜ ((es : List Expression) × ActualsAt (now work) node count es) ⌝ }
     ensures { λ r. ⌜ CodesAt (now (work .entry)) registers scope node count r ⌝ }
 {
-    if count == 0 {
-        return Answer::Is(0);
+    let mut at = node;
+    let mut left = count;
+    while left != 0 {
+        let judged = expression(work, registers, scope, at);
+        let Answer::Is(code) = judged else {
+            return judged;
+        };
+        at = end(work, at);
+        left = left - 1;
     }
-    let first = expression(work, registers, scope, node);
-    let Answer::Is(code) = first else {
-        return first;
-    };
-    let next = end(work, node);
-    actuals(work, registers, scope, next, count - 1)
+    Answer::Is(0)
 }
 
 // The actuals' codes against the Formals'.
@@ -111,20 +113,24 @@ fn agreement(
     requires { ⌜ ((fs : List Formal) × FormalsAt (now work) formal count fs) ⌝ }
     ensures { λ r. ⌜ AgreesAt (now (work .entry)) registers scope place node formal count r ⌝ }
 {
-    if count == 0 {
-        return Answer::Is(0);
+    let mut at = node;
+    let mut parameter = formal;
+    let mut left = count;
+    while left != 0 {
+        let judged = expression(work, registers, scope, at);
+        let Answer::Is(code) = judged else {
+            return judged;
+        };
+        let word = operand(work, parameter);
+        let agrees = same(place, word / 64, code);
+        let Answer::Is(done) = agrees else {
+            return agrees;
+        };
+        at = end(work, at);
+        parameter = parameter + 1;
+        left = left - 1;
     }
-    let first = expression(work, registers, scope, node);
-    let Answer::Is(code) = first else {
-        return first;
-    };
-    let word = operand(work, formal);
-    let agrees = same(place, word / 64, code);
-    let Answer::Is(done) = agrees else {
-        return agrees;
-    };
-    let next = end(work, node);
-    agreement(work, registers, scope, place, next, formal + 1, count - 1)
+    Answer::Is(0)
 }
 
 // Call.
