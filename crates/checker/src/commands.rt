@@ -10,6 +10,7 @@ ghost use Rattle.checker.specs.Answers.{code-answer, fine-answer, meanin
 ghost use Rattle.checker.specs.Commands.{ActualsAt, FormalsAt, AssignAt, AssignsAt, CallAt, CallsAt, CodesAt, AgreesAt, Kept, CommandAt, BlockAt, DeclarationAt, BoundAt, CommandFineAt, BlockFineAt, DeclaresAt, MeansAt};
 use crate::Answer;
 use crate::Found;
+use crate::anew;
 use crate::expression;
 use crate::formals::formals;
 use crate::formals::row_word;
@@ -173,7 +174,8 @@ pub(crate) fn command(work: &mut [u64], registers: usize, scope: usize, node: us
         return assignment(work, registers, scope, node);
     }
     if which == 23 {
-        return block(work, registers, scope, node);
+        let inside = block(work, registers, scope, node);
+        return anew(inside);
     }
     if which == 24 {
         return call(work, registers, scope, node);
@@ -194,8 +196,9 @@ pub(crate) fn command(work: &mut [u64], registers: usize, scope: usize, node: us
     let Answer::Is(done) = first else {
         return first;
     };
-    let second = end(work, node + 1);
-    command(work, registers, scope, second)
+    let after = end(work, node + 1);
+    let second = command(work, registers, scope, after);
+    anew(second)
 }
 
 // The block at a node: its declaration, then its command in the scope with the names that this gives.
@@ -212,7 +215,8 @@ fn block(work: &mut [u64], registers: usize, scope: usize, node: usize) -> Answe
         return declared;
     };
     let inside = end(work, node + 1);
-    command(work, registers, inner, inside)
+    let body = command(work, registers, inner, inside);
+    anew(body)
 }
 
 // The declaration at a node: rows for its names, linked from `tail`, and the pointer of the newest.
@@ -280,5 +284,6 @@ fn bound(work: &mut [u64], registers: usize, scope: usize, node: usize) -> Answe
         };
         return Answer::Is(8);
     }
-    expression(work, registers, scope, node)
+    let value = expression(work, registers, scope, node);
+    anew(value)
 }
