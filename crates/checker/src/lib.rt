@@ -36,8 +36,8 @@ pub enum Verdict {
     Fault(u64, usize),
 }
 
-// The same answer, made anew. A function whose return place is written by a call keeps all its answers in memory; where what a call
-// answered is made anew, they stay in registers until the return, and `check` takes a third less time.
+// The same answer, made anew. A function whose return place is written by a call builds all its answers in memory; where what a call
+// answered is made anew, they stay in registers until the return. `check` takes a quarter less time for it.
 fn anew(given: Answer) -> Answer
     ensures { λ r. ⌜ r ≡ given ⌝ }
 {
