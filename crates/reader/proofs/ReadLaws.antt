@@ -35,7 +35,7 @@ kind-at words at = getD words (2 + at) 0
 abbrev pub operand-at : List ℕ → (n at : ℕ) → ℕ
 operand-at words n at = getD words (2 + n + at) 0
 
--- What `read_node` and `read_children` answer.
+-- What reading a node comes to, and reading the last so many children of a node.
 abbrev pub Node-outcome : List ℕ → (n at want levels : ℕ) → Scanned → (before after : List ℕ) → Type 0
 Node-outcome words n at want levels r before after =
     Outcome (nodes-at words n) n at (scan levels (want-of want) at (drop at (nodes-at words n))) r before after
