@@ -1,14 +1,13 @@
 -- A Call's actuals one after the other, and their codes against those of the Formals. Assumes nothing.
-use Prim.Native.Nat.{ℕ, zero, suc, _+_, _-_, _*_, _/_, _<_, _≤_}
+use Prim.Native.Nat.{ℕ, _+_, _-_, _/_, _<_}
 use mathlib.Core.Path.{_≡_, refl, sym, ap, _∙_, subst}
 use mathlib.Core.List.{List, [], _∷_}
 use native.Mathlib.Omega.{arith}
 use lib.ListN.{length, getD}
-use Rattle.rules.specs.Limits.{names, codes}
 use Rattle.rules.specs.Tree.{Expression, Formal}
-use Rattle.rules.specs.Checker.{Scope, Judged, fault, fine, _>>=_, Fine, ok, same-code, same-codes, expression-code, expression-codes}
+use Rattle.rules.specs.Checker.{Scope, Judged, fault, fine, _>>=_, same-code, same-codes, expression-code, expression-codes}
 use Rattle.reader.specs.Pack.{packed-operand, packed-end}
-use Rattle.reader.specs.Stored.{HasWord, operand-is, StoredExpression, StoredActuals, no-actuals, one-actual, StoredFormals, no-formals, one-formal}
+use Rattle.reader.specs.Stored.{StoredActuals, no-actuals, one-actual}
 use Rattle.checker.specs.Rows.{ScopeAt}
 use Rattle.checker.specs.Answers.{answer, code-answer, fine-answer, ExpressionAt, CodeAt}
 use Rattle.checker.specs.Commands.{ActualsAt, FormalsAt, CodesAt, AgreesAt}
@@ -74,6 +73,29 @@ module _ (words : List ℕ) (registers scope node count : ℕ) (some-left : coun
       with-one (fault r p) = refl
       with-one (fine cs) = refl
 
+-- Some actuals have codes: the others stand here, and what they come to is what all of them come to.
+pub record CodedSoFar (words : List ℕ) (registers scope node count at left : ℕ) : Type 0 where
+  pub others : (es : List Expression) × ActualsAt words at left es
+  pub whole : (r : Answer) → CodesAt words registers scope at left r → CodesAt words registers scope node count r
+
+pub none-coded : (words : List ℕ) (registers scope node count : ℕ) → ((es : List Expression) × ActualsAt words node count es) → CodedSoFar words registers scope node count node count
+none-coded words registers scope node count a = record { others = a; whole = λ r o. o }
+
+-- Those that follow the first.
+later-actuals : (words : List ℕ) (node count next : ℕ) → (count ≡ 0 → ⊥) → next ≡ packed-end (getD words node 0) → ((es : List Expression) × ActualsAt words node count es) →
+    (es : List Expression) × ActualsAt words next (count - 1) es
+later-actuals words node count next f end a =
+    let first = first-actual words node count (a .0) f (a .1) in
+    (first .rest, subst (λ i. ActualsAt words i (count - 1) (first .rest)) (sym end) (first .others))
+
+pub one-coded : (words : List ℕ) (registers scope node count at left : ℕ) → CodedSoFar words registers scope node count at left → (left ≡ 0 → ⊥) → (one : Answer) → CodeAt words registers scope at one →
+    (c next : ℕ) → one ≡ Is c → next ≡ packed-end (getD words at 0) → CodedSoFar words registers scope node count next (left - 1)
+one-coded words registers scope node count at left so-far f one judged c next q end =
+    record {
+      others = later-actuals words at left next f end (so-far .others);
+      whole = λ r o. so-far .whole r (actual-rest words registers scope at left f one judged c next r q end o);
+    }
+
 -- ---- Against the Formals.
 
 -- Codes that are all there are the first one and the others.
@@ -130,3 +152,25 @@ module _ (words : List ℕ) (registers scope place node formal count : ℕ) (som
         (λ rest others cs Γ f a b s k h.
         then-fine (λ done. 0) (λ done. 0) (same-code place (f .code) c) (λ done. same-codes place rest cs) agrees r z h q
         (λ done known e. later others rest cs Γ (subst (λ i. ActualsAt words i (count - 1) others) (sym end) a) b s k))
+
+-- Some actuals agree with their Formals: the others of both stand here, and what they come to is what all of them come to.
+pub record AgreedSoFar (words : List ℕ) (registers scope place node formal count at parameter left : ℕ) : Type 0 where
+  pub others : (es : List Expression) × ActualsAt words at left es
+  pub formals : (fs : List Formal) × FormalsAt words parameter left fs
+  pub whole : (r : Answer) → AgreesAt words registers scope place at parameter left r → AgreesAt words registers scope place node formal count r
+
+pub none-agreed : (words : List ℕ) (registers scope place node formal count : ℕ) → ((es : List Expression) × ActualsAt words node count es) → ((fs : List Formal) × FormalsAt words formal count fs) →
+    AgreedSoFar words registers scope place node formal count node formal count
+none-agreed words registers scope place node formal count a b = record { others = a; formals = b; whole = λ r o. o }
+
+pub one-agreed : (words : List ℕ) (registers scope place node formal count at parameter left : ℕ) → AgreedSoFar words registers scope place node formal count at parameter left → (left ≡ 0 → ⊥) →
+    (one : Answer) → CodeAt words registers scope at one → (c wanted : ℕ) (agrees : Answer) → one ≡ Is c → wanted ≡ packed-operand (getD words parameter 0) / 64 →
+    agrees ≡ fine-answer (same-code place wanted c) → (z next : ℕ) → agrees ≡ Is z → next ≡ packed-end (getD words at 0) →
+    AgreedSoFar words registers scope place node formal count next (parameter + 1) (left - 1)
+one-agreed words registers scope place node formal count at parameter left so-far f one judged c wanted agrees got coded compared z next q end =
+    let first = first-formal (so-far .formals .1) f in
+    record {
+      others = later-actuals words at left next f end (so-far .others);
+      formals = (first .rest, first .later);
+      whole = λ r o. so-far .whole r (agree-rest words registers scope place at parameter left f one judged c wanted agrees got coded compared z next r q end o);
+    }

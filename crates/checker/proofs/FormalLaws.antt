@@ -12,12 +12,12 @@ use Rattle.rules.specs.Checker.{code, Named, Scope, Judged, fault, fine, _>>=_,
 use Rattle.reader.specs.Pack.{packed-operand}
 use Rattle.reader.specs.Stored.{HasWord, StoredFormals, no-formals, one-formal, operand-is}
 use Rattle.checker.specs.Rows.{row-word, code-at, Rows, one-row, RowFound}
-use Rattle.checker.specs.Commands.{FormalsAt, NamesFrom, names-from, names-fault}
+use Rattle.checker.specs.Commands.{Kept, FormalsAt, NamesFrom, names-from, names-fault}
 use Rattle.checker.specs.declared.Answer.{Answer}
 use Rattle.checker.specs.declared.Answer.the-variants.{Is, Fault}
 use Rattle.checker.proofs.PlaceLaws.{after-node, name-part, number-part}
 use Rattle.checker.proofs.RowLaws.{row-has, row-has-not}
-use Rattle.checker.proofs.KeptLaws.{kept-rows, kept-formals, kept-row, row-there}
+use Rattle.checker.proofs.KeptLaws.{kept-nothing, kept-then, kept-rows, kept-formals, kept-row, row-there}
 
 abbrev pub formals-give : Scope → List Formal → Judged Scope
 formals-give seen fs = distinct seen fs >>= λ done. fine (with-formals fs seen)
@@ -141,3 +141,35 @@ module _ (words : List ℕ) (scope tail node count w found : ℕ) (some-left : �
     where
       together : (i n : ℕ) → ¬ (n ≡ 0) → i + 1 + (n - 1) ≡ i + n
       together i n f = omega (arith, f)
+
+-- ---- Those that have rows so far.
+
+-- Some Formals have rows: the others stand here, and what they come to is what all of them come to.
+pub record RowsSoFar (before words : List ℕ) (scope tail node count newest at left : ℕ) : Type 0 where
+  pub others : (fs : List Formal) × FormalsAt words at left fs
+  pub rows : (seen : Scope) × Rows words newest scope seen
+  pub linked : newest ≤ at
+  pub onward : node ≤ at
+  pub kept : Kept before words node
+  pub whole : (r : Answer) (after : List ℕ) → FormalsFrom words after scope newest at left r → FormalsFrom before after scope tail node count r
+
+pub no-rows-yet : (words : List ℕ) (scope tail node count : ℕ) → ((fs : List Formal) × FormalsAt words node count fs) → ((seen : Scope) × Rows words tail scope seen) → tail ≤ node →
+    RowsSoFar words words scope tail node count tail node count
+no-rows-yet words scope tail node count a r h = record { others = a; rows = r; linked = h; onward = omega arith; kept = kept-nothing words node; whole = λ r after o. o }
+
+module _ (before words : List ℕ) (scope tail node count newest at left : ℕ) (so-far : RowsSoFar before words scope tail node count newest at left) (w found v : ℕ) (some-left : ¬ (left ≡ 0))
+    (is : w ≡ packed-operand (getD words at 0)) (looked : (Δ : Scope) → Rows words newest scope Δ → RowFound words scope (w % 64) Δ found) where
+  pub one-row-more : 4000 ≤ length words → v ≡ row-word (w % 64) (w / 64) newest → found ≡ scope →
+      RowsSoFar before (set words (2000 + at) v) scope tail node count (at + 1) (at + 1) (left - 1)
+  one-row-more long row absent =
+      let a = so-far .others .1 in
+      let o = first-formal a some-left in
+      let keeps = kept-row words at v (o .word .place-low) in
+      record {
+        others = (o .rest, kept-formals keeps (o .later));
+        rows = (named (o .first) ∷ so-far .rows .0, formal-rows words scope newest at left w found some-left is looked v long (so-far .linked) row _ a _ (so-far .rows .1));
+        linked = omega arith;
+        onward = omega (arith, so-far .onward);
+        kept = kept-then (so-far .kept) keeps (so-far .onward);
+        whole = λ r after later. so-far .whole r after (formals-more words scope newest at left w found some-left is looked v after r long (so-far .linked) row absent later);
+      }

@@ -4,12 +4,13 @@ ghost use mathlib.Core.List.{List};
 ghost use Prim.Native.Nat.{ℕ, _<_, _≤_};
 ghost use lib.ListN.{length};
 ghost use Rattle.rules.specs.Tree.{Expression, Formal, Command, Block, Declaration, Bound};
-ghost use Rattle.rules.specs.Checker.{Scope, Meaning, fine, assignable, same-code, ref-code, expression-codes};
-ghost use Rattle.checker.specs.Rows.{Rows, ScopeAt};
-ghost use Rattle.checker.specs.Answers.{code-answer, fine-answer, meaning-answer, Numbered, ExpressionAt};
+ghost use Rattle.rules.specs.Checker.{Scope, Meaning, assignable, same-code, ref-code};
+ghost use Rattle.checker.specs.Rows.{ScopeAt};
+ghost use Rattle.checker.specs.Answers.{code-answer, fine-answer, meaning-answer, Numbered};
 ghost use Rattle.checker.specs.Commands.{ActualsAt, FormalsAt, AssignAt, AssignsAt, CallAt, CallsAt, CodesAt, AgreesAt, Kept, CommandAt, BlockAt, DeclarationAt, BoundAt, CommandFineAt, BlockFineAt, DeclaresAt, MeansAt};
 use crate::Answer;
 use crate::Found;
+use crate::anew;
 use crate::expression;
 use crate::formals::formals;
 use crate::formals::row_word;
@@ -84,15 +85,17 @@ fn actuals(work: &[u64], registers: usize, scope: usize, node: usize, count: usi
     requires { ⌜ ((es : List Expression) × ActualsAt (now work) node count es) ⌝ }
     ensures { λ r. ⌜ CodesAt (now (work .entry)) registers scope node count r ⌝ }
 {
-    if count == 0 {
-        return Answer::Is(0);
+    let mut at = node;
+    let mut left = count;
+    while left != 0 {
+        let judged = expression(work, registers, scope, at);
+        let Answer::Is(code) = judged else {
+            return judged;
+        };
+        at = end(work, at);
+        left = left - 1;
     }
-    let first = expression(work, registers, scope, node);
-    let Answer::Is(code) = first else {
-        return first;
-    };
-    let next = end(work, node);
-    actuals(work, registers, scope, next, count - 1)
+    Answer::Is(0)
 }
 
 // The actuals' codes against the Formals'.
@@ -111,20 +114,24 @@ fn agreement(
     requires { ⌜ ((fs : List Formal) × FormalsAt (now work) formal count fs) ⌝ }
     ensures { λ r. ⌜ AgreesAt (now (work .entry)) registers scope place node formal count r ⌝ }
 {
-    if count == 0 {
-        return Answer::Is(0);
+    let mut at = node;
+    let mut parameter = formal;
+    let mut left = count;
+    while left != 0 {
+        let judged = expression(work, registers, scope, at);
+        let Answer::Is(code) = judged else {
+            return judged;
+        };
+        let word = operand(work, parameter);
+        let agrees = same(place, word / 64, code);
+        let Answer::Is(done) = agrees else {
+            return agrees;
+        };
+        at = end(work, at);
+        parameter = parameter + 1;
+        left = left - 1;
     }
-    let first = expression(work, registers, scope, node);
-    let Answer::Is(code) = first else {
-        return first;
-    };
-    let word = operand(work, formal);
-    let agrees = same(place, word / 64, code);
-    let Answer::Is(done) = agrees else {
-        return agrees;
-    };
-    let next = end(work, node);
-    agreement(work, registers, scope, place, next, formal + 1, count - 1)
+    Answer::Is(0)
 }
 
 // Call.
@@ -167,7 +174,8 @@ pub(crate) fn command(work: &mut [u64], registers: usize, scope: usize, node: us
         return assignment(work, registers, scope, node);
     }
     if which == 23 {
-        return block(work, registers, scope, node);
+        let inside = block(work, registers, scope, node);
+        return anew(inside);
     }
     if which == 24 {
         return call(work, registers, scope, node);
@@ -188,8 +196,9 @@ pub(crate) fn command(work: &mut [u64], registers: usize, scope: usize, node: us
     let Answer::Is(done) = first else {
         return first;
     };
-    let second = end(work, node + 1);
-    command(work, registers, scope, second)
+    let after = end(work, node + 1);
+    let second = command(work, registers, scope, after);
+    anew(second)
 }
 
 // The block at a node: its declaration, then its command in the scope with the names that this gives.
@@ -206,7 +215,8 @@ fn block(work: &mut [u64], registers: usize, scope: usize, node: usize) -> Answe
         return declared;
     };
     let inside = end(work, node + 1);
-    command(work, registers, inner, inside)
+    let body = command(work, registers, inner, inside);
+    anew(body)
 }
 
 // The declaration at a node: rows for its names, linked from `tail`, and the pointer of the newest.
@@ -274,5 +284,6 @@ fn bound(work: &mut [u64], registers: usize, scope: usize, node: usize) -> Answe
         };
         return Answer::Is(8);
     }
-    expression(work, registers, scope, node)
+    let value = expression(work, registers, scope, node);
+    anew(value)
 }

@@ -36,15 +36,20 @@ pub(crate) fn formals(
     ensures { λ r. ⌜ ((fs : List Formal) (seen : Scope) → FormalsAt (now (work .entry)) node count fs → Rows (now (work .entry)) tail scope seen → NamesFrom (now (work .exit)) scope (node + count) (distinct seen fs and-then λ done. fine (with-formals fs seen)) r) ⌝ }
     ensures { λ r. ⌜ Kept (now (work .entry)) (now (work .exit)) node ⌝ }
 {
-    if count == 0 {
-        return Answer::Is(tail);
+    let mut newest = tail;
+    let mut at = node;
+    let mut left = count;
+    while left != 0 {
+        let word = operand(work, at);
+        let name = word % 64;
+        let found = find_row(work, newest, scope, name);
+        if found != scope {
+            return Answer::Fault(12, at);
+        }
+        work[2000 + at] = row_word(name, word / 64, newest);
+        at = at + 1;
+        newest = at;
+        left = left - 1;
     }
-    let word = operand(work, node);
-    let name = word % 64;
-    let found = find_row(work, tail, scope, name);
-    if found != scope {
-        return Answer::Fault(12, node);
-    }
-    work[2000 + node] = row_word(name, word / 64, tail);
-    formals(work, scope, node + 1, node + 1, count - 1)
+    Answer::Is(newest)
 }

@@ -1,5 +1,5 @@
 -- How many children a node has and what is wanted of them, by the code's tables. Assumes nothing.
-use Prim.Native.Nat.{ℕ, zero, suc, _+_, _-_, _/_, _<_, _≤_}
+use Prim.Native.Nat.{ℕ, zero, suc, _+_, _-_, _/_, _<_}
 use mathlib.Core.Path.{_≡_, refl, sym, ap, _∙_, subst}
 use mathlib.Core.List.{List, [], _∷_, _++_}
 use mathlib.Core.Option.{some, Option·some-injective}
@@ -81,30 +81,6 @@ static-same k w formal q c a = refl
 pub static-counted : (k w : ℕ) → Passing k w → ¬ (k ≡ 24) → ¬ (k ≡ 41) → getD counts k 0 ≡ length (wants-at k w)
 static-counted k w p c a =
     row-of k (p .which) (p .known) .counted ∙ static-same k w (p .which) (p .known) c a ∙ sym (ap length (known-wants k w (p .which) (p .known)))
-
--- At most nine children.
-nine : (w : ℕ) (kind : Kind) → w < operand-bound kind → length (child-wants kind w) ≤ 9
-unfolding operand-bound
-nine w (expression-kind num) h = omega arith
-nine w (expression-kind boo) h = omega arith
-nine w (expression-kind id) h = omega arith
-nine w (expression-kind deref) h = omega arith
-nine w (expression-kind valref) h = omega arith
-nine w (expression-kind (binary o)) h = omega arith
-nine w (expression-kind negation) h = omega arith
-nine w (command-kind assign) h = omega arith
-nine w (command-kind loop) h = omega arith
-nine w (command-kind cseq) h = omega arith
-nine w (command-kind blk) h = omega arith
-nine w (command-kind call) h = omega (arith, h, length-replicate (upper-part w) an-expression)
-nine w (declaration-kind bind) h = omega arith
-nine w (declaration-kind dseq) h = omega arith
-nine w ref h = omega arith
-nine w abs h = omega (arith, h, length-append (replicate w a-formal) (a-block ∷ []), length-replicate w a-formal)
-nine w formal h = omega arith
-
-pub few-children : (k w : ℕ) → Passing k w → length (wants-at k w) ≤ 9
-few-children k w p = subst (λ l. length l ≤ 9) (sym (known-wants k w (p .which) (p .known))) (nine w (p .which) (operand-low k w p (p .which) (p .known)))
 
 -- ---- What is wanted of the children, from the last one back.
 

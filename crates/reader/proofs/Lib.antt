@@ -6,4 +6,5 @@ pub mod Rows
 pub mod Faults
 pub mod Children
 pub mod ReadLaws
+pub mod SiblingLaws
 pub mod ImageLaws

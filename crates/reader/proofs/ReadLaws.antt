@@ -2,26 +2,26 @@
 use Prim.Native.Nat.{ℕ, zero, suc, _+_, _-_, _*_, _<_, _≤_}
 use mathlib.Core.Path.{_≡_, refl, sym, ap, _∙_, subst}
 use mathlib.Core.Bool.{Bool, true, false, cond}
-use mathlib.Core.List.{List, [], _∷_, _++_}
+use mathlib.Core.List.{List, [], _∷_}
 use mathlib.Core.Option.{Option, none, some}
 use native.Mathlib.Omega.{arith}
 use native.Mathlib.Numerals.{add-one}
-use native.Mathlib.Nat.{add-zero, add-assoc, not-suc-le-zero}
+use native.Mathlib.Nat.{add-assoc, not-suc-le-zero}
 use lib.Dec.{T}
-use lib.ListN.{length, getD, take, drop, set, length-take, length-drop, length-append, drop-of-length-le}
+use lib.ListN.{length, getD, take, drop, set, length-take, length-drop, drop-of-length-le}
 use lib.Seq.{getD-take, getD-drop}
 use Rattle.rules.specs.Basics.{passed-test}
 use Rattle.rules.specs.Refusals.{Refusal, refusal-number}
 use Rattle.rules.specs.Refusals as Refusals
 use Rattle.rules.specs.Kinds.{Kind, kind-of, operand-fits}
-use Rattle.rules.specs.Reader.{Node, Got, refused, got, Read, then, _>>=_, give, Header, or-refuse, node, nodes-of}
+use Rattle.rules.specs.Reader.{Node, Got, refused, got, Read, then, give, Header, or-refuse, node, nodes-of}
 use Rattle.rules.specs.Listing.{a-node}
 use Rattle.rules.specs.ReaderNodes.{number-of}
 use Rattle.reader.specs.Pack.{pack, node-words}
-use Rattle.reader.specs.Put.{put, put-length, put-none, put-append, set-put, put-beyond}
+use Rattle.reader.specs.Put.{put, set-put}
 use Rattle.reader.specs.Scan.{Want, accepts, accepting, child-wants, scan-list, scan}
-use Rattle.reader.specs.Tables.{want-of, fault-by, fault-of, wants-at, rest-wants-by, rest-wants-at, WantedAt}
-use Rattle.reader.specs.Answers.{nodes-at, Readable, Passing, KindKnown, Read-on, Outcome}
+use Rattle.reader.specs.Tables.{want-of, fault-by, fault-of, wants-at, rest-wants-at}
+use Rattle.reader.specs.Answers.{nodes-at, Readable, Passing, Outcome}
 use Rattle.reader.specs.declared.Scanned.{Scanned}
 use Rattle.reader.specs.declared.Scanned.the-variants.{Next, Refused}
 use Rattle.reader.proofs.AnswerLaws.{two-answers, same-next, kept-same}
@@ -35,7 +35,7 @@ kind-at words at = getD words (2 + at) 0
 abbrev pub operand-at : List ℕ → (n at : ℕ) → ℕ
 operand-at words n at = getD words (2 + n + at) 0
 
--- What `read_node` and `read_children` answer.
+-- What reading a node comes to, and reading the last so many children of a node.
 abbrev pub Node-outcome : List ℕ → (n at want levels : ℕ) → Scanned → (before after : List ℕ) → Type 0
 Node-outcome words n at want levels r before after =
     Outcome (nodes-at words n) n at (scan levels (want-of want) at (drop at (nodes-at words n))) r before after
@@ -203,7 +203,7 @@ opened-node words n at want d sized h q =
     (ap (λ i. then (scan-list (scan d) (child-wants (p .0) w) i (drop (at + 1) (nodes-at words n))) (λ below. give (node-words k w at below))) (sym (add-one at)))
 
 -- what was refused stays so, whatever would follow
-refused-then : (nodes : List Node) (n i at x p : ℕ) (g : Got (List ℕ)) (k : List ℕ → Read (List ℕ)) (r : Scanned) (work work′ : List ℕ) → Outcome nodes n i g r work work′ → r ≡ Refused x p →
+pub refused-then : (nodes : List Node) (n i at x p : ℕ) (g : Got (List ℕ)) (k : List ℕ → Read (List ℕ)) (r : Scanned) (work work′ : List ℕ) → Outcome nodes n i g r work work′ → r ≡ Refused x p →
     Outcome nodes n at (then g k) (Refused x p) work work′
 refused-then nodes n i at x p (refused y q) k r work work′ o e = record { answer = sym e ∙ o .answer; kept = o .kept }
 refused-then nodes n i at x p (got ws j rest) k r work work′ o e = absurd (two-answers r j x p (o .answer) e)
@@ -263,71 +263,12 @@ module _ (words work work′ : List ℕ) (n at want levels count : ℕ) (r : Sca
       subst (λ g. Outcome (nodes-at words n) n at g (Next end) work (set work′ at (pack kind operand end))) (sym opened-here)
       (finish-next (nodes-at words n) n at kind operand end children-read r work work′ children e)
 
--- ---- Reading children.
-
-pub no-children : (words work : List ℕ) (n at kind left levels : ℕ) → Readable work words n at → left ≡ 0 →
-    Children-outcome words n at kind left levels (Next at) work work
-unfolding rest-wants-at scan-list
-no-children words work n at kind left levels r z =
-    subst (λ g. Outcome (nodes-at words n) n at g (Next at) work work)
-    (sym (ap (λ l. scan-list (scan levels) (rest-wants-by l (kind-of kind)) at (drop at (nodes-at words n))) z ∙ empty (kind-of kind)))
-    (record { answer = refl; written = sym (put-none at work); counted = sym (add-zero at); within = r .within; remaining = refl })
-  where
-    empty : (o : Option Kind) → scan-list (scan levels) (rest-wants-by 0 o) at (drop at (nodes-at words n)) ≡ got [] at (drop at (nodes-at words n))
-    empty none = refl
-    empty (some k) = refl
-
-first-child : (kind left want levels at : ℕ) (ns : List Node) → KindKnown kind → WantedAt kind left want →
-    scan-list (scan levels) (rest-wants-at kind left) at ns ≡ then (scan levels (want-of want) at ns) (λ a. scan-list (scan levels) (rest-wants-at kind (left - 1)) >>= λ b. give (a ++ b))
-unfolding rest-wants-at scan-list
-first-child kind left want levels at ns k w = rw (k .known, w .head (k .which) (k .known))
-
-pub child-refused : (words work work′ : List ℕ) (n at kind left want levels x p : ℕ) (r : Scanned) → KindKnown kind → WantedAt kind left want →
-    Node-outcome words n at want levels r work work′ → r ≡ Refused x p →
-    Children-outcome words n at kind left levels (Refused x p) work work′
-child-refused words work work′ n at kind left want levels x p r k w o e =
-    subst (λ g. Outcome (nodes-at words n) n at g (Refused x p) work work′) (sym (first-child kind left want levels at (drop at (nodes-at words n)) k w))
-    (refused-then (nodes-at words n) n at at x p (scan levels (want-of want) at (drop at (nodes-at words n))) (λ a. scan-list (scan levels) (rest-wants-at kind (left - 1)) >>= λ b. give (a ++ b)) r work work′ o e)
-
--- A child was read, and then the others.
-pub child-next : (words work work′ work″ : List ℕ) (n at kind left want levels next : ℕ) (r s : Scanned) → KindKnown kind → WantedAt kind left want →
-    Node-outcome words n at want levels r work work′ → r ≡ Next next →
-    Children-outcome words n next kind (left - 1) levels s work′ work″ →
-    Children-outcome words n at kind left levels s work work″
-child-next words work work′ work″ n at kind left want levels next r s k w o e others =
-    subst (λ g. Outcome (nodes-at words n) n at g s work work″) (sym (first-child kind left want levels at (drop at (nodes-at words n)) k w))
-    (by (scan levels (want-of want) at (drop at (nodes-at words n))) o)
-  where
-    join : (ws : List ℕ) (rest : List Node) → Read-on (nodes-at words n) n at ws next rest r work work′ → (g : Got (List ℕ)) → Outcome (nodes-at words n) n next g s work′ work″ →
-        Outcome (nodes-at words n) n at (then g (λ b. give (ws ++ b))) s work work″
-    join ws rest a (refused y q) b =
-        record {
-          answer = b .answer;
-          kept = record {
-            same-length = b .kept .same-length ∙ ap length (a .written) ∙ put-length at ws work;
-            same-beyond = b .kept .same-beyond ∙ ap (drop n) (a .written) ∙ put-beyond n at ws work (omega (arith, a .counted, a .within));
-          };
-        }
-    join ws rest a (got vs j rest′) b =
-        record {
-          answer = b .answer;
-          written = b .written ∙ ap (λ v. put next vs v) (a .written) ∙ ap (λ i. put i vs (put at ws work)) (a .counted) ∙ put-append at ws vs work;
-          counted = omega (arith, a .counted, b .counted, length-append ws vs);
-          within = b .within;
-          remaining = b .remaining;
-        }
-
-    by : (g : Got (List ℕ)) → Outcome (nodes-at words n) n at g r work work′ →
-        Outcome (nodes-at words n) n at (then g (λ a. scan-list (scan levels) (rest-wants-at kind (left - 1)) >>= λ b. give (a ++ b))) s work work″
-    by (refused y q) o = absurd (two-answers r next (refusal-number y) q e (o .answer))
-    by (got ws j rest) o =
-        let q : j ≡ next = same-next r j next (o .answer) e in
-        let a : Read-on (nodes-at words n) n at ws next rest r work work′ = subst (λ i. Read-on (nodes-at words n) n at ws i rest r work work′) q o in
-        subst (λ i. Outcome (nodes-at words n) n at (then (scan-list (scan levels) (rest-wants-at kind (left - 1)) i rest) (λ b. give (ws ++ b))) s work work″) (sym q)
-        (subst (λ m. Outcome (nodes-at words n) n at (then (scan-list (scan levels) (rest-wants-at kind (left - 1)) next m) (λ b. give (ws ++ b))) s work work″) (sym (a .remaining))
-        (join ws rest a (scan-list (scan levels) (rest-wants-at kind (left - 1)) next (drop next (nodes-at words n))) others))
-
 -- ---- What the calls ask.
+
+-- A number that a kind has.
+pub record KindKnown (kind : ℕ) : Type 0 where
+  pub which : Kind
+  pub known : kind-of kind ≡ some which
 
 pub known-below : (k : ℕ) → KindKnown k → k < 43
 known-below k h = known-low k (h .which) (h .known)
@@ -337,26 +278,3 @@ kind-known k w p = record { which = p .which; known = p .known }
 
 pub child-readable : (words work : List ℕ) (n at : ℕ) → Readable work words n at → at < n → Readable work words n (at + 1)
 child-readable words work n at r h = record { sized = r .sized; few = r .few; room = r .room; within = omega arith }
-
--- after a child, at the next place
-pub later-readable : (words work work′ : List ℕ) (n at levels want next : ℕ) (r : Scanned) → Readable work words n at →
-    Node-outcome words n at want levels r work work′ → r ≡ Next next → Readable work′ words n next
-later-readable words work work′ n at levels want next r readable o e = by (scan levels (want-of want) at (drop at (nodes-at words n))) o
-  where
-    by : (g : Got (List ℕ)) → Outcome (nodes-at words n) n at g r work work′ → Readable work′ words n next
-    by (refused y q) o = absurd (two-answers r next (refusal-number y) q e (o .answer))
-    by (got ws j rest) o =
-        record {
-          sized = readable .sized;
-          few = readable .few;
-          room = omega (arith, readable .room, ap length (o .written) ∙ put-length at ws work);
-          within = omega (arith, o .within, same-next r next j e (o .answer));
-        }
-
--- where the children end
-pub end-within : (words work work′ : List ℕ) (n at kind left levels end : ℕ) (r : Scanned) → Children-outcome words n at kind left levels r work work′ → r ≡ Next end → end ≤ n
-end-within words work work′ n at kind left levels end r o e = by (scan-list (scan levels) (rest-wants-at kind left) at (drop at (nodes-at words n))) o
-  where
-    by : (g : Got (List ℕ)) → Outcome (nodes-at words n) n at g r work work′ → end ≤ n
-    by (refused y q) o = absurd (two-answers r end (refusal-number y) q e (o .answer))
-    by (got ws j rest) o = omega (arith, o .within, same-next r end j e (o .answer))

@@ -33,11 +33,6 @@ pub record Passing (kind operand : ℕ) : Type 0 where
   pub known : kind-of kind ≡ some which
   pub fits : T (operand-fits which operand)
 
--- A number that a kind has.
-pub record KindKnown (kind : ℕ) : Type 0 where
-  pub which : Kind
-  pub known : kind-of kind ≡ some which
-
 -- Of the work words, those from n on are kept.
 pub record Kept (n : ℕ) (before after : List ℕ) : Type 0 where
   pub same-length : length after ≡ length before

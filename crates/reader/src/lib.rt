@@ -5,10 +5,10 @@ ghost use mathlib.Core.Path.{_≡_};
 ghost use Prim.Native.Nat.{_<_, _≤_};
 ghost use lib.ListN.{length, drop, getD};
 ghost use Rattle.rules.specs.Reader.{read};
-ghost use Rattle.reader.specs.Scan.{scan, scan-list};
-ghost use Rattle.reader.specs.Tables.{want-of, rest-wants-at};
+ghost use Rattle.reader.specs.Scan.{scan};
+ghost use Rattle.reader.specs.Tables.{want-of};
 ghost use Rattle.reader.specs.Pack.{pack, packed-kind, packed-operand, packed-end};
-ghost use Rattle.reader.specs.Answers.{nodes-at, Readable, KindKnown, Outcome, ShapeAnswer};
+ghost use Rattle.reader.specs.Answers.{nodes-at, Readable, Outcome, ShapeAnswer};
 
 // What reading a node and its descendants comes to: the first node after them, or a refusal with its place.
 pub enum Scanned {
@@ -56,42 +56,19 @@ fn read_node(
     if levels == 0 {
         return Scanned::Refused(6, at);
     }
-    let count = tables::child_count(kind, operand);
-    let below = read_children(work, image, n, at + 1, kind, count, levels - 1);
-    match below {
-        Scanned::Next(end) => {
-            work[at] = node_word(kind, operand, end);
-            Scanned::Next(end)
-        }
-        Scanned::Refused(number, place) => Scanned::Refused(number, place),
+    let mut left = tables::child_count(kind, operand);
+    let mut end = at + 1;
+    while left != 0 {
+        let child_want = tables::child_want(kind, left);
+        let child = read_node(work, image, n, end, child_want, levels - 1);
+        let Scanned::Next(next) = child else {
+            return child;
+        };
+        end = next;
+        left = left - 1;
     }
-}
-
-// The last so many children of a node of this kind.
-fn read_children(
-    work: &mut [u64],
-    image: &[u32],
-    n: usize,
-    at: usize,
-    kind: usize,
-    left: usize,
-    levels: usize,
-) -> Scanned
-    requires { ⌜ Readable (now work) (now image) n at ⌝ }
-    requires { ⌜ KindKnown kind ⌝ }
-    requires { ⌜ left ≤ 9 ⌝ }
-    requires { ⌜ levels ≤ 64 ⌝ }
-    ensures { λ r. ⌜ Outcome (nodes-at (now (image .entry)) n) n at (scan-list (scan levels) (rest-wants-at kind left) at (drop at (nodes-at (now (image .entry)) n))) r (now (work .entry)) (now (work .exit)) ⌝ }
-{
-    if left == 0 {
-        return Scanned::Next(at);
-    }
-    let want = tables::child_want(kind, left);
-    let child = read_node(work, image, n, at, want, levels);
-    match child {
-        Scanned::Next(next) => read_children(work, image, n, next, kind, left - 1, levels),
-        Scanned::Refused(number, place) => Scanned::Refused(number, place),
-    }
+    work[at] = node_word(kind, operand, end);
+    Scanned::Next(end)
 }
 
 // The whole image: its shape, with a work word for each node; or the first refusal, and then the first 2,000 work words are spoilt.

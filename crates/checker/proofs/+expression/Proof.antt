@@ -1,7 +1,7 @@
 -- The proof of `expression`, which calls itself: the node's kind says which expression stands there, and its code follows from its
 -- children's. The measure is the number of nodes from this one on. Assumes nothing.
 use Prim.Native.Nat.{_+_, _-_, _≤_}
-use mathlib.Core.Path.{sym, subst}
+use mathlib.Core.Path.{sym, _∙_, subst}
 use native.Mathlib.Omega.{arith}
 use denote.Ref.{now}
 use borrow.Author.Needs.{needs}
@@ -13,6 +13,7 @@ use borrow.Fn.PlainCycle.{Measures, is, falls, and}
 use Rattle.checker.proofs.expression.Reads as expression
 use Rattle.checker.proofs.expression.Kinds as expression-kinds
 use Rattle.checker.proofs.+expression.Lts-expression as expression-lts
+use Rattle.checker.proofs.anew.Reads as anew-reads
 use Rattle.checker.proofs.name_code.Reads as name-code-reads
 use Rattle.checker.proofs.operation.Reads as operation-reads
 use Rattle.checker.proofs.truth.Reads as truth-reads
@@ -35,7 +36,7 @@ expression-below t =
 -- what the calls ask and give
 abbrev expression-calls : ℕ → expression-lts.Claims
 expression-calls t =
-    (kind-reads.Asked, kind-reads.Learnt, name-code-reads.Asked, name-code-reads.Learnt, expression-below t, expression.Post, truth-reads.Asked, truth-reads.Learnt, end-reads.Asked, end-reads.Learnt, operation-reads.Asked, operation-reads.Learnt)
+    (kind-reads.Asked, kind-reads.Learnt, name-code-reads.Asked, name-code-reads.Learnt, expression-below t, expression.Post, truth-reads.Asked, truth-reads.Learnt, end-reads.Asked, end-reads.Learnt, operation-reads.Asked, operation-reads.Learnt, anew-reads.Asked, anew-reads.Learnt)
 
 expression-kind-requires : (t : ℕ) → expression-lts.Need-kind-requires (expression-calls t) (expression-at t) expression.Post
 expression-kind-requires t c κs =
@@ -139,11 +140,15 @@ expression-returns-7 t c =
 expression-operation-requires : (t : ℕ) → expression-lts.Need-operation-requires (expression-calls t) (expression-at t) expression.Post
 expression-operation-requires t c κs = search needs
 
+expression-anew-requires : (t : ℕ) → expression-lts.Need-anew-requires (expression-calls t) (expression-at t) expression.Post
+expression-anew-requires t c κs = search needs
+
 expression-returns-8 : (t : ℕ) → expression-lts.Need-returns-8 (expression-calls t) (expression-at t) expression.Post
 expression-returns-8 t c =
-    let kind = c .before .before .before .before .before .before .before .before .before .before .before .before .before .before .before in
-    let start = c .before .before .before .before .before .before .before .before .before .before .before .before .before .before .before .before .before in
-    second-fine _ _ _ _ _ (kind .kind .ensures) (c .before .before .before .before .before .before .before .before .before .before .before .before .before .before .if1 .left) (c .before .before .before .before .before .before .before .before .before .before .before .before .before .if2 .left) (c .before .before .before .before .before .before .before .before .before .before .before .before .if3 .left) (c .before .before .before .before .before .before .before .before .before .before .before .if4 .left) _ (c .before .before .before .before .before .before .before .before .before .before .expression .ensures) (c .before .before .before .before .before .before .if5 .left) _ _ _ (c .before .before .before .before .before .before .before .before .inner .given .1) (c .before .before .before .before .before .end .ensures) (c .before .before .before .before .expression2 .ensures) _ _ (c .before .before .outer .given .1) (c .operation .ensures)
+    let judged = c .before in
+    let kind = judged .before .before .before .before .before .before .before .before .before .before .before .before .before .before .before in
+    λ e Γ at s. c .anew .ensures ∙
+    second-fine _ _ _ _ _ (kind .kind .ensures) (judged .before .before .before .before .before .before .before .before .before .before .before .before .before .before .if1 .left) (judged .before .before .before .before .before .before .before .before .before .before .before .before .before .if2 .left) (judged .before .before .before .before .before .before .before .before .before .before .before .before .if3 .left) (judged .before .before .before .before .before .before .before .before .before .before .before .if4 .left) _ (judged .before .before .before .before .before .before .before .before .before .before .expression .ensures) (judged .before .before .before .before .before .before .if5 .left) _ _ _ (judged .before .before .before .before .before .before .before .before .inner .given .1) (judged .before .before .before .before .before .end .ensures) (judged .before .before .before .before .expression2 .ensures) _ _ (judged .before .before .outer .given .1) (judged .operation .ensures) e Γ at s
 
 pub +expression-spec : {M : Type 1} → statement M
 +expression-spec = close μ-expression λ t. expression-lts.spec (expression-calls t)
@@ -170,4 +175,5 @@ pub +expression-spec : {M : Type 1} → statement M
     (expression-enum-told-2 t)
     (expression-returns-7 t)
     (expression-operation-requires t)
+    (expression-anew-requires t)
     (expression-returns-8 t)

@@ -2,6 +2,7 @@
 -- Places are named by what was called there. Assumes nothing.
 use Prim.Native.Nat.{_-_, ℕ}
 use native.Mathlib.Omega.{arith}
+use mathlib.Core.Path.{_∙_}
 use borrow.Author.Needs.{needs}
 use Rattle.checker.proofs.BlockLaws.{block-parts, block-first-low, block-fault, block-inside, block-fine}
 use Rattle.checker.proofs.KeptLaws.{kept-then, kept-lower}
@@ -55,17 +56,21 @@ block-command-requires t c κs =
     let inside = block-inside _ _ _ _ _ _ (call .ensures .0) _ _ known (call .ensures .1) (start .pre .1 .1 .0) end (start .pre .1 .1 .1 .0) (start .pre .1 .1 .1 .1) in
     (omega (arith, inside .1, inside .2, start .pre .0), (omega (arith, call .kept .0, start .pre .1 .0), (inside .0, (inside .3, inside .4))))
 
+pub block-anew-requires : (t : ℕ) → block-lts.Need-anew-requires (block-calls t) (block-at t) block.Post
+block-anew-requires t c κs = search needs
+
 pub block-same-length-2 : (t : ℕ) → block-lts.Need-same-length-2 (block-calls t) (block-at t) block.Post
 block-same-length-2 t c = search needs
 
 pub block-returns-2 : (t : ℕ) → block-lts.Need-returns-2 (block-calls t) (block-at t) block.Post
 block-returns-2 t c =
-    let start = c .before .before .before .before .before .before .before .before .before .before .before .before .before .before in
-    let call = c .before .before .before .before .before .before .before .before .before .before .before .declaration in
-    let known = c .before .before .before .before .before .before .before .declared .given .1 in
-    let end = c .before .before .before .before .end .ensures in
-    let command = c .before .before .command in
+    let judged = c .before in
+    let start = judged .before .before .before .before .before .before .before .before .before .before .before .before .before .before in
+    let call = judged .before .before .before .before .before .before .before .before .before .before .before .declaration in
+    let known = judged .before .before .before .before .before .before .before .declared .given .1 in
+    let end = judged .before .before .before .before .end .ensures in
+    let command = judged .before .before .command in
     let inside = block-inside _ _ _ _ _ _ (call .ensures .0) _ _ known (call .ensures .1) (start .pre .1 .1 .0) end (start .pre .1 .1 .1 .0) (start .pre .1 .1 .1 .1) in (
-      block-fine _ _ _ _ _ _ (call .ensures .0) _ _ known (call .ensures .1) (start .pre .1 .1 .0) end _ (command .ensures .0),
+      λ tree Γ at s. c .anew .ensures ∙ block-fine _ _ _ _ _ _ (call .ensures .0) _ _ known (call .ensures .1) (start .pre .1 .1 .0) end _ (command .ensures .0) tree Γ at s,
       kept-then (kept-lower (call .ensures .1) (omega arith)) (command .ensures .1) (omega (arith, inside .1)),
     )

@@ -202,13 +202,17 @@ bound-expression-requires-2 t c κs =
     let a = start .args in
     (start .pre .1 .0, (start .pre .1 .1 .1 .0, plain-there (now (a .work)) (a .registers) (a .scope) (a .node) _ (kind .kind .ensures) (test .before .if1 .left) (test .if2 .left) (start .pre .1 .1 .1 .1)))
 
+pub bound-anew-requires : (t : ℕ) → bound-lts.Need-anew-requires (bound-calls t) (bound-at t) bound.Post
+bound-anew-requires t c κs = search needs
+
 pub bound-same-length-6 : (t : ℕ) → bound-lts.Need-same-length-6 (bound-calls t) (bound-at t) bound.Post
 bound-same-length-6 t c = search needs
 
 pub bound-returns-6 : (t : ℕ) → bound-lts.Need-returns-6 (bound-calls t) (bound-at t) bound.Post
 bound-returns-6 t c =
-    let test = c .before .before in
+    let judged = c .before in
+    let test = judged .before .before in
     let kind = test .before .before in
     let start = kind .before .before .before in
     let a = start .args in
-    (plain-means (now (a .work)) (a .registers) (a .scope) (a .node) _ (kind .kind .ensures) (test .before .if1 .left) (test .if2 .left) _ (c .expression2 .ensures), kept-nothing (now (a .work)) (a .node))
+    (λ tree Γ at s. c .anew .ensures ∙ plain-means (now (a .work)) (a .registers) (a .scope) (a .node) _ (kind .kind .ensures) (test .before .if1 .left) (test .if2 .left) _ (judged .expression2 .ensures) tree Γ at s, kept-nothing (now (a .work)) (a .node))

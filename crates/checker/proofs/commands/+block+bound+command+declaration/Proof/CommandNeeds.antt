@@ -39,14 +39,18 @@ command-block-requires t c κs =
     let kind = c .before .before .before in
     (omega (arith, start .pre .0), (start .pre .1 .0, (start .pre .1 .1 .0, (start .pre .1 .1 .1 .0, block-there _ _ _ (kind .kind .ensures) (c .before .if2 .taken) (start .pre .1 .1 .1 .1)))))
 
+pub command-anew-requires : (t : ℕ) → command-lts.Need-anew-requires (command-calls t) (command-at t) command.Post
+command-anew-requires t c κs = search needs
+
 pub command-same-length-2 : (t : ℕ) → command-lts.Need-same-length-2 (command-calls t) (command-at t) command.Post
 command-same-length-2 t c = search needs
 
 pub command-returns-2 : (t : ℕ) → command-lts.Need-returns-2 (command-calls t) (command-at t) command.Post
 command-returns-2 t c =
-    let kind = c .before .before .before .before .before .before in
-    let call = c .before .before .block in
-    (command-block _ _ _ _ _ (kind .kind .ensures) _ (c .before .before .before .before .if2 .taken) (call .ensures .0), call .ensures .1)
+    let judged = c .before in
+    let kind = judged .before .before .before .before .before .before in
+    let call = judged .before .before .block in
+    (λ tree Γ at s. c .anew .ensures ∙ command-block _ _ _ _ _ (kind .kind .ensures) _ (judged .before .before .before .before .if2 .taken) (call .ensures .0) tree Γ at s, call .ensures .1)
 
 pub command-call-requires : (t : ℕ) → command-lts.Need-call-requires (command-calls t) (command-at t) command.Post
 command-call-requires t c κs =
@@ -223,19 +227,23 @@ command-command-requires-3 t c κs =
       ),
     )
 
+pub command-anew-requires-2 : (t : ℕ) → command-lts.Need-anew-requires-2 (command-calls t) (command-at t) command.Post
+command-anew-requires-2 t c κs = search needs
+
 pub command-same-length-8 : (t : ℕ) → command-lts.Need-same-length-8 (command-calls t) (command-at t) command.Post
 command-same-length-8 t c = search needs
 
 pub command-returns-8 : (t : ℕ) → command-lts.Need-returns-8 (command-calls t) (command-at t) command.Post
 command-returns-8 t c =
-    let start = c .before .before .before .before .before .before .before .before .before .before .before .before .before .before .before .before .before .before .before .before in
-    let kind = c .before .before .before .before .before .before .before .before .before .before .before .before .before .before .before .before .before in
-    let parts = commands-there _ _ _ (kind .kind .ensures) (c .before .before .before .before .before .before .before .before .before .before .before .before .before .before .before .before .if1 .left) (c .before .before .before .before .before .before .before .before .before .before .before .before .before .before .before .if2 .left) (c .before .before .before .before .before .before .before .before .before .before .before .before .before .before .if3 .left) (c .before .before .before .before .before .before .before .before .before .before .before .before .before .if4 .left) (start .pre .1 .1 .1 .1) in
-    let call = c .before .before .before .before .before .before .before .before .before .before .before .command2 in
-    let end = c .before .before .before .before .end2 in
+    let judged = c .before in
+    let start = judged .before .before .before .before .before .before .before .before .before .before .before .before .before .before .before .before .before .before .before .before in
+    let kind = judged .before .before .before .before .before .before .before .before .before .before .before .before .before .before .before .before .before in
+    let parts = commands-there _ _ _ (kind .kind .ensures) (judged .before .before .before .before .before .before .before .before .before .before .before .before .before .before .before .before .if1 .left) (judged .before .before .before .before .before .before .before .before .before .before .before .before .before .before .before .if2 .left) (judged .before .before .before .before .before .before .before .before .before .before .before .before .before .before .if3 .left) (judged .before .before .before .before .before .before .before .before .before .before .before .before .before .if4 .left) (start .pre .1 .1 .1 .1) in
+    let call = judged .before .before .before .before .before .before .before .before .before .before .before .command2 in
+    let end = judged .before .before .before .before .end2 in
     let before = end .ensures ∙ kept-end _ (call .ensures .1) (command-low (parts .2 .stored)) in
-    let last = c .before .before .command3 in (
-      commands-fine _ _ _ _ _ (kind .kind .ensures) (c .before .before .before .before .before .before .before .before .before .before .before .before .before .before .before .before .if1 .left) (c .before .before .before .before .before .before .before .before .before .before .before .before .before .before .before .if2 .left) (c .before .before .before .before .before .before .before .before .before .before .before .before .before .before .if3 .left) (c .before .before .before .before .before .before .before .before .before .before .before .before .before .if4 .left) _ (call .ensures .0) _ _ _ (c .before .before .before .before .before .before .before .first .given .1) before
-          (fine-before _ _ _ _ (call .ensures .1) (omega (arith, start .pre .1 .1 .0)) (last .ensures .0)),
+    let last = judged .before .before .command3 in (
+      λ tree Γ at s. c .anew2 .ensures ∙ commands-fine _ _ _ _ _ (kind .kind .ensures) (judged .before .before .before .before .before .before .before .before .before .before .before .before .before .before .before .before .if1 .left) (judged .before .before .before .before .before .before .before .before .before .before .before .before .before .before .before .if2 .left) (judged .before .before .before .before .before .before .before .before .before .before .before .before .before .before .if3 .left) (judged .before .before .before .before .before .before .before .before .before .before .before .before .before .if4 .left) _ (call .ensures .0) _ _ _ (judged .before .before .before .before .before .before .before .first .given .1) before
+          (fine-before _ _ _ _ (call .ensures .1) (omega (arith, start .pre .1 .1 .0)) (last .ensures .0)) tree Γ at s,
       kept-then (kept-lower (call .ensures .1) (omega arith)) (last .ensures .1) (omega (arith, parts .4, before)),
     )

@@ -16,6 +16,7 @@ use Rattle.checker.proofs.commands.+block+bound+command+declaration.Lts
 use Rattle.checker.proofs.commands.declaration.Reads as declaration
 use Rattle.checker.proofs.commands.declaration.Kinds as declaration-kinds
 use Rattle.checker.proofs.commands.+block+bound+command+declaration.Lts-declaration as declaration-lts
+use Rattle.checker.proofs.anew.Reads as anew-reads
 use Rattle.checker.proofs.commands.assignment.Reads as assignment-reads
 use Rattle.checker.proofs.commands.call.Reads as call-reads
 use Rattle.checker.proofs.commands.location_code.Reads as location-code-reads
@@ -69,15 +70,15 @@ declaration-below t =
 -- what the calls of each function ask and give
 abbrev pub block-calls : ℕ → block-lts.Claims
 block-calls t =
-    (declaration-below t, declaration.Post, end-reads.Asked, end-reads.Learnt, command-below t, command.Post)
+    (declaration-below t, declaration.Post, end-reads.Asked, end-reads.Learnt, command-below t, command.Post, anew-reads.Asked, anew-reads.Learnt)
 
 abbrev pub bound-calls : ℕ → bound-lts.Claims
 bound-calls t =
-    (kind-reads.Asked, kind-reads.Learnt, expression-reads.Asked, expression-reads.Learnt, location-code-reads.Asked, location-code-reads.Learnt, operand-reads.Asked, operand-reads.Learnt, formals-reads.Asked, formals-reads.Learnt, block-below t, block.Post)
+    (kind-reads.Asked, kind-reads.Learnt, expression-reads.Asked, expression-reads.Learnt, location-code-reads.Asked, location-code-reads.Learnt, operand-reads.Asked, operand-reads.Learnt, formals-reads.Asked, formals-reads.Learnt, block-below t, block.Post, anew-reads.Asked, anew-reads.Learnt)
 
 abbrev pub command-calls : ℕ → command-lts.Claims
 command-calls t =
-    (kind-reads.Asked, kind-reads.Learnt, assignment-reads.Asked, assignment-reads.Learnt, block-below t, block.Post, call-reads.Asked, call-reads.Learnt, expression-reads.Asked, expression-reads.Learnt, end-reads.Asked, end-reads.Learnt, command-below t, command.Post, truth-reads.Asked, truth-reads.Learnt)
+    (kind-reads.Asked, kind-reads.Learnt, assignment-reads.Asked, assignment-reads.Learnt, block-below t, block.Post, anew-reads.Asked, anew-reads.Learnt, call-reads.Asked, call-reads.Learnt, expression-reads.Asked, expression-reads.Learnt, end-reads.Asked, end-reads.Learnt, command-below t, command.Post, truth-reads.Asked, truth-reads.Learnt)
 
 abbrev pub declaration-calls : ℕ → declaration-lts.Claims
 declaration-calls t =
