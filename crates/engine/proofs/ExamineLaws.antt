@@ -12,21 +12,23 @@ use Rattle.rules.specs.Reader.{Reading, bad, image, read}
 use Rattle.rules.specs.Listing.{root-nodes}
 use Rattle.rules.specs.ReaderExact.{IsImage, read-exact}
 use Rattle.rules.specs.Checker.{Judged, fault, fine, Passed, expression-of-code, a-command, register-scope, root-is}
-use Rattle.rules.specs.Engine.{check-image, check-reading, checked, check-answer}
+use Rattle.rules.specs.Engine.{check-image, check-reading, checked}
 use Rattle.reader.specs.Pack.{root-words}
 use Rattle.reader.specs.Put.{put, put-length, put-beyond}
 use Rattle.reader.specs.Answers.{ShapeAnswer, Shape-refused, Shape-read}
 use Rattle.reader.specs.Answers as Reads
-use Rattle.reader.specs.Stored.{StoredRoot}
-use Rattle.reader.specs.StoredLaws.{stored-by-put, root-next}
+use Rattle.reader.specs.Stored.{StoredRoot, root-expression, root-command}
+use Rattle.reader.specs.StoredLaws.{SameNodes, same-expression, same-command, stored-by-put, root-next}
 use Rattle.reader.specs.declared.Shape.{Shape}
 use Rattle.reader.specs.declared.Shape.the-variants as Shapes
 use Rattle.checker.specs.Commands.{Kept, RootAt, verdict, PassesAs}
 use Rattle.checker.specs.declared.Verdict.{Verdict}
 use Rattle.checker.specs.declared.Verdict.the-variants as Verdicts
-use Rattle.engine.specs.Answers.{check-reply, Beyond}
-use Rattle.engine.specs.declared.Checked.{Checked}
-use Rattle.engine.specs.declared.Checked.the-variants.{Code, Command, Refused}
+use Rattle.automaton.specs.Starts.{RootStands}
+use Rattle.engine.specs.Answers.{Beyond}
+use Rattle.engine.specs.Examined.{ExamineAnswer}
+use Rattle.engine.specs.declared.Examined.{Examined}
+use Rattle.engine.specs.declared.Examined.the-variants.{Code, Command, Refused}
 
 -- ---- Work words from 8,192 on.
 
@@ -76,17 +78,17 @@ same-registers s n r m q g h = cc
 same-refused : (s : Shape) (x p y q : ℕ) → s ≡ Shapes.Refused x p → s ≡ Shapes.Refused y q → Refused x p ≡ Refused y q
 same-refused s x p y q g h = ap of-shape (sym g ∙ h)
   where
-    of-shape : Shape → Checked
-    of-shape (Shapes.Image n r) = Command
+    of-shape : Shape → Examined
+    of-shape (Shapes.Image n r) = Command r
     of-shape (Shapes.Refused x p) = Refused x p
 
 module _ (words before after : List ℕ) (shape : Shape) (answered : ShapeAnswer (read words) shape before after) where
-  pub shape-refused : (x p : ℕ) → shape ≡ Shapes.Refused x p → (Refused x p ≡ check-reply (check-answer (check-image words))) × Beyond before after
+  pub shape-refused : (x p : ℕ) → shape ≡ Shapes.Refused x p → ExamineAnswer (check-image words) (Refused x p) before after
   unfolding check-image
   shape-refused x p q = by (read words) answered
     where
-      by : (g : Reading) → ShapeAnswer g shape before after → (Refused x p ≡ check-reply (check-answer (check-reading g))) × Beyond before after
-      by (bad y o) a = (same-refused shape x p (refusal-number y) o q (a .answer), beyond-read (a .kept))
+      by : (g : Reading) → ShapeAnswer g shape before after → ExamineAnswer (check-reading g) (Refused x p) before after
+      by (bad y o) a = record { answer = same-refused shape x p (refusal-number y) o q (a .answer); beyond = beyond-read (a .kept) }
       by (image r t) a = absurd (two-shapes shape (length (root-nodes t)) r x p (a .answer) q)
 
   -- A tree that was read stands in the work words.
@@ -115,36 +117,68 @@ module _ (words before after : List ℕ) (shape : Shape) (answered : ShapeAnswer
 
 -- ---- The verdict.
 
-abbrev of-verdict : Verdict → Checked
-of-verdict (Verdicts.Code c) = Code c
-of-verdict Verdicts.Command = Command
-of-verdict (Verdicts.Fault x p) = Refused x p
+same-root : (words words′ : List ℕ) → SameNodes words words′ → {d i j : ℕ} {t : Root} → StoredRoot words d i j t → StoredRoot words′ d i j t
+same-root words words′ same (root-expression h) = root-expression (same-expression words words′ same h)
+same-root words words′ same (root-command h) = root-command (same-command words words′ same h)
 
-module _ (words after : List ℕ) (registers : ℕ) (t : Root) (reads : read words ≡ image registers t) (stands : RootAt after t) (v : Verdict) (judged : PassesAs after registers v) where
-  of-reading : (a : Checked) → ((j : Judged Passed) → v ≡ verdict j → a ≡ check-reply (check-answer (checked registers t j))) → a ≡ check-reply (check-answer (check-image words))
+-- The checker leaves the tree where it stands.
+tree-kept : {a b : List ℕ} {t : Root} → Kept a b 0 → RootAt a t → RootStands b t
+tree-kept {a} {b} k s = record { depth = s .depth; next = s .next; stored = same-root a b (λ i h. k .same-below i (omega (arith, h))) (s .stored) }
+
+abbrev code-of : Verdict → ℕ
+code-of (Verdicts.Code c) = c
+code-of Verdicts.Command = 8
+code-of (Verdicts.Fault x p) = x
+
+abbrev place-of : Verdict → ℕ
+place-of (Verdicts.Code c) = 0
+place-of Verdicts.Command = 0
+place-of (Verdicts.Fault x p) = p
+
+abbrev IsCode : Verdict → Type 0
+IsCode (Verdicts.Code c) = Unit {0}
+IsCode Verdicts.Command = ⊥
+IsCode (Verdicts.Fault x p) = ⊥
+
+abbrev IsCommand : Verdict → Type 0
+IsCommand (Verdicts.Code c) = ⊥
+IsCommand Verdicts.Command = Unit {0}
+IsCommand (Verdicts.Fault x p) = ⊥
+
+abbrev IsFault : Verdict → Type 0
+IsFault (Verdicts.Code c) = ⊥
+IsFault Verdicts.Command = ⊥
+IsFault (Verdicts.Fault x p) = Unit {0}
+
+module _ (words before middle after : List ℕ) (registers : ℕ) (t : Root) (reads : read words ≡ image registers t) (stands : RootAt middle t) (beyond : Beyond before middle) (kept : Kept middle after 0)
+    (v : Verdict) (judged : PassesAs middle registers v) where
+  all-beyond : Beyond before after
+  all-beyond = beyond-then beyond (beyond-kept kept)
+
+  of-reading : (a : Examined) → ((j : Judged Passed) → v ≡ verdict j → ExamineAnswer (checked registers t j) a before after) → ExamineAnswer (check-image words) a before after
   unfolding check-image
-  of-reading a done = subst (λ g. a ≡ check-reply (check-answer (check-reading g))) (sym reads) (done (root-is (register-scope registers) t) (judged t stands))
+  of-reading a done = subst (λ g. ExamineAnswer (check-reading g) a before after) (sym reads) (done (root-is (register-scope registers) t) (judged t stands))
 
-  pub code-passes : (c : ℕ) → v ≡ Verdicts.Code c → Code c ≡ check-reply (check-answer (check-image words))
-  code-passes c q = of-reading (Code c) (λ j h. by j (sym q ∙ h))
+  pub code-passes : (c : ℕ) → v ≡ Verdicts.Code c → ExamineAnswer (check-image words) (Code c registers) before after
+  code-passes c q = of-reading (Code c registers) (λ j h. by j (sym q ∙ h))
     where
-      by : (j : Judged Passed) → Verdicts.Code c ≡ verdict j → Code c ≡ check-reply (check-answer (checked registers t j))
-      by (fault x p) h = ap of-verdict h
-      by (fine (expression-of-code d)) h = ap of-verdict h
-      by (fine a-command) h = ap of-verdict h
+      by : (j : Judged Passed) → Verdicts.Code c ≡ verdict j → ExamineAnswer (checked registers t j) (Code c registers) before after
+      by (fault x p) h = absurd (subst IsCode h tt)
+      by (fine (expression-of-code d)) h = record { answer = ap (λ k. Code k registers) (ap code-of h); stands = tree-kept kept stands; beyond = all-beyond }
+      by (fine a-command) h = absurd (subst IsCode h tt)
 
-  pub command-passes : v ≡ Verdicts.Command → Command ≡ check-reply (check-answer (check-image words))
-  command-passes q = of-reading Command (λ j h. by j (sym q ∙ h))
+  pub command-passes : v ≡ Verdicts.Command → ExamineAnswer (check-image words) (Command registers) before after
+  command-passes q = of-reading (Command registers) (λ j h. by j (sym q ∙ h))
     where
-      by : (j : Judged Passed) → Verdicts.Command ≡ verdict j → Command ≡ check-reply (check-answer (checked registers t j))
-      by (fault x p) h = ap of-verdict h
-      by (fine (expression-of-code d)) h = ap of-verdict h
-      by (fine a-command) h = ap of-verdict h
+      by : (j : Judged Passed) → Verdicts.Command ≡ verdict j → ExamineAnswer (checked registers t j) (Command registers) before after
+      by (fault x p) h = absurd (subst IsCommand h tt)
+      by (fine (expression-of-code d)) h = absurd (subst IsCommand h tt)
+      by (fine a-command) h = record { answer = refl; stands = tree-kept kept stands; beyond = all-beyond }
 
-  pub fault-refused : (x p : ℕ) → v ≡ Verdicts.Fault x p → Refused x p ≡ check-reply (check-answer (check-image words))
+  pub fault-refused : (x p : ℕ) → v ≡ Verdicts.Fault x p → ExamineAnswer (check-image words) (Refused x p) before after
   fault-refused x p q = of-reading (Refused x p) (λ j h. by j (sym q ∙ h))
     where
-      by : (j : Judged Passed) → Verdicts.Fault x p ≡ verdict j → Refused x p ≡ check-reply (check-answer (checked registers t j))
-      by (fault y o) h = ap of-verdict h
-      by (fine (expression-of-code d)) h = ap of-verdict h
-      by (fine a-command) h = ap of-verdict h
+      by : (j : Judged Passed) → Verdicts.Fault x p ≡ verdict j → ExamineAnswer (checked registers t j) (Refused x p) before after
+      by (fault y o) h = record { answer = ap (λ k. Refused k p) (ap code-of h) ∙ ap (Refused (refusal-number y)) (ap place-of h); beyond = all-beyond }
+      by (fine (expression-of-code d)) h = absurd (subst IsFault h tt)
+      by (fine a-command) h = absurd (subst IsFault h tt)

@@ -1,3 +1,7 @@
 mod CheckLaws
 mod ClearLaws
 mod ExamineLaws
+mod ExecuteLaws
+mod OrderLaws
+mod PerformLaws
+mod ReplyLaws

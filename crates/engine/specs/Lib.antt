@@ -1,1 +1,3 @@
 pub mod Answers
+pub mod Examined
+pub mod Runs

@@ -1,7 +1,7 @@
 -- The shape first, then scope and types of the tree that was read. Assumes nothing.
 use Prim.Native.Nat.{ℕ, _≤_}
 use native.Mathlib.Omega.{arith}
-use Rattle.engine.proofs.ExamineLaws.{beyond-then, beyond-kept, shape-refused, tree-read, code-passes, command-passes, fault-refused}
+use Rattle.engine.proofs.ExamineLaws.{shape-refused, tree-read, code-passes, command-passes, fault-refused}
 use borrow.Author.Needs.{needs}
 use Rattle.engine.proofs.examine.Statement.{statement}
 use Rattle.engine.proofs.examine.Tie as tie
@@ -43,7 +43,8 @@ returns c =
     let start = c .before .before .before .before .before .before .before .before .before .before .before .before .before .before .before .before in
     let read = c .before .before .before .before .before .before .before .before .before .before .before .before .read-image in
     let tree = tree-read _ _ _ _ (read .ensures) _ _ (start .pre) (c .before .before .before .before .before .before .before .before .shape .given .1) in
-    (code-passes _ _ _ (tree .tree) (tree .reads) (tree .stands) _ (c .before .before .before .before .before .root .ensures .0) _ (c .before .verdict .given .1), beyond-then (tree .beyond) (beyond-kept (c .before .before .before .before .before .root .ensures .1)))
+    let judged = c .before .before .before .before .before .root in
+    code-passes _ _ _ _ _ (tree .tree) (tree .reads) (tree .stands) (tree .beyond) (judged .ensures .1) _ (judged .ensures .0) _ (c .before .verdict .given .1)
 
 same-length-2 : tie.Need-same-length-2
 same-length-2 c = search needs
@@ -53,7 +54,8 @@ returns-2 c =
     let start = c .before .before .before .before .before .before .before .before .before .before .before .before .before .before .before in
     let read = c .before .before .before .before .before .before .before .before .before .before .before .read-image in
     let tree = tree-read _ _ _ _ (read .ensures) _ _ (start .pre) (c .before .before .before .before .before .before .before .shape .given .1) in
-    (command-passes _ _ _ (tree .tree) (tree .reads) (tree .stands) _ (c .before .before .before .before .root .ensures .0) (c .enum-told .given .1), beyond-then (tree .beyond) (beyond-kept (c .before .before .before .before .root .ensures .1)))
+    let judged = c .before .before .before .before .root in
+    command-passes _ _ _ _ _ (tree .tree) (tree .reads) (tree .stands) (tree .beyond) (judged .ensures .1) _ (judged .ensures .0) (c .enum-told .given .1)
 
 same-length-3 : tie.Need-same-length-3
 same-length-3 c = search needs
@@ -63,7 +65,8 @@ returns-3 c =
     let start = c .before .before .before .before .before .before .before .before .before .before .before .before .before .before .before .before in
     let read = c .before .before .before .before .before .before .before .before .before .before .before .before .read-image in
     let tree = tree-read _ _ _ _ (read .ensures) _ _ (start .pre) (c .before .before .before .before .before .before .before .before .shape .given .1) in
-    (fault-refused _ _ _ (tree .tree) (tree .reads) (tree .stands) _ (c .before .before .before .before .before .root .ensures .0) _ _ (c .before .verdict2 .given .1), beyond-then (tree .beyond) (beyond-kept (c .before .before .before .before .before .root .ensures .1)))
+    let judged = c .before .before .before .before .before .root in
+    fault-refused _ _ _ _ _ (tree .tree) (tree .reads) (tree .stands) (tree .beyond) (judged .ensures .1) _ (judged .ensures .0) _ _ (c .before .verdict2 .given .1)
 
 same-length-4 : tie.Need-same-length-4
 same-length-4 c = search needs

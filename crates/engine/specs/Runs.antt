@@ -1,0 +1,101 @@
+-- What a run answers, by the definitions of the rules: for each case the paper's number and values. Assumes nothing.
+use Prim.Native.Nat.{ℕ, _≤_}
+use mathlib.Core.Path.{_≡_}
+use mathlib.Core.List.{List, [], _∷_}
+use lib.ListN.{length}
+use Rattle.rules.specs.Refusals.{Reason, reason-number, refusal-number}
+use Rattle.rules.specs.Listing.{truth-word}
+use Rattle.rules.specs.Tree.{Root}
+use Rattle.rules.specs.States.{Value, integer, truth, location, Environment, Store, val, Item, State, store-of}
+use Rattle.rules.specs.Run.{Ending, ended, stopped, lost, run}
+use Rattle.rules.specs.Engine.{Outcome, number, truth-of, cell, nothing, Answer, outcome, refused, Reply, registers-from, Called, finish, start}
+use Rattle.integers.specs.Words.{word-of, integers-of, words-of}
+use Rattle.automaton.specs.Steps.{Stands, Holds}
+use Rattle.automaton.specs.declared.machine.Machine.{Machine}
+use Rattle.automaton.specs.declared.Ending as Endings
+use Rattle.automaton.specs.declared.Ending.the-variants.{Ended, Stopped}
+use Rattle.engine.specs.Answers.{Beyond}
+use Rattle.engine.specs.declared.Ran.{Ran}
+use Rattle.engine.specs.declared.Ran.the-variants.{Number, Truth, Location, Nothing, Refused}
+use Rattle.engine.specs.declared.RunReply.{RunReply}
+
+-- The value that is left, or none, with the steps; or the refusal's number with its place and the steps made.
+abbrev pub ran : Answer → (steps : ℕ) → Ran
+ran (outcome (number z)) k = Number (word-of z) k
+ran (outcome (truth-of b)) k = Truth (truth-word b) k
+ran (outcome (cell l)) k = Location l k
+ran (outcome nothing) k = Nothing k
+ran (refused x p) k = Refused (refusal-number x) p k
+
+abbrev pub run-reply : Reply → Ran
+run-reply r = ran (r .answer) (r .steps)
+
+-- The same in five numbers: the refusal, 0 where the run ends; the kind of the outcome, 1 for a number, 2 for a truth, 3 for a cell and
+-- 0 for none; its value; the place; and the steps.
+abbrev pub run-refusal : Answer → ℕ
+run-refusal (outcome o) = 0
+run-refusal (refused x p) = refusal-number x
+
+abbrev pub run-outcome : Answer → ℕ
+run-outcome (outcome (number z)) = 1
+run-outcome (outcome (truth-of b)) = 2
+run-outcome (outcome (cell l)) = 3
+run-outcome (outcome nothing) = 0
+run-outcome (refused x p) = 0
+
+abbrev pub run-value : Answer → ℕ
+run-value (outcome (number z)) = word-of z
+run-value (outcome (truth-of b)) = truth-word b
+run-value (outcome (cell l)) = l
+run-value (outcome nothing) = 0
+run-value (refused x p) = 0
+
+abbrev pub run-place : Answer → ℕ
+run-place (outcome o) = 0
+run-place (refused x p) = p
+
+pub record RunReplies (r : Reply) (reply : RunReply) : Type 0 where
+  pub refusal-is : reply .refusal ≡ run-refusal (r .answer)
+  pub outcome-is : reply .outcome ≡ run-outcome (r .answer)
+  pub value-is : reply .value ≡ run-value (r .answer)
+  pub place-is : reply .place ≡ run-place (r .answer)
+  pub steps-are : reply .steps ≡ r .steps
+
+-- The run of a tree that stands in the work words: how it ends, the registers it leaves, and the machine's last state.
+pub record ExecutedEnd (wanted : Machine → Endings.Ending) (σ : State) (count : ℕ) (answer : Endings.Ending) (registers before after : List ℕ) : Type 0 where
+  pub machine : Machine
+  pub answer-is : answer ≡ wanted machine
+  pub holds : Holds after machine σ
+  pub registers-are : registers ≡ words-of (registers-from 0 count (store-of σ))
+  pub beyond : Beyond before after
+
+abbrev pub ExecuteAnswer : Ending → (count : ℕ) → Endings.Ending → (registers before after : List ℕ) → Type 0
+ExecuteAnswer (ended k σ) count answer registers before after = ExecutedEnd (λ m. Ended k m) σ count answer registers before after
+ExecuteAnswer (stopped x k σ) count answer registers before after = ExecutedEnd (λ m. Stopped (reason-number x) k m) σ count answer registers before after
+ExecuteAnswer (lost k σ) count answer registers before after = ⊥
+
+-- A call's reply and registers, with the words from 8,192 on as they were.
+pub record Performed (c : Called) (r : Ran) (registers before after : List ℕ) : Type 0 where
+  pub reply-is : r ≡ run-reply (c .reply)
+  pub registers-are : registers ≡ words-of (c .registers)
+  pub beyond : Beyond before after
+
+-- The run of a tree that the checker passed: `perform` of the rules.
+abbrev pub RunOf : (registers : List ℕ) → Root → (budget : ℕ) → Called
+RunOf registers t budget = finish (length registers) [] (run budget 0 (start (length registers) t (integers-of registers)))
+
+-- A value of this code: 0 an integer, 1 a truth, 2 and more a location.
+abbrev pub KindOf : Value → ℕ → Type 0
+KindOf (integer z) c = c ≡ 0
+KindOf (truth b) c = c ≡ 1
+KindOf (location l) c = 2 ≤ c
+
+-- A value of this code is left alone on the value stack.
+pub record LeftAs (words : List ℕ) (m : Machine) (code : ℕ) (v : Value) : Type 0 where
+  pub control : List Item
+  pub environment : Environment
+  pub store : Store
+  pub locations : List ℕ
+  pub bindings : ℕ
+  pub stands : Stands words m control (val v ∷ []) environment store locations bindings
+  pub kind-is : KindOf v code
