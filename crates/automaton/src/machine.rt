@@ -95,9 +95,9 @@ pub(crate) fn set_cell(work: &mut [u64], m: Machine, at: Location, label: u64, p
     requires { ⌜ at .0 < m .cells ⌝ }
     ensures { λ r. ⌜ regions (now (work .exit)) m ≡ with-cells (set-slot (at .0) (slot label payload) (regions (now (work .entry)) m .cells)) (regions (now (work .entry)) m) ⌝ }
 {
-    let cell = at.0;
-    work[4608 + cell] = payload;
-    work[4864 + cell] = label;
+    let place = at.0;
+    work[4608 + place] = payload;
+    work[4864 + place] = label;
 }
 
 // What a live cell holds: its label and its payload.

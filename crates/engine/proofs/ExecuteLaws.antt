@@ -1,39 +1,29 @@
 -- A run that starts from the registers ends as the rules' run does, and leaves in the registers what that leaves. Assumes nothing.
-use Prim.Native.Nat.{ℕ, zero, suc, _<_, _≤_}
+use Prim.Native.Nat.{ℕ, _<_, _≤_}
 use mathlib.Core.Path.{_≡_, refl, sym, ap, _∙_, subst}
-use mathlib.Core.List.{List, [], _∷_}
-use native.Mathlib.Omega.{arith}
-use lib.Dec.{T}
-use lib.IntN.{ℤ}
+use mathlib.Core.List.{List}
 use lib.ListN.{length, getD}
-use Rattle.rules.specs.Integers.{in-range}
 use Rattle.rules.specs.Tree.{Root}
 use Rattle.rules.specs.Checker.{Passed}
 use Rattle.rules.specs.States.{State, store-of}
 use Rattle.rules.specs.Run.{Ending, ended, stopped, lost, run}
 use Rattle.rules.specs.History.{History, first-history, Reach}
-use Rattle.rules.specs.Claim.{AllInRange}
 use Rattle.rules.specs.Ends.{EndsWell, normally, withheld-for, RegisterHolds}
 use Rattle.rules.specs.Continuation.{Invariant}
 use Rattle.rules.specs.WholeRun.{start-invariant}
 use Rattle.rules.specs.RunEnds.{run-ends, state-facts}
 use Rattle.rules.specs.Engine.{check-image, passed, start, registers-from}
 use Rattle.rules.specs.ImageExact.{check-exact}
-use Rattle.integers.specs.Words.{integer-of, integers-of, words-of}
-use Rattle.integers.specs.WordLaws.{integer-in-range, integers-length}
+use Rattle.integers.specs.Words.{integers-of, words-of}
+use Rattle.integers.specs.WordLaws.{integers-length}
 use Rattle.automaton.specs.Steps.{Holds, Untouched}
 use Rattle.automaton.specs.Runs.{RunAnswer}
 use Rattle.automaton.specs.Starts.{RootStands, StartsAt}
 use Rattle.automaton.specs.declared.machine.Machine.{Machine}
 use Rattle.automaton.specs.declared.Ending as Endings
 use Rattle.engine.specs.Answers.{Beyond}
+use Rattle.engine.specs.Delivered.{all-in-range}
 use Rattle.engine.specs.Runs.{ExecuteAnswer}
-
--- Each starting value is an integer of the range.
-pub in-range-all : (ws : List ℕ) → ((i : ℕ) → i < length ws → getD ws i 0 < 18446744073709551616) → AllInRange (integers-of ws)
-unfolding integers-of
-in-range-all [] low = tt
-in-range-all (w ∷ ws) low = (integer-in-range w (low 0 (omega arith)), in-range-all ws (λ i h. low (suc i) (omega (arith, h))))
 
 pub few-registers : (image registers : List ℕ) (t : Root) (a : Passed) → check-image image ≡ passed (length registers) t a → length registers ≤ 16
 few-registers image registers t a passes = check-exact image (length registers) t a .0 passes .shape .registers
@@ -42,14 +32,14 @@ module _ (image registers : List ℕ) (t : Root) (a : Passed) (passes : check-im
     (low : (i : ℕ) → i < length registers → getD registers i 0 < 18446744073709551616) where
   pub starts-sound : Invariant a (length registers) (start (length registers) t (integers-of registers)) (first-history (length registers))
   starts-sound =
-      start-invariant image (length registers) t a (check-exact image (length registers) t a .0 passes) (integers-of registers) (in-range-all registers low)
+      start-invariant image (length registers) t a (check-exact image (length registers) t a .0 passes) (integers-of registers) (all-in-range registers low)
 
   registers-hold : (budget steps : ℕ) (σ : State) (h : History) → Reach budget (start (length registers) t (integers-of registers)) (length registers) steps σ h → (i : ℕ) → i < length registers → RegisterHolds (store-of σ) i
   registers-hold budget steps σ h reached =
-      state-facts image (length registers) t a passes (integers-of registers) (integers-length registers) (in-range-all registers low) budget steps σ h reached .registers-hold
+      state-facts image (length registers) t a passes (integers-of registers) (integers-length registers) (all-in-range registers low) budget steps σ h reached .registers-hold
 
   pub ends-well : (budget : ℕ) → EndsWell budget (start (length registers) t (integers-of registers)) (length registers) a (run budget 0 (start (length registers) t (integers-of registers)))
-  ends-well budget = run-ends image (length registers) t a passes (integers-of registers) (integers-length registers) (in-range-all registers low) budget
+  ends-well budget = run-ends image (length registers) t a passes (integers-of registers) (integers-length registers) (all-in-range registers low) budget
 
   beyond-both : {before middle after : List ℕ} → Untouched before middle → Untouched middle after → Beyond before after
   beyond-both u v = record { same-length = v .same-length ∙ u .same-length; same-beyond = v .same-beyond ∙ u .same-beyond }

@@ -1,3 +1,4 @@
 pub mod Answers
+pub mod Delivered
 pub mod Examined
 pub mod Runs
