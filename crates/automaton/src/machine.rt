@@ -1,4 +1,12 @@
 // The machine: its scalars, and the stacks, rows and cells that it keeps in the lent work words.
+//
+//     0 to 1,999      the tree, one word a node, as the reader left it
+//     2,048 on        control, one word an entry
+//     2,560 on        the value stack's payloads, and from 3,072 on their labels
+//     3,584 on        the links of the rows, one a live binding, and from 4,096 on their payloads
+//     4,608 on        the cells' payloads, and from 4,864 on their labels
+//
+// The top of a stack of height h stands at h - 1, so the word before a region plus the height is its top. Regions.antt has the same.
 ghost use mathlib.Core.Path.{_≡_};
 ghost use mathlib.Core.Option.{some};
 ghost use mathlib.Core.List.{List, _∷_};
