@@ -55,10 +55,9 @@
  * - The registers are kept by refusals 1 to 22. Refusals 30 to 36 leave them as before the withheld
  *   step; a run that ends leaves what its last step left.
  * - No memory is used but the lent words and the stack. The stack is bounded for every image: a check
- *   takes under 24 KB (see README.md). A run takes no more than its check and a few hundred bytes.
+ *   takes under 24 KB (see README.md), and so does a run (tests/host measures both).
  * - Nothing is kept between calls, so calls on different buffers may run at once.
- * - Every call ends: a check after one pass over the nodes and the names they look up, a run after at
- *   most its budget of steps.
+ * - Every call ends: a run makes at most its budget of steps, and the rest goes by the nodes.
  */
 #ifndef PI_ENGINE_H
 #define PI_ENGINE_H
@@ -72,10 +71,10 @@ extern "C" {
 
 /* The work words of 64 bits that a call needs. */
 #define PI_WORK_WORDS 8192
-/* The most nodes and the most registers of an image. Each has at least 1 and 0. */
+/* An image has 1 to 2,000 nodes and 0 to 16 registers. */
 #define PI_MOST_NODES 2000
 #define PI_MOST_REGISTERS 16
-/* The root has depth 1. */
+/* The greatest depth of a node; the root has depth 1. */
 #define PI_MOST_DEPTH 64
 /* The greatest budget of steps. */
 #define PI_MOST_BUDGET 1000000

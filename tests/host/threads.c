@@ -74,6 +74,8 @@ static void test_calls_at_once(void)
 
 /* The stack that is lent to a thread, full of one byte, so that what was used shows. */
 #define STACK_BYTES (256 * 1024)
+/* What a call may take of it: the header's 24 KB. */
+#define MOST_STACK 24000
 #define UNUSED 0xa5
 
 static union {
@@ -96,10 +98,10 @@ static void *call_check_alone(void *argument)
     return argument;
 }
 
+static int64_t registers[PI_MOST_REGISTERS];
+
 static void *call_run_alone(void *argument)
 {
-    int64_t registers[PI_MOST_REGISTERS] = {0};
-
     pi_run(image, image_length, registers, image[1], PI_MOST_BUDGET, work, PI_WORK_WORDS);
     return argument;
 }
@@ -206,10 +208,8 @@ static void test_stack(void)
         check = most(check, used_by(call_check_alone) - nothing);
         run = most(run, used_by(call_run_alone) - nothing);
     }
-    if (check >= 24 * 1024)
-        test_fault("a check takes %lu bytes", (unsigned long)check);
-    if (run >= 25 * 1024)
-        test_fault("a run takes %lu bytes", (unsigned long)run);
+    if (check >= MOST_STACK || run >= MOST_STACK)
+        test_fault("a call takes more than %d bytes", MOST_STACK);
     test_end_with("check takes %lu bytes and run %lu", (unsigned long)check, (unsigned long)run);
 }
 
