@@ -75,7 +75,7 @@ static void test_calls_at_once(void)
 /* The stack that is lent to a thread, full of one byte, so that what was used shows. */
 #define STACK_BYTES (256 * 1024)
 /* What a call may take of it: the header's 24 KB. */
-#define MOST_STACK 24000
+#define MOST_STACK (24 * 1024)
 #define UNUSED 0xa5
 
 static union {
@@ -87,42 +87,83 @@ static uint32_t image[IMAGE_ROOM];
 static size_t image_length;
 static uint64_t work[PI_WORK_WORDS];
 
-static void *call_nothing(void *argument)
-{
-    return argument;
-}
-
-static void *call_check_alone(void *argument)
-{
-    pi_check(image, image_length, work, PI_WORK_WORDS);
-    return argument;
-}
-
 static int64_t registers[PI_MOST_REGISTERS];
 
-static void *call_run_alone(void *argument)
+static void check_words(void)
 {
-    pi_run(image, image_length, registers, image[1], PI_MOST_BUDGET, work, PI_WORK_WORDS);
-    return argument;
+    pi_check(image, image_length, work, PI_WORK_WORDS);
 }
 
-/* The bytes of its stack that a thread used. */
-static size_t used_by(void *(*what)(void *))
+static void run_words(void)
+{
+    pi_run(image, image_length, registers, image[1], PI_MOST_BUDGET, work, PI_WORK_WORDS);
+}
+
+#ifdef PI_BYTES
+static uint8_t bytes[4 * IMAGE_ROOM];
+
+static void fill_bytes(void)
+{
+    size_t index;
+
+    for (index = 0; index < 4 * image_length; index += 1)
+        bytes[index] = (uint8_t)(image[index / 4] >> (index % 4 * 8));
+}
+
+static void check_bytes(void)
+{
+    fill_bytes();
+    pi_check_bytes(bytes, 4 * image_length, work, PI_WORK_WORDS);
+}
+
+static void run_bytes(void)
+{
+    static uint8_t values[8 * PI_MOST_REGISTERS];
+
+    fill_bytes();
+    pi_run_bytes(bytes, 4 * image_length, values, 8 * (size_t)image[1], PI_MOST_BUDGET, work,
+                 PI_WORK_WORDS);
+}
+#endif
+
+/* A call, and where the stack stood when its thread made it. */
+typedef struct Measured {
+    void (*call)(void);
+    const unsigned char *stood;
+} Measured;
+
+static void *measure(void *argument)
+{
+    volatile unsigned char here = 0;
+    Measured *measured = argument;
+
+    measured->stood = (const unsigned char *)&here;
+    measured->call();
+    return NULL;
+}
+
+/* The bytes of the stack that a call takes: from where it stood down to the last that was written. */
+static size_t used_by(void (*call)(void))
 {
     pthread_attr_t attributes;
     pthread_t thread;
-    size_t unused = 0;
+    Measured measured;
+    const unsigned char *lowest = stack.bytes;
 
+    measured.call = call;
+    measured.stood = NULL;
     memset(stack.bytes, UNUSED, STACK_BYTES);
     if (pthread_attr_init(&attributes) != 0)
-        return 0;
+        return STACK_BYTES;
     if (pthread_attr_setstack(&attributes, stack.bytes, STACK_BYTES) == 0 &&
-        pthread_create(&thread, &attributes, what, NULL) == 0)
+        pthread_create(&thread, &attributes, measure, &measured) == 0)
         pthread_join(thread, NULL);
     pthread_attr_destroy(&attributes);
-    while (unused < STACK_BYTES && stack.bytes[unused] == UNUSED)
-        unused += 1;
-    return STACK_BYTES - unused;
+    if (measured.stood == NULL)
+        return STACK_BYTES;
+    while (*lowest == UNUSED)
+        lowest += 1;
+    return (size_t)(measured.stood - lowest);
 }
 
 static size_t most(size_t one, size_t other)
@@ -193,20 +234,22 @@ static void test_stack(void)
         deep_commands, deep_functions, deep_declarations, deep_expressions,
     };
     static Tree tree;
-    size_t nothing = used_by(call_nothing);
     size_t check = 0;
     size_t run = 0;
     size_t index;
 
     test_begin("stack");
-    nothing = most(nothing, used_by(call_nothing));
     for (index = 0; index < sizeof shapes / sizeof shapes[0]; index += 1) {
         shapes[index](&tree);
         image_length = tree_image(&tree, image);
         if (pi_check(image, image_length, work, PI_WORK_WORDS).refusal != PI_REFUSAL_NONE)
             test_fault("shape %lu does not pass", (unsigned long)index);
-        check = most(check, used_by(call_check_alone) - nothing);
-        run = most(run, used_by(call_run_alone) - nothing);
+        check = most(check, used_by(check_words));
+        run = most(run, used_by(run_words));
+#ifdef PI_BYTES
+        check = most(check, used_by(check_bytes));
+        run = most(run, used_by(run_bytes));
+#endif
     }
     if (check >= MOST_STACK || run >= MOST_STACK)
         test_fault("a call takes more than %d bytes", MOST_STACK);
