@@ -56,7 +56,7 @@ host_run() { # NAME COMMAND..
 # no memory is taken, and nothing is kept between calls.
 needs_little() {
     local needed
-    needed=$(nm "$archive" | awk '$(NF - 1) == "T" { own[$NF] } $(NF - 1) == "U" { asked[$NF] }
+    needed=$(nm "$archive" | awk 'NF > 1 { if ($(NF - 1) == "T") own[$NF]; if ($(NF - 1) == "U") asked[$NF] }
         END { for (name in asked) if (!(name in own)) print name }' |
         grep -vxE 'memcpy|memmove|memset|memcmp|bcmp')
     [ -z "$needed" ] || { printf 'it needs %s\n' "$needed"; return 1; }
