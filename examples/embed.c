@@ -1,0 +1,35 @@
+#include <inttypes.h>
+#include <stdio.h>
+#include "pi_engine.h"
+
+// 5 x (3 + 2): 5 nodes, 0 registers, the kinds in preorder, their operands.
+static const uint32_t image[] = {
+    5, 0,
+    PI_KIND_MUL, PI_KIND_NUM, PI_KIND_SUM, PI_KIND_NUM, PI_KIND_NUM,
+    0, 5, 0, 3, 2
+};
+static const size_t image_length = sizeof image / sizeof image[0];
+
+// Lent to each call; 64 KB are better not on the stack.
+static uint64_t work[PI_WORK_WORDS];
+
+int main(void)
+{
+    CheckReply checked = pi_check(image, image_length, work, PI_WORK_WORDS);
+    if (checked.refusal != PI_REFUSAL_NONE) {
+        printf("refused %" PRIu64 " at %" PRIu64 "\n", checked.refusal, checked.place);
+        return 1;
+    }
+
+    // This routine has no registers, so none are handed over.
+    RunReply ran = pi_run(image, image_length, NULL, 0, PI_MOST_BUDGET, work, PI_WORK_WORDS);
+    if (ran.refusal != PI_REFUSAL_NONE) {
+        printf("refused %" PRIu64 " at %" PRIu64 "\n", ran.refusal, ran.place);
+        return 1;
+    }
+    if (ran.outcome == PI_OUTCOME_NUMBER) {
+        printf("number %" PRId64 "\n", ran.value);
+    }
+    printf("steps %" PRIu64 "\n", ran.steps);
+    return 0;
+}

@@ -1,0 +1,246 @@
+/*
+ * The Π IR routine engine, for a C host: checks the image of a routine and runs it over the site's
+ * registers. Link the static library; it needs no library but the C library's memory functions.
+ *
+ * A complete program (examples/embed.c):
+ *
+ *     #include <inttypes.h>
+ *     #include <stdio.h>
+ *     #include "pi_engine.h"
+ *
+ *     // 5 x (3 + 2): 5 nodes, 0 registers, the kinds in preorder, their operands.
+ *     static const uint32_t image[] = {
+ *         5, 0,
+ *         PI_KIND_MUL, PI_KIND_NUM, PI_KIND_SUM, PI_KIND_NUM, PI_KIND_NUM,
+ *         0, 5, 0, 3, 2
+ *     };
+ *     static const size_t image_length = sizeof image / sizeof image[0];
+ *
+ *     // Lent to each call; 64 KB are better not on the stack.
+ *     static uint64_t work[PI_WORK_WORDS];
+ *
+ *     int main(void)
+ *     {
+ *         CheckReply checked = pi_check(image, image_length, work, PI_WORK_WORDS);
+ *         if (checked.refusal != PI_REFUSAL_NONE) {
+ *             printf("refused %" PRIu64 " at %" PRIu64 "\n", checked.refusal, checked.place);
+ *             return 1;
+ *         }
+ *
+ *         // This routine has no registers, so none are handed over.
+ *         RunReply ran = pi_run(image, image_length, NULL, 0, PI_MOST_BUDGET, work, PI_WORK_WORDS);
+ *         if (ran.refusal != PI_REFUSAL_NONE) {
+ *             printf("refused %" PRIu64 " at %" PRIu64 "\n", ran.refusal, ran.place);
+ *             return 1;
+ *         }
+ *         if (ran.outcome == PI_OUTCOME_NUMBER) {
+ *             printf("number %" PRId64 "\n", ran.value);
+ *         }
+ *         printf("steps %" PRIu64 "\n", ran.steps);
+ *         return 0;
+ *     }
+ *
+ * It prints `number 25` and `steps 7`. A run checks the image itself, so a host calls pi_check only
+ * to know beforehand whether an image passes.
+ *
+ * What holds of every call:
+ *
+ * - Any contents and any lengths are allowed; what is wrong with them is answered as a refusal.
+ * - A pointer is good for as many elements as its length says and aligned as its type demands; where
+ *   the length is 0 it may be NULL. The buffers of a call do not overlap.
+ * - The image is only read.
+ * - Refusals 22 and 21 touch nothing. Every other call leaves the first 8,192 work words 0 and the
+ *   rest untouched, whatever they held before.
+ * - The answer does not hang on what the work words held.
+ * - The registers are kept by refusals 1 to 22. Refusals 30 to 36 leave them as before the withheld
+ *   step; a run that ends leaves what its last step left.
+ * - No memory is used but the lent words and the stack. The stack is bounded for every image: a check
+ *   takes under 24 KB (see README.md), and so does a run (tests/host measures both).
+ * - Nothing is kept between calls, so calls on different buffers may run at once.
+ * - Every call ends: a run makes at most its budget of steps, and the rest goes by the nodes.
+ */
+#ifndef PI_ENGINE_H
+#define PI_ENGINE_H
+
+#include <stddef.h>
+#include <stdint.h>
+
+#ifdef __cplusplus
+extern "C" {
+#endif
+
+/* The work words of 64 bits that a call needs. */
+#define PI_WORK_WORDS 8192
+/* An image has 1 to 2,000 nodes and 0 to 16 registers. */
+#define PI_MOST_NODES 2000
+#define PI_MOST_REGISTERS 16
+/* The greatest depth of a node; the root has depth 1. */
+#define PI_MOST_DEPTH 64
+/* The greatest budget of steps. */
+#define PI_MOST_BUDGET 1000000
+/* The most live cells (the registers are cells), live bindings, and entries on either stack. */
+#define PI_MOST_CELLS 256
+#define PI_MOST_BINDINGS 512
+#define PI_MOST_VALUES 512
+#define PI_MOST_CONTROL 512
+/* The most actuals of a Call and Formals of an Abs. */
+#define PI_MOST_COUNT 8
+/* Names are 0 to 63. Names 0 to r - 1 are the registers. */
+#define PI_NAMES 64
+
+/*
+ * The image: n, the count of nodes; r, the count of registers; the n kinds; the n operands. The nodes
+ * stand in preorder: a node, then its children with all below them, left to right.
+ */
+#define PI_IMAGE_WORDS(nodes) (2 + 2 * (size_t)(nodes))
+#define PI_IMAGE_BYTES(nodes) (8 + 8 * (size_t)(nodes))
+
+/* The kinds of nodes: children; operand. Where no operand is named it is 0. */
+enum {
+    /* Expressions. */
+    PI_KIND_NUM = 1,     /* none; the number, any 32-bit word */
+    PI_KIND_BOO = 2,     /* none; 0 false, 1 true */
+    PI_KIND_ID = 3,      /* none; name: its value, or the contents of its cell */
+    PI_KIND_SUM = 4,     /* two expressions; 4 to 14 alike */
+    PI_KIND_SUB = 5,     /* first minus second */
+    PI_KIND_MUL = 6,
+    PI_KIND_DIV = 7,     /* first by second, the fraction dropped toward zero */
+    PI_KIND_EQ = 8,
+    PI_KIND_LT = 9,
+    PI_KIND_LE = 10,
+    PI_KIND_GT = 11,
+    PI_KIND_GE = 12,
+    PI_KIND_AND = 13,    /* both sides run */
+    PI_KIND_OR = 14,
+    PI_KIND_NOT = 15,    /* expression */
+    PI_KIND_DEREF = 16,  /* none; name: the location of its cell */
+    PI_KIND_VALREF = 17, /* none; name: the contents of the cell that its cell shows */
+    /* Commands. */
+    PI_KIND_ASSIGN = 20, /* expression; name */
+    PI_KIND_LOOP = 21,   /* expression, command */
+    PI_KIND_CSEQ = 22,   /* two commands */
+    PI_KIND_BLK = 23,    /* declaration, command */
+    PI_KIND_CALL = 24,   /* count expressions; PI_OPERAND(name, count) */
+    /* Declarations. */
+    PI_KIND_BIND = 30,   /* expression, Ref or Abs; name */
+    PI_KIND_DSEQ = 31,   /* two declarations, which do not see each other */
+    /* Below a Bind, and below an Abs. */
+    PI_KIND_REF = 40,    /* expression */
+    PI_KIND_ABS = 41,    /* count Formals, then a Blk; count */
+    PI_KIND_FORMAL = 42  /* none; PI_OPERAND(name, type code) */
+};
+
+/* The operand of a Call, name and count, and of a Formal, name and type code. */
+#define PI_OPERAND(name, above) ((uint32_t)(name) + 64 * (uint32_t)(above))
+
+/*
+ * A type code is base + 2 x level: level 0 is a plain value, each level above a location of the level
+ * below, up to level 3. A check answers the root's code, or PI_CODE_COMMAND where it is a command.
+ */
+enum {
+    PI_CODE_INTEGER = 0,
+    PI_CODE_TRUTH = 1,
+    PI_CODE_INTEGER_CELL = 2, /* a register's */
+    PI_CODE_TRUTH_CELL = 3,
+    PI_CODE_COMMAND = 8
+};
+
+/*
+ * Why a call is refused. The place is a node's number in preorder, the root's is 0; where none is
+ * named the place is 0.
+ */
+enum {
+    PI_REFUSAL_NONE = 0,
+
+    /* Caused by the maker of the image. */
+    PI_REFUSAL_LENGTH = 1,  /* fewer than 2 words, or a length other than 2 + 2n */
+    PI_REFUSAL_COUNTS = 2,  /* n is not 1 to 2,000, or r is not 0 to 16 */
+    PI_REFUSAL_KIND = 3,    /* no such kind; place: the node */
+    PI_REFUSAL_OPERAND = 4, /* an operand that its kind does not take; place: the node */
+    PI_REFUSAL_TREE = 5,    /* no such child or root may stand there, place: the node; or a node is
+                               missing, place: n; or nodes are left over, place: the first of them */
+    PI_REFUSAL_DEPTH = 6,   /* depth 65; place: the node */
+
+    /* Caused by the routine's author; place: the node judged. */
+    PI_REFUSAL_UNBOUND = 10,        /* a name that has no binding */
+    PI_REFUSAL_TYPE = 11,           /* a type that the node does not take */
+    PI_REFUSAL_REPEATED = 12,       /* a name on both sides of a DSeq, or a repeated Formal */
+    PI_REFUSAL_NOT_ASSIGNABLE = 13, /* a name that no Assign may set */
+    PI_REFUSAL_CALL = 14,           /* no function, or one with another count of Formals */
+
+    /* Caused by the host. */
+    PI_REFUSAL_REGISTERS = 20, /* not as many registers as r */
+    PI_REFUSAL_BUDGET = 21,    /* a budget above 1,000,000; nothing is touched */
+    PI_REFUSAL_WORK = 22,      /* fewer than 8,192 work words; nothing is touched */
+
+    /* Caused by the run; the reply has the steps that were made before the withheld one. */
+    PI_REFUSAL_STEPS = 30,        /* the steps made equal the budget and the routine has not ended */
+    PI_REFUSAL_ZERO_DIVISOR = 31, /* a Div by zero */
+    PI_REFUSAL_OUT_OF_RANGE = 32, /* a result outside -2^63 to 2^63 - 1 */
+    PI_REFUSAL_CELLS = 33,        /* a 257th live cell */
+    PI_REFUSAL_BINDINGS = 34,     /* a 513th live binding */
+    PI_REFUSAL_VALUES = 35,       /* a 513th entry on the value stack */
+    PI_REFUSAL_CONTROL = 36       /* a 513th entry on the control stack */
+};
+
+/* What a run that ends leaves. */
+enum {
+    PI_OUTCOME_NONE = 0,   /* nothing: the root is a command */
+    PI_OUTCOME_NUMBER = 1, /* a number */
+    PI_OUTCOME_TRUTH = 2,  /* a truth, 0 or 1 */
+    PI_OUTCOME_CELL = 3    /* a location: the number of its cell, a register's own number */
+};
+
+/* What a check answers: three 64-bit words. */
+typedef struct CheckReply {
+    uint64_t refusal; /* PI_REFUSAL_NONE where the image passes */
+    uint64_t value;   /* where it passes: the root's type code or PI_CODE_COMMAND; else 0 */
+    uint64_t place;   /* the refusal's place; 0 where the image passes */
+} CheckReply;
+
+/* What a run answers: five 64-bit words. */
+typedef struct RunReply {
+    uint64_t refusal; /* PI_REFUSAL_NONE where the run ends */
+    uint64_t outcome; /* PI_OUTCOME_ and what is left; PI_OUTCOME_NONE where it is refused */
+    int64_t value;    /* the number, the truth or the cell's number; else 0 */
+    uint64_t place;   /* the refusal's place; 0 where the run ends */
+    uint64_t steps;   /* the steps made; 0 for refusals 1 to 22 */
+} RunReply;
+
+/*
+ * Checks an image of so many 32-bit words. Tested in this order: the work words (22), the image (1 to
+ * 14). Answers PI_REFUSAL_NONE exactly when the image meets the rules of shape, scope and types.
+ */
+CheckReply pi_check(const uint32_t *image, size_t image_length,
+                    uint64_t *work, size_t work_length);
+
+/*
+ * Checks an image and runs it with the registers' values, of at most `budget` steps. The registers
+ * are changed in place. Tested in this order: the work words (22), the budget (21), the image (1 to
+ * 14), the count of registers (20); then the steps are made (30 to 36).
+ */
+RunReply pi_run(const uint32_t *image, size_t image_length,
+                int64_t *registers, size_t registers_length,
+                uint64_t budget,
+                uint64_t *work, size_t work_length);
+
+/*
+ * The same on bytes as they are stored and sent, on any machine; the lengths of image and registers
+ * count bytes, and bytes need no alignment. The image is its 32-bit words, least byte first: fewer
+ * than 8 bytes are refusal 1; then n or r is 2; then a length other than 8 + 8n is 1. A register is 8
+ * bytes in two's complement, least byte first, changed in place; a length other than 8r is 20. All
+ * else is as above, and the work words are words as above.
+ */
+CheckReply pi_check_bytes(const uint8_t *image, size_t image_length,
+                          uint64_t *work, size_t work_length);
+
+RunReply pi_run_bytes(const uint8_t *image, size_t image_length,
+                      uint8_t *registers, size_t registers_length,
+                      uint64_t budget,
+                      uint64_t *work, size_t work_length);
+
+#ifdef __cplusplus
+}
+#endif
+
+#endif

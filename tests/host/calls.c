@@ -1,0 +1,272 @@
+#include "calls.h"
+
+#include "buffers.h"
+#include "report.h"
+
+#include <inttypes.h>
+#include <string.h>
+
+#define WORK_BYTES (PI_WORK_WORDS * sizeof(uint64_t))
+
+int before_the_run(uint64_t refusal)
+{
+    return refusal >= PI_REFUSAL_LENGTH && refusal <= PI_REFUSAL_WORK;
+}
+
+static int touches_nothing(uint64_t refusal)
+{
+    return refusal == PI_REFUSAL_BUDGET || refusal == PI_REFUSAL_WORK;
+}
+
+Buffer lend_work(size_t work_length, uint64_t budget)
+{
+    size_t bytes = work_length * sizeof(uint64_t);
+
+    /* Where nothing may be touched every word is looked at, so every word is set. */
+    if (work_length < PI_WORK_WORDS || budget > PI_MOST_BUDGET)
+        return buffer_of_junk(bytes);
+    return buffer_unset(bytes, WORK_BYTES);
+}
+
+void work_settled(const Buffer *work, uint64_t refusal)
+{
+    if (touches_nothing(refusal)) {
+        buffer_kept(work, "work words", 0);
+    } else {
+        buffer_kept(work, "work words", WORK_BYTES);
+        buffer_cleared(work, "work words", WORK_BYTES);
+    }
+}
+
+void registers_settled(const Buffer *registers, uint64_t refusal)
+{
+    buffer_kept(registers, "registers", before_the_run(refusal) ? 0 : registers->bytes);
+}
+
+static int is_refusal(uint64_t refusal)
+{
+    return (refusal >= PI_REFUSAL_LENGTH && refusal <= PI_REFUSAL_DEPTH) ||
+           (refusal >= PI_REFUSAL_UNBOUND && refusal <= PI_REFUSAL_CALL) ||
+           (refusal >= PI_REFUSAL_REGISTERS && refusal <= PI_REFUSAL_WORK) ||
+           (refusal >= PI_REFUSAL_STEPS && refusal <= PI_REFUSAL_CONTROL);
+}
+
+/* The places that a refusal may have are below this. */
+static uint64_t places(uint64_t refusal, const Call *call)
+{
+    if (refusal == PI_REFUSAL_TREE)
+        return (uint64_t)call->image[0] + 1;
+    if (refusal >= PI_REFUSAL_KIND && refusal <= PI_REFUSAL_CALL)
+        return call->image[0];
+    return 1;
+}
+
+static void check_makes_sense(const CheckReply *reply, const Call *call)
+{
+    if (reply->refusal == PI_REFUSAL_NONE) {
+        if (reply->value > PI_CODE_COMMAND || reply->place != 0)
+            test_fault("check passes with value %" PRIu64 " and place %" PRIu64, reply->value,
+                       reply->place);
+    } else if (!is_refusal(reply->refusal) || reply->value != 0 ||
+               (reply->refusal > PI_REFUSAL_CALL && reply->refusal != PI_REFUSAL_WORK) ||
+               reply->place >= places(reply->refusal, call)) {
+        test_fault("check refuses with %" PRIu64 " at %" PRIu64 " and value %" PRIu64,
+                   reply->refusal, reply->place, reply->value);
+    }
+}
+
+static int value_fits(const RunReply *reply)
+{
+    switch (reply->outcome) {
+    case PI_OUTCOME_NONE:
+        return reply->value == 0;
+    case PI_OUTCOME_NUMBER:
+        return 1;
+    case PI_OUTCOME_TRUTH:
+        return reply->value == 0 || reply->value == 1;
+    case PI_OUTCOME_CELL:
+        return reply->value >= 0 && reply->value < PI_MOST_CELLS;
+    default:
+        return 0;
+    }
+}
+
+static int steps_fit(const RunReply *reply, uint64_t budget)
+{
+    if (reply->refusal == PI_REFUSAL_NONE)
+        return reply->steps >= 1 && reply->steps <= budget;
+    if (before_the_run(reply->refusal))
+        return reply->steps == 0;
+    if (reply->refusal == PI_REFUSAL_STEPS)
+        return reply->steps == budget;
+    return reply->steps < budget;
+}
+
+static void run_makes_sense(const RunReply *reply, const Call *call)
+{
+    int fits = steps_fit(reply, call->budget);
+
+    if (reply->refusal == PI_REFUSAL_NONE)
+        fits = fits && reply->place == 0 && value_fits(reply);
+    else
+        fits = fits && is_refusal(reply->refusal) && reply->outcome == PI_OUTCOME_NONE &&
+               reply->value == 0 && reply->place < places(reply->refusal, call);
+    if (!fits)
+        test_fault("run answers refusal %" PRIu64 " at %" PRIu64 ", outcome %" PRIu64
+                   ", value %" PRId64 ", steps %" PRIu64,
+                   reply->refusal, reply->place, reply->outcome, reply->value, reply->steps);
+}
+
+CheckReply call_check(const Call *call)
+{
+    Buffer image = buffer_holding(call->image, call->image_length * sizeof(uint32_t), 0);
+    Buffer work = lend_work(call->work_length, 0);
+    CheckReply reply = pi_check((const uint32_t *)(const void *)image.start, call->image_length,
+                                (uint64_t *)(void *)work.start, call->work_length);
+
+    buffer_kept(&image, "image", 0);
+    work_settled(&work, reply.refusal);
+    check_makes_sense(&reply, call);
+    buffer_free(&image);
+    buffer_free(&work);
+    return reply;
+}
+
+Ran call_run(const Call *call)
+{
+    Buffer image = buffer_holding(call->image, call->image_length * sizeof(uint32_t), 0);
+    Buffer registers = buffer_holding(call->starts, call->registers_length * sizeof(int64_t), 0);
+    Buffer work = lend_work(call->work_length, call->budget);
+    Ran ran;
+
+    memset(&ran, 0, sizeof ran);
+    ran.reply = pi_run((const uint32_t *)(const void *)image.start, call->image_length,
+                       (int64_t *)(void *)registers.start, call->registers_length, call->budget,
+                       (uint64_t *)(void *)work.start, call->work_length);
+    if (registers.bytes != 0)
+        memcpy(ran.left, registers.start, registers.bytes);
+    buffer_kept(&image, "image", 0);
+    registers_settled(&registers, ran.reply.refusal);
+    work_settled(&work, ran.reply.refusal);
+    run_makes_sense(&ran.reply, call);
+    buffer_free(&image);
+    buffer_free(&registers);
+    buffer_free(&work);
+    return ran;
+}
+
+uint64_t refusal_by_lengths(const Call *call)
+{
+    if (call->work_length < PI_WORK_WORDS)
+        return PI_REFUSAL_WORK;
+    if (call->budget > PI_MOST_BUDGET)
+        return PI_REFUSAL_BUDGET;
+    if (call->image_length < 2)
+        return PI_REFUSAL_LENGTH;
+    if (call->image[0] < 1 || call->image[0] > PI_MOST_NODES || call->image[1] > PI_MOST_REGISTERS)
+        return PI_REFUSAL_COUNTS;
+    if (call->image_length != PI_IMAGE_WORDS(call->image[0]))
+        return PI_REFUSAL_LENGTH;
+    return PI_REFUSAL_NONE;
+}
+
+void same_run(const char *what, const Ran *one, const Ran *other, size_t registers_length)
+{
+    size_t index;
+
+    if (one->reply.refusal != other->reply.refusal || one->reply.outcome != other->reply.outcome ||
+        one->reply.value != other->reply.value || one->reply.place != other->reply.place ||
+        one->reply.steps != other->reply.steps)
+        test_fault("%s: refusal %" PRIu64 " at %" PRIu64 ", value %" PRId64 ", steps %" PRIu64
+                   " and refusal %" PRIu64 " at %" PRIu64 ", value %" PRId64 ", steps %" PRIu64,
+                   what, one->reply.refusal, one->reply.place, one->reply.value, one->reply.steps,
+                   other->reply.refusal, other->reply.place, other->reply.value,
+                   other->reply.steps);
+    for (index = 0; index < registers_length; index += 1) {
+        if (one->left[index] != other->left[index])
+            test_fault("%s: register %lu is %" PRId64 " and %" PRId64, what, (unsigned long)index,
+                       one->left[index], other->left[index]);
+    }
+}
+
+/* The outcome that a root of this code has. */
+static uint64_t outcome_of(uint64_t code)
+{
+    switch (code) {
+    case PI_CODE_INTEGER:
+        return PI_OUTCOME_NUMBER;
+    case PI_CODE_TRUTH:
+        return PI_OUTCOME_TRUTH;
+    case PI_CODE_COMMAND:
+        return PI_OUTCOME_NONE;
+    default:
+        return PI_OUTCOME_CELL;
+    }
+}
+
+/* A run against the check of its image. */
+static void fits_the_check(const Call *call, const Ran *ran)
+{
+    Call check = *call;
+    CheckReply checked;
+    uint64_t refusal = ran->reply.refusal;
+
+    check.work_length = PI_WORK_WORDS + 3;
+    checked = call_check(&check);
+    if (checked.refusal != PI_REFUSAL_NONE) {
+        if (refusal != checked.refusal || ran->reply.place != checked.place)
+            test_fault("check refuses with %" PRIu64 " at %" PRIu64 " and run with %" PRIu64
+                       " at %" PRIu64,
+                       checked.refusal, checked.place, refusal, ran->reply.place);
+    } else if (call->registers_length != call->image[1]) {
+        if (refusal != PI_REFUSAL_REGISTERS)
+            test_fault("%lu registers for %lu, and run answers %" PRIu64,
+                       (unsigned long)call->registers_length, (unsigned long)call->image[1],
+                       refusal);
+    } else if (before_the_run(refusal)) {
+        test_fault("check passes and run answers %" PRIu64, refusal);
+    } else if (refusal == PI_REFUSAL_NONE && ran->reply.outcome != outcome_of(checked.value)) {
+        test_fault("check answers code %" PRIu64 " and run outcome %" PRIu64, checked.value,
+                   ran->reply.outcome);
+    }
+}
+
+/* The same run at other budgets: the steps made are just enough, and one less is too few. */
+static void fits_other_budgets(const Call *call, const Ran *ran)
+{
+    Call other = *call;
+    Ran again;
+    uint64_t steps = ran->reply.steps;
+    int ended = ran->reply.refusal == PI_REFUSAL_NONE;
+
+    if (ended || ran->reply.refusal > PI_REFUSAL_STEPS) {
+        other.budget = ended ? steps : steps + 1;
+        again = call_run(&other);
+        same_run("just enough budget", ran, &again, call->registers_length);
+        other.budget -= 1;
+        again = call_run(&other);
+        if (again.reply.refusal != PI_REFUSAL_STEPS || again.reply.steps != other.budget)
+            test_fault("budget %" PRIu64 " of %" PRIu64 " gives refusal %" PRIu64 " after %" PRIu64
+                       " steps",
+                       other.budget, other.budget + 1, again.reply.refusal, again.reply.steps);
+    }
+}
+
+Ran call_all(const Call *call)
+{
+    Ran ran = call_run(call);
+    uint64_t expected = refusal_by_lengths(call);
+    Call other = *call;
+    Ran again;
+
+    if (expected != PI_REFUSAL_NONE && ran.reply.refusal != expected)
+        test_fault("refusal %" PRIu64 " in place of %" PRIu64, ran.reply.refusal, expected);
+    if (touches_nothing(ran.reply.refusal))
+        return ran;
+    fits_the_check(call, &ran);
+    fits_other_budgets(call, &ran);
+    other.work_length += 5;
+    again = call_run(&other);
+    same_run("other work words", &ran, &again, call->registers_length);
+    return ran;
+}

@@ -1,0 +1,55 @@
+/*
+ * Calls of the engine with all that holds of every call looked at: the buffers after it, and the
+ * reply's own sense. What is wrong is noted as a fault of the test.
+ */
+#ifndef CALLS_H
+#define CALLS_H
+
+#include "buffers.h"
+#include "pi_engine.h"
+
+typedef struct Call {
+    const uint32_t *image;
+    size_t image_length;
+    const int64_t *starts; /* the registers before the call */
+    size_t registers_length;
+    uint64_t budget;
+    size_t work_length;
+} Call;
+
+/* A register slice may be wrong, so it may be longer than r. */
+#define MOST_STARTS 20
+
+/* What came of a run: the reply, and the registers after it. */
+typedef struct Ran {
+    RunReply reply;
+    int64_t left[MOST_STARTS];
+} Ran;
+
+/* Lends buffers to pi_check, and to pi_run. */
+CheckReply call_check(const Call *call);
+Ran call_run(const Call *call);
+
+/* The work buffer of a call, which it may clear or not. */
+Buffer lend_work(size_t work_length, uint64_t budget);
+
+/* Notes faults of the buffers after a call with this refusal. */
+void work_settled(const Buffer *work, uint64_t refusal);
+void registers_settled(const Buffer *registers, uint64_t refusal);
+
+/* Whether the refusal comes before the first step. */
+int before_the_run(uint64_t refusal);
+
+/* What the call must be refused with by its lengths, its budget and n and r alone; 0 where they pass. */
+uint64_t refusal_by_lengths(const Call *call);
+
+/*
+ * Checks and runs, and notes where the two do not fit together: the run of what passes, its outcome's
+ * sort, the count of registers, and the same run with one step less, just enough, and other junk.
+ */
+Ran call_all(const Call *call);
+
+/* Notes a fault where two runs do not agree. */
+void same_run(const char *what, const Ran *one, const Ran *other, size_t registers_length);
+
+#endif

@@ -1,0 +1,256 @@
+/*
+ * Every refusal by its name with its place, which of two comes first, and the limits from both sides.
+ * The steps and heights of the towers are those of the second interpreter.
+ */
+#include "tests.h"
+
+#include "calls.h"
+#include "report.h"
+#include "trees.h"
+
+#include <inttypes.h>
+#include <string.h>
+
+#define COUNT(list) (sizeof(list) / sizeof(list)[0])
+
+/* None is 0, so that a register that is cleared shows. */
+static const int64_t starts[MOST_STARTS] = {
+    -1, 2, -3, 4, -5, 6, -7, 8, -9, 10, -11, 12, -13, 14, -15, 16, -17, 18, -19, 20,
+};
+static uint32_t image[IMAGE_ROOM];
+static Tree tree;
+
+/* The call of the tree, with as many registers as it has and the greatest budget. */
+static Call call_of_tree(void)
+{
+    Call call;
+
+    call.image = image;
+    call.image_length = tree_image(&tree, image);
+    call.starts = starts;
+    call.registers_length = tree.registers;
+    call.budget = PI_MOST_BUDGET;
+    call.work_length = PI_WORK_WORDS;
+    return call;
+}
+
+static void expect(const Call *call, uint64_t refusal, uint64_t place, uint64_t steps)
+{
+    Ran ran = call_all(call);
+
+    if (ran.reply.refusal != refusal || ran.reply.place != place || ran.reply.steps != steps)
+        test_fault("refusal %" PRIu64 " at %" PRIu64 " after %" PRIu64 " steps, expected %" PRIu64
+                   " at %" PRIu64 " after %" PRIu64,
+                   ran.reply.refusal, ran.reply.place, ran.reply.steps, refusal, place, steps);
+}
+
+/* A refusal of the image, by a tree with 1 register. */
+typedef struct Faulty {
+    const char *name;
+    uint64_t refusal;
+    uint64_t place;
+    size_t count;
+    Node nodes[13];
+} Faulty;
+
+static const Faulty faulty[] = {
+    {"kind 0", PI_REFUSAL_KIND, 0, 1, {{0, 0}}},
+    {"kind 18", PI_REFUSAL_KIND, 1, 2, {{PI_KIND_NOT, 0}, {18, 0}}},
+    {"kind above 16 bits", PI_REFUSAL_KIND, 0, 1, {{65536 + PI_KIND_NUM, 0}}},
+    {"operand of a Boo", PI_REFUSAL_OPERAND, 0, 1, {{PI_KIND_BOO, 2}}},
+    {"operand of a Not", PI_REFUSAL_OPERAND, 0, 2, {{PI_KIND_NOT, 1}, {PI_KIND_BOO, 1}}},
+    {"name 64", PI_REFUSAL_OPERAND, 0, 1, {{PI_KIND_ID, 64}}},
+    {"9 actuals", PI_REFUSAL_OPERAND, 0, 1, {{PI_KIND_CALL, PI_OPERAND(0, 9)}}},
+    {"root is a declaration", PI_REFUSAL_TREE, 0, 2, {{PI_KIND_BIND, 1}, {PI_KIND_NUM, 1}}},
+    {"child is a command", PI_REFUSAL_TREE, 1, 3,
+     {{PI_KIND_NOT, 0}, {PI_KIND_ASSIGN, 0}, {PI_KIND_NUM, 1}}},
+    {"node missing", PI_REFUSAL_TREE, 2, 2, {{PI_KIND_SUM, 0}, {PI_KIND_NUM, 1}}},
+    {"node left over", PI_REFUSAL_TREE, 1, 2, {{PI_KIND_NUM, 1}, {PI_KIND_NUM, 1}}},
+    {"name unbound", PI_REFUSAL_UNBOUND, 1, 2, {{PI_KIND_ASSIGN, 0}, {PI_KIND_ID, 1}}},
+    {"truth for a number", PI_REFUSAL_TYPE, 0, 3,
+     {{PI_KIND_SUM, 0}, {PI_KIND_NUM, 1}, {PI_KIND_BOO, 1}}},
+    {"truth for a register", PI_REFUSAL_TYPE, 0, 2, {{PI_KIND_ASSIGN, 0}, {PI_KIND_BOO, 1}}},
+    {"name on both sides", PI_REFUSAL_REPEATED, 1, 8,
+     {{PI_KIND_BLK, 0}, {PI_KIND_DSEQ, 0}, {PI_KIND_BIND, 1}, {PI_KIND_NUM, 1}, {PI_KIND_BIND, 1},
+      {PI_KIND_NUM, 1}, {PI_KIND_ASSIGN, 0}, {PI_KIND_NUM, 1}}},
+    {"Formal repeated", PI_REFUSAL_REPEATED, 4, 13,
+     {{PI_KIND_BLK, 0}, {PI_KIND_BIND, 1}, {PI_KIND_ABS, 2}, {PI_KIND_FORMAL, 2},
+      {PI_KIND_FORMAL, PI_OPERAND(2, 1)}, {PI_KIND_BLK, 0}, {PI_KIND_BIND, 3}, {PI_KIND_NUM, 1},
+      {PI_KIND_ASSIGN, 0}, {PI_KIND_NUM, 1},
+      {PI_KIND_CALL, PI_OPERAND(1, 2)}, {PI_KIND_NUM, 1}, {PI_KIND_BOO, 1}}},
+    {"number set", PI_REFUSAL_NOT_ASSIGNABLE, 3, 5,
+     {{PI_KIND_BLK, 0}, {PI_KIND_BIND, 1}, {PI_KIND_NUM, 1}, {PI_KIND_ASSIGN, 1},
+      {PI_KIND_NUM, 1}}},
+    {"register called", PI_REFUSAL_CALL, 0, 1, {{PI_KIND_CALL, PI_OPERAND(0, 0)}}},
+};
+
+static void test_faulty_trees(void)
+{
+    size_t index;
+    Call call;
+
+    for (index = 0; index < COUNT(faulty); index += 1) {
+        test_begin(faulty[index].name);
+        tree_list(&tree, 1, faulty[index].nodes, faulty[index].count);
+        call = call_of_tree();
+        expect(&call, faulty[index].refusal, faulty[index].place, 0);
+        test_end();
+    }
+}
+
+/* Lengths, n and r; and which of them comes first. */
+static void test_lengths(void)
+{
+    static const Node nodes[] = {{PI_KIND_ASSIGN, 0}, {PI_KIND_NUM, 1}};
+    Call call;
+    size_t length;
+
+    test_begin("lengths");
+    tree_list(&tree, 1, nodes, COUNT(nodes));
+    call = call_of_tree();
+    for (length = 0; length <= 8; length += 1) {
+        call.image_length = length;
+        expect(&call, length == 6 ? PI_REFUSAL_NONE : PI_REFUSAL_LENGTH, 0, length == 6 ? 3 : 0);
+    }
+    test_end();
+
+    test_begin("n and r");
+    tree_list(&tree, PI_MOST_REGISTERS + 1, nodes, COUNT(nodes));
+    call = call_of_tree();
+    expect(&call, PI_REFUSAL_COUNTS, 0, 0);
+    /* Length 1 comes before n and r, and they before any other length. */
+    call.image_length = 5;
+    expect(&call, PI_REFUSAL_COUNTS, 0, 0);
+    call.image_length = 1;
+    expect(&call, PI_REFUSAL_LENGTH, 0, 0);
+    tree_list(&tree, 0, nodes, 0);
+    call = call_of_tree();
+    expect(&call, PI_REFUSAL_COUNTS, 0, 0);
+    image[0] = PI_MOST_NODES + 1;
+    expect(&call, PI_REFUSAL_COUNTS, 0, 0);
+    test_end();
+}
+
+/* The host's own faults, and that a run tests 22, 21, the image, 20. */
+static void test_host_faults(void)
+{
+    static const Node nodes[] = {{PI_KIND_ASSIGN, 0}, {PI_KIND_NUM, 1}};
+    static const uint64_t budgets[] = {PI_MOST_BUDGET + 1, UINT64_C(1) << 32, UINT64_MAX};
+    Call call, fine;
+    CheckReply checked;
+    size_t index;
+
+    tree_list(&tree, 1, nodes, COUNT(nodes));
+    fine = call_of_tree();
+
+    test_begin("register slice");
+    for (call = fine, index = 0; index < MOST_STARTS; index += 1) {
+        call.registers_length = index;
+        expect(&call, index == 1 ? PI_REFUSAL_NONE : PI_REFUSAL_REGISTERS, 0, index == 1 ? 3 : 0);
+    }
+    test_end();
+
+    test_begin("budget above the greatest");
+    for (call = fine, index = 0; index < COUNT(budgets); index += 1) {
+        call.budget = budgets[index];
+        expect(&call, PI_REFUSAL_BUDGET, 0, 0);
+    }
+    test_end();
+
+    test_begin("work slice too short");
+    for (call = fine, index = 0; index < 3; index += 1) {
+        call.work_length = index == 0 ? 0 : index == 1 ? 1 : PI_WORK_WORDS - 1;
+        expect(&call, PI_REFUSAL_WORK, 0, 0);
+        checked = call_check(&call);
+        if (checked.refusal != PI_REFUSAL_WORK)
+            test_fault("check answers %" PRIu64, checked.refusal);
+    }
+    test_end();
+
+    test_begin("order 22, 21, the image, 20");
+    call = fine;
+    call.registers_length = 2;
+    expect(&call, PI_REFUSAL_REGISTERS, 0, 0);
+    call.image_length = 5;
+    expect(&call, PI_REFUSAL_LENGTH, 0, 0);
+    call.budget = PI_MOST_BUDGET + 1;
+    expect(&call, PI_REFUSAL_BUDGET, 0, 0);
+    call.work_length = PI_WORK_WORDS - 1;
+    expect(&call, PI_REFUSAL_WORK, 0, 0);
+    test_end();
+
+    test_begin("no pointer where the length is 0");
+    checked = pi_check(NULL, 0, NULL, 0);
+    if (checked.refusal != PI_REFUSAL_WORK)
+        test_fault("check answers %" PRIu64, checked.refusal);
+    if (pi_run(NULL, 0, NULL, 0, 0, NULL, 0).refusal != PI_REFUSAL_WORK)
+        test_fault("run does not answer 22");
+    test_end();
+}
+
+static void test_sizes(void)
+{
+    Call call;
+    size_t past;
+
+    for (past = 0; past < 2; past += 1) {
+        test_begin(past ? "depth 65" : "depth 64");
+        tree_of_depth(&tree, PI_MOST_DEPTH + past);
+        call = call_of_tree();
+        if (past)
+            expect(&call, PI_REFUSAL_DEPTH, PI_MOST_DEPTH, 0);
+        else
+            expect(&call, PI_REFUSAL_NONE, 0, 2 * 63 + 1);
+        test_end();
+
+        test_begin(past ? "2,001 nodes" : "2,000 nodes");
+        tree_of_nodes(&tree, PI_MOST_NODES);
+        if (past)
+            tree_add(&tree, PI_KIND_NUM, 0);
+        call = call_of_tree();
+        if (past)
+            expect(&call, PI_REFUSAL_COUNTS, 0, 0);
+        else
+            expect(&call, PI_REFUSAL_NONE, 0, 666 + 3 * 667);
+        test_end();
+    }
+}
+
+/* Towers on both sides of each limit of the run. */
+static void test_limits(void)
+{
+    static const struct {
+        const char *name;
+        Tower tower;
+        uint64_t refusal;
+        uint64_t steps;
+    } towers[] = {
+        {"256 cells", {1, 15, 17, 1, 0}, PI_REFUSAL_NONE, 1812},
+        {"a 257th cell", {1, 16, 16, 1, 0}, PI_REFUSAL_CELLS, 1781},
+        {"512 bindings", {1, 30, 17, 0, 0}, PI_REFUSAL_NONE, 2592},
+        {"a 513th binding", {2, 15, 17, 0, 0}, PI_REFUSAL_BINDINGS, 2546},
+        {"512 value entries", {15, 15, 1, 0, 0}, PI_REFUSAL_NONE, 1488},
+        {"a 513th value entry", {16, 14, 1, 0, 0}, PI_REFUSAL_VALUES, 1229},
+        {"512 control entries", {10, 1, 1, 0, 48}, PI_REFUSAL_NONE, 2073},
+        {"a 513th control entry", {11, 1, 1, 0, 44}, PI_REFUSAL_CONTROL, 610},
+    };
+    size_t index;
+    Call call;
+
+    for (index = 0; index < COUNT(towers); index += 1) {
+        test_begin(towers[index].name);
+        tree_of_tower(&tree, &towers[index].tower);
+        call = call_of_tree();
+        expect(&call, towers[index].refusal, 0, towers[index].steps);
+        test_end();
+    }
+}
+
+void test_refusals(void)
+{
+    test_faulty_trees();
+    test_lengths();
+    test_host_faults();
+    test_sizes();
+    test_limits();
+}

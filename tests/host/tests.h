@@ -1,0 +1,29 @@
+/* The groups of tests. */
+#ifndef TESTS_H
+#define TESTS_H
+
+#include "calls.h"
+
+#include <stddef.h>
+#include <stdint.h>
+
+/* The paper's cases; and their calls, for other tests. */
+void test_paper(void);
+size_t paper_calls(void);
+Call paper_call(size_t index, uint32_t *image);
+
+/* Every refusal by name and place, their order, and the limits from both sides. */
+void test_refusals(void);
+
+/* So many images of each sort, made by chance from a seed. */
+void test_chance(size_t count, uint64_t seed);
+
+/* Calls at once from several threads, and how much stack a call takes. */
+void test_threads(void);
+
+#ifdef PI_BYTES
+/* The byte forms against the word forms. */
+void test_bytes(size_t count, uint64_t seed);
+#endif
+
+#endif

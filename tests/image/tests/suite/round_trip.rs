@@ -1,0 +1,86 @@
+//! Image to text to image, over generated trees.
+
+use image::parse::parse;
+use image::print::print;
+use image::stored::split;
+use second::build::*;
+use second::encode::program_input;
+use second::generate::Family;
+use second::kinds::TABLE;
+use second::reader::read;
+use std::collections::HashSet;
+
+#[test]
+fn trees_go_to_text_and_back() {
+    let mut kinds = HashSet::new();
+    let mut trees = 0;
+    for (name, family) in Family::ALL {
+        let count = if name == "large" || name == "limits" { 60 } else { 400 };
+        for seed in 0..count {
+            let image = family.case(seed).image;
+            let Ok(routine) = read(&image) else { continue };
+            let text = print(&routine);
+            let listing = parse(&text).unwrap_or_else(|fault| panic!("{fault}\n{text}"));
+            assert_eq!(listing.image(), image, "{text}");
+            kinds.extend(listing.nodes.iter().map(|node| node.kind));
+            trees += 1;
+        }
+    }
+    assert!(trees > 1_000, "{trees}");
+    assert_eq!(kinds.len(), TABLE.len(), "every kind is met");
+}
+
+/// Each list begins where its node says, with that kind's name.
+#[test]
+fn nodes_stand_where_they_say() {
+    for seed in 0..50 {
+        let text = print(&read(&Family::Medium.case(seed).image).unwrap());
+        let lines: Vec<&str> = text.lines().collect();
+        for node in parse(&text).unwrap().nodes {
+            let name = second::kinds::by_number(node.kind).unwrap().name;
+            let rest = &lines[node.position.line - 1][node.position.column - 1..];
+            assert!(rest.starts_with(&format!("({name}")), "{rest}");
+        }
+    }
+}
+
+#[test]
+fn no_line_is_long() {
+    for seed in 0..200 {
+        let text = print(&read(&Family::Small.case(seed).image).unwrap());
+        assert!(text.lines().all(|line| line.len() <= 80), "{text}");
+    }
+}
+
+#[test]
+fn comments_and_spaces_say_nothing() {
+    let text = "; a comment (with this\n registers\t2 ; and ) that\n\n(Sum(Num 1)\r\n  ( Num\n2 ))";
+    assert_eq!(parse(text).unwrap().image(), image(2, sum(num(1), num(2))));
+}
+
+#[test]
+fn each_form_is_read() {
+    let text = "registers 1
+        (Blk (DSeq (Bind 1 (Abs (Formal 2 0) (Formal 3 5) (Blk (Bind 4 (Ref (Boo true)))
+                    (Loop (And (Id 4) (Boo 0)) (Assign 4 (Not (Boo false)))))))
+               (Bind 5 (DeRef 0)))
+          (CSeq (Call 1 (Num 4294967295) (DeRef 5)) (Assign 0 (ValRef 5))))";
+    let body =
+        block(bind_ref(4, boo(true)), repeat(and(id(4), boo(false)), assign(4, not(boo(false)))));
+    let root = blk(
+        dseq(bind_abs(1, &[(2, 0), (3, 5)], body), bind(5, deref(0))),
+        cseq(call(1, vec![num(u32::MAX), deref(5)]), assign(0, valref(5))),
+    );
+    assert_eq!(parse(text).unwrap().image(), image(1, root));
+}
+
+#[test]
+fn starting_values_are_split_off() {
+    let image = image(2, id(1));
+    let values = vec![-1, i64::MAX];
+    assert_eq!(split(&program_input(&image, &values)), Ok((image.clone(), values)));
+    assert_eq!(split(&program_input(&image, &[])), Ok((image.clone(), vec![])));
+    assert_eq!(split(&program_input(&image, &[1])).unwrap_err().number, 1);
+    assert_eq!(split(&[0; 7]).unwrap_err().number, 1);
+    assert_eq!(split(&[0; 8]).unwrap_err().number, 2);
+}
