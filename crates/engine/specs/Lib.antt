@@ -1,3 +1,6 @@
 pub mod Answers
+pub mod Bytes
+pub mod BytesKept
+pub mod BytesRead
 pub mod Examined
 pub mod Runs
