@@ -1,3 +1,6 @@
+mod BytesCounts
+mod BytesLaws
+mod BytesRun
 mod CheckLaws
 mod ClearLaws
 mod ExamineLaws

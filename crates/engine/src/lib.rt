@@ -1,4 +1,5 @@
 // The engine as a host calls it: the checker alone, and the run.
+pub mod bytes;
 mod perform;
 
 ghost use mathlib.Core.Path.{_≡_};

@@ -1,0 +1,54 @@
+-- Bytes in place of words: the image's words and the registers' values that some bytes stand for, and the bytes of values. Words are
+-- little-endian of 4 bytes, registers two's complement of 8 bytes, least byte first. `BytesRead` shows what an image of bytes comes to, in the
+-- paper's order, and `BytesKept` that values and bytes are one another's inverse. Assumes nothing.
+use Prim.Native.Nat.{ℕ, zero, suc, _+_, _*_, _/_, _%_}
+use mathlib.Core.Bool.{Bool, cond, _&&_}
+use mathlib.Core.List.{List, [], _∷_, _++_}
+use lib.Dec.{eqb, leb, ltb}
+use lib.IntN.{ℤ, pos}
+use lib.ListN.{length, take, drop, replicate}
+use Rattle.integers.specs.Words.{integers-of, words-of}
+
+-- The number that bytes hold, least byte first.
+unfoldable pub little-endian : List ℕ → ℕ
+little-endian [] = 0
+little-endian (b ∷ bs) = b + 256 * little-endian bs
+
+-- The first numbers of some bytes, each of this many bytes.
+unfoldable pub numbers : (size count : ℕ) → List ℕ → List ℕ
+numbers size zero bytes = []
+numbers size (suc count) bytes = little-endian (take size bytes) ∷ numbers size count (drop size bytes)
+
+-- And back: the bytes of a number, and of numbers one after the other.
+unfoldable pub bytes-of : (size : ℕ) → ℕ → List ℕ
+bytes-of zero number = []
+bytes-of (suc size) number = number % 256 ∷ bytes-of size (number / 256)
+
+unfoldable pub bytes-of-words : List ℕ → List ℕ
+bytes-of-words [] = []
+bytes-of-words (w ∷ ws) = bytes-of 8 w ++ bytes-of-words ws
+
+-- Whether this many bytes are a whole count of numbers of a size, and the count is at most another.
+abbrev pub whole : (size most bytes : ℕ) → Bool
+whole size most bytes = eqb (bytes % size) 0 && leb (bytes / size) most
+
+-- ---- The image.
+
+-- All words of the bytes, where they are a whole count of words and at most 2 + 2 × 2,000. Other bytes are no image of any n, so that n and r
+-- alone are judged like them; fewer than 8 bytes have not even these.
+unfoldable pub image-count : (bytes : ℕ) → ℕ
+image-count bytes = cond (ltb bytes 8) 0 (cond (whole 4 4002 bytes) (bytes / 4) 2)
+
+unfoldable pub image-words : List ℕ → List ℕ
+image-words bytes = numbers 4 (image-count (length bytes)) bytes
+
+-- ---- The registers.
+
+-- The values of the bytes, where they are a whole count of values and at most 16. Other bytes are no registers of any image; 17 values are not
+-- either, and stand for them.
+unfoldable pub register-values : List ℕ → List ℤ
+register-values bytes = cond (whole 8 16 (length bytes)) (integers-of (numbers 8 (length bytes / 8) bytes)) (replicate 17 (pos 0))
+
+-- What the bytes become where the values become others: bytes that are no registers stay as they are.
+unfoldable pub register-bytes : (before : List ℕ) → List ℤ → List ℕ
+register-bytes before values = cond (whole 8 16 (length before)) (bytes-of-words (words-of values)) before
