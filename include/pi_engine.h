@@ -55,7 +55,8 @@
  * - The registers are kept by refusals 1 to 22. Refusals 30 to 36 leave them as before the withheld
  *   step; a run that ends leaves what its last step left.
  * - No memory is used but the lent words and the stack. The stack is bounded for every image: a check
- *   takes under 24 KB (see README.md), and so does a run (tests/host measures both).
+ *   takes under 24 KB (see README.md), and so does a run; on bytes under 40 KB, since the words are
+ *   laid out there (tests/host measures all).
  * - Nothing is kept between calls, so calls on different buffers may run at once.
  * - Every call ends: a run makes at most its budget of steps, and the rest goes by the nodes.
  */
