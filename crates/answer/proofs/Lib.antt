@@ -1,0 +1,7 @@
+mod DecimalLaws
+mod InputLaws
+mod LineLaws
+mod NumberLaws
+mod PageLaws
+mod PutLaws
+mod RangeLaws

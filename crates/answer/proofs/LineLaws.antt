@@ -1,0 +1,149 @@
+-- The lines of an answer, put together from their texts. Assumes nothing.
+use Prim.Native.Nat.{ℕ, suc, _+_, _*_, _<_, _≤_}
+use mathlib.Core.Path.{_≡_, refl, sym, ap, _∙_}
+use mathlib.Core.Bool.{true, false, cond}
+use mathlib.Core.List.{List, [], _∷_, _++_, append-nil, append-assoc}
+use native.Mathlib.Omega.{arith}
+use native.Mathlib.Nat.{add-zero, zero-add}
+use lib.IntN.{ℤ}
+use lib.ListN.{length, take, getD}
+use lib.Seq.{take-suc, take-length, length-take-le}
+use Rattle.integers.specs.Words.{integer-of, integers-of}
+use Rattle.integers.specs.WordLaws.{integers-length}
+use Rattle.engine.specs.declared.Ran.{Ran}
+use Rattle.engine.specs.declared.Ran.the-variants.{Number, Truth, Location, Nothing, Refused}
+use Rattle.answer.specs.Decimal.{ascii, decimal, integer}
+use Rattle.answer.specs.Program.{line, register-text, register-lines}
+use Rattle.answer.specs.Writing.{Put, PutWithin, ran-text, ran-steps, ran-shows, ran-page, refusal-page}
+use Rattle.answer.proofs.PutLaws.{within, within-then, within-as}
+
+-- ---- The outcome.
+
+module _ (before after : List ℕ) (answer : Ran) (last : ℕ) where
+  pub number-text : (middle : List ℕ) (next w k : ℕ) → answer ≡ Number w k → Put before 0 (ascii "number ") next middle → PutWithin 21 middle next (integer (integer-of w)) last after →
+      PutWithin 52 before 0 (ran-text answer) last after
+  unfolding ran-text
+  number-text middle next w k e p q = within-as 52 (sym (ap ran-text e)) (omega arith) (within-then (within 7 p (omega arith)) q)
+
+  pub truth-text : (middle : List ℕ) (next w k : ℕ) → answer ≡ Truth w k → Put before 0 (ascii "truth ") next middle → PutWithin 20 middle next (decimal w) last after →
+      PutWithin 52 before 0 (ran-text answer) last after
+  unfolding ran-text
+  truth-text middle next w k e p q = within-as 52 (sym (ap ran-text e)) (omega arith) (within-then (within 6 p (omega arith)) q)
+
+  pub cell-text : (middle : List ℕ) (next w k : ℕ) → answer ≡ Location w k → Put before 0 (ascii "cell ") next middle → PutWithin 20 middle next (decimal w) last after →
+      PutWithin 52 before 0 (ran-text answer) last after
+  unfolding ran-text
+  cell-text middle next w k e p q = within-as 52 (sym (ap ran-text e)) (omega arith) (within-then (within 5 p (omega arith)) q)
+
+  pub none-text : (k : ℕ) → answer ≡ Nothing k → Put before 0 (ascii "none") last after → PutWithin 52 before 0 (ran-text answer) last after
+  unfolding ran-text
+  none-text k e p = within-as 52 (sym (ap ran-text e)) (omega arith) (within 4 p (omega arith))
+
+  pub refused-text : (second third fourth : List ℕ) (a b d x p k : ℕ) → answer ≡ Refused x p k → Put before 0 (ascii "refused ") a second → PutWithin 20 second a (decimal x) b third →
+      Put third b (ascii " at ") d fourth → PutWithin 20 fourth d (decimal p) last after → PutWithin 52 before 0 (ran-text answer) last after
+  unfolding ran-text
+  refused-text second third fourth a b d x p k e f g h i =
+      within-as 52 (sym (ap ran-text e)) (omega arith) (within-then (within-then (within-then (within 8 f (omega arith)) g) (within 4 h (omega arith))) i)
+
+-- ---- The steps, and a register.
+
+pub steps-lines : (before middle later after : List ℕ) (at a b last n : ℕ) → Put before at (ascii "\nsteps ") a middle → PutWithin 20 middle a (decimal n) b later → Put later b (ascii "\n") last after →
+    PutWithin 28 before at (ascii "\n" ++ line (ascii "steps " ++ decimal n)) last after
+steps-lines before middle later after at a b last n p q r = within-then (within-then (within 7 p (omega arith)) q) (within 1 r (omega arith))
+
+pub register-line : (before second third fourth fifth after : List ℕ) (at a b d e last i w : ℕ) → Put before at (ascii "register ") a second → PutWithin 20 second a (decimal i) b third →
+    Put third b (ascii " ") d fourth → PutWithin 21 fourth d (integer (integer-of w)) e fifth → Put fifth e (ascii "\n") last after →
+    PutWithin 52 before at (line (register-text i (integer-of w))) last after
+unfolding register-text
+register-line before second third fourth fifth after at a b d e last i w p q r s t =
+    within-then (within-then (within-then (within-then (within 9 p (omega arith)) q) (within 1 r (omega arith))) s) (within 1 t (omega arith))
+
+-- ---- The registers, one by one.
+
+-- The lines of the first i registers stand in the output.
+pub record Lined (before : List ℕ) (at : ℕ) (registers : List ℕ) (i next : ℕ) (after : List ℕ) : Type 0 where
+  pub some : i ≤ length registers
+  pub put : PutWithin (52 * i) before at (register-lines 0 (integers-of (take i registers))) next after
+  pub same-length : length after ≡ length before
+
+one-more-integer : (ws : List ℕ) (w : ℕ) → integers-of (ws ++ (w ∷ [])) ≡ integers-of ws ++ (integer-of w ∷ [])
+unfolding integers-of
+one-more-integer [] w = refl
+one-more-integer (v ∷ ws) w = ap {B = List ℤ} (λ l. integer-of v ∷ l) (one-more-integer ws w)
+
+one-more-line : (first : ℕ) (zs : List ℤ) (z : ℤ) → register-lines first (zs ++ (z ∷ [])) ≡ register-lines first zs ++ line (register-text (first + length zs) z)
+unfolding register-lines
+one-more-line first [] z = append-nil (line (register-text first z)) ∙ ap (λ k. line (register-text k z)) (sym (add-zero first))
+one-more-line first (y ∷ zs) z =
+    ap (λ l. line (register-text first y) ++ l) (one-more-line (suc first) zs z ∙ ap (λ k. register-lines (suc first) zs ++ line (register-text k z)) (moved first (length zs)))
+    ∙ sym (append-assoc (line (register-text first y)) (register-lines (suc first) zs) (line (register-text (first + suc (length zs)) z)))
+  where
+    moved : (a b : ℕ) → suc a + b ≡ a + suc b
+    moved a b = omega arith
+
+next-lines : (registers : List ℕ) (i : ℕ) → i < length registers →
+    register-lines 0 (integers-of (take i registers)) ++ line (register-text i (integer-of (getD registers i 0))) ≡ register-lines 0 (integers-of (take (i + 1) registers))
+next-lines registers i h =
+    sym (ap (λ k. register-lines 0 (integers-of (take k registers))) (one-more i) ∙
+    ap (λ l. register-lines 0 (integers-of l)) (take-suc registers i 0 h) ∙
+    ap (register-lines 0) (one-more-integer (take i registers) (getD registers i 0)) ∙
+    one-more-line 0 (integers-of (take i registers)) (integer-of (getD registers i 0)) ∙
+    ap (λ k. register-lines 0 (integers-of (take i registers)) ++ line (register-text k (integer-of (getD registers i 0)))) counted)
+  where
+    one-more : (i : ℕ) → i + 1 ≡ suc i
+    one-more i = omega arith
+
+    counted : 0 + length (integers-of (take i registers)) ≡ i
+    counted = zero-add (length (integers-of (take i registers))) ∙ integers-length (take i registers) ∙ length-take-le i registers (omega (arith, h))
+
+pub lined-none : (before registers : List ℕ) (at : ℕ) → Lined before at registers 0 at before
+unfolding register-lines integers-of
+lined-none before registers at =
+    record { some = omega arith; put = record { put = record { next-is = omega arith; written = sym (append-nil (take at before)) }; short = omega arith }; same-length = refl }
+
+pub lined-next : (before registers middle after : List ℕ) (at i next last : ℕ) → Lined before at registers i next middle → i < length registers →
+    PutWithin 52 middle next (line (register-text i (integer-of (getD registers i 0)))) last after → length after ≡ length middle → Lined before at registers (i + 1) last after
+lined-next before registers middle after at i next last l h p q =
+    record {
+      some = omega (arith, h);
+      put = within-as (52 * (i + 1)) (next-lines registers i h) (omega arith) (within-then (l .put) p);
+      same-length = q ∙ l .same-length;
+    }
+
+pub lined-all : (before registers after : List ℕ) (at i next : ℕ) → length registers ≤ 16 → Lined before at registers i next after → length registers ≤ i →
+    PutWithin 832 before at (register-lines 0 (integers-of registers)) next after
+lined-all before registers after at i next few l h =
+    within-as 832 (ap (λ l. register-lines 0 (integers-of l)) (ap (λ k. take k registers) (same i (length registers) (l .some) h) ∙ take-length registers)) (omega (arith, few, l .some)) (l .put)
+  where
+    same : (i n : ℕ) → i ≤ n → n ≤ i → i ≡ n
+    same i n a b = omega arith
+
+-- ---- The whole answer.
+
+module _ (before second third : List ℕ) (answer : Ran) (a b steps : ℕ) (outcome : PutWithin 52 before 0 (ran-text answer) a second)
+    (counted : PutWithin 28 second a (ascii "\n" ++ line (ascii "steps " ++ decimal steps)) b third) where
+  two-lines : PutWithin 80 before 0 (line (ran-text answer) ++ line (ascii "steps " ++ decimal steps)) b third
+  two-lines = within-as 80 (sym (append-assoc (ran-text answer) (ascii "\n") (line (ascii "steps " ++ decimal steps)))) (omega arith) (within-then outcome counted)
+
+  pub page-with-registers : (after : List ℕ) (last : ℕ) (zs : List ℤ) → steps ≡ ran-steps answer → ran-shows answer ≡ true → PutWithin 832 third b (register-lines 0 zs) last after →
+      PutWithin 1024 before 0 (ran-page answer zs) last after
+  unfolding ran-page
+  page-with-registers after last zs e shows p =
+      within-as 1024
+      (ap (λ k. line (ran-text answer) ++ line (ascii "steps " ++ decimal k) ++ register-lines 0 zs) e ∙
+      ap (λ t. line (ran-text answer) ++ line (ascii "steps " ++ decimal (ran-steps answer)) ++ cond t (register-lines 0 zs) []) (sym shows))
+      (omega arith) (within-then two-lines p)
+
+  pub page-without : (zs : List ℤ) → steps ≡ ran-steps answer → ran-shows answer ≡ false → PutWithin 1024 before 0 (ran-page answer zs) b third
+  unfolding ran-page
+  page-without zs e shows =
+      within-as 1024
+      (ap (λ k. line (ran-text answer) ++ line (ascii "steps " ++ decimal k)) e ∙
+      sym (append-nil (line (ran-text answer) ++ line (ascii "steps " ++ decimal (ran-steps answer)))) ∙
+      ap (λ t. line (ran-text answer) ++ line (ascii "steps " ++ decimal (ran-steps answer)) ++ cond t (register-lines 0 zs) []) (sym shows))
+      (omega arith) two-lines
+
+pub refused-page : (before second after : List ℕ) (a last x : ℕ) → PutWithin 52 before 0 (ran-text (Refused x 0 0)) a second →
+    PutWithin 28 second a (ascii "\n" ++ line (ascii "steps " ++ decimal 0)) last after → PutWithin 1024 before 0 (refusal-page x) last after
+unfolding refusal-page
+refused-page before second after a last x p q = within-as 1024 refl (omega arith) (two-lines before second after (Refused x 0 0) a last 0 p q)

@@ -1,0 +1,58 @@
+-- put_page: the outcome, the steps and the registers. Assumes nothing.
+use mathlib.Core.Path.{sym, _∙_}
+use Rattle.answer.proofs.LineLaws.{page-with-registers, page-without}
+use borrow.Author.Needs.{needs}
+use Rattle.answer.proofs.lines.put_page.Statement.{statement}
+use Rattle.answer.proofs.lines.put_page.Tie as tie
+use Rattle.answer.proofs.lines.put_page.Reads as reads
+use Rattle.answer.proofs.lines.put_page.Lts as lts
+use Rattle.answer.proofs.lines.put_outcome.Reads as put-outcome-reads
+use Rattle.answer.proofs.lines.put_registers.Reads as put-registers-reads
+use Rattle.answer.proofs.lines.put_steps.Reads as put-steps-reads
+use Rattle.answer.proofs.lines.shows_registers.Reads as shows-registers-reads
+use Rattle.answer.proofs.lines.steps_of.Reads as steps-of-reads
+
+put-outcome-requires : tie.Need-put-outcome-requires
+put-outcome-requires c κs = search needs
+
+steps-of-requires : tie.Need-steps-of-requires
+steps-of-requires c κs = search needs
+
+put-steps-requires : tie.Need-put-steps-requires
+put-steps-requires c κs = search needs
+
+shows-registers-requires : tie.Need-shows-registers-requires
+shows-registers-requires c κs = search needs
+
+put-registers-requires : tie.Need-put-registers-requires
+put-registers-requires c κs = search needs
+
+same-length : tie.Need-same-length
+same-length c = search needs
+
+returns : tie.Need-returns
+returns c =
+    page-with-registers _ _ _ _ _ _ _ (c .before .before .before .before .before .before .before .before .before .before .before .before .before .put-outcome .ensures) (c .before .before .before .before .before .before .before .before .put-steps .ensures) _ _ _ (c .before .before .before .before .before .before .before .before .before .steps-of .ensures)
+    (sym (c .before .before .before .before .before .shows-registers .ensures) ∙ c .before .before .before .before .if1 .taken) (c .before .before .put-registers .ensures)
+
+same-length-2 : tie.Need-same-length-2
+same-length-2 c = search needs
+
+returns-2 : tie.Need-returns-2
+returns-2 c =
+    page-without _ _ _ _ _ _ _ (c .before .before .before .before .before .before .before .before .before .put-outcome .ensures) (c .before .before .before .before .put-steps .ensures) _ (c .before .before .before .before .before .steps-of .ensures)
+    (sym (c .before .shows-registers .ensures) ∙ c .if1 .left)
+
+pub put-page-spec : {M : Type 1} → statement M
+put-page-spec =
+    tie.close
+    (tie.spec
+    put-outcome-requires
+    steps-of-requires
+    put-steps-requires
+    shows-registers-requires
+    put-registers-requires
+    same-length
+    returns
+    same-length-2
+    returns-2)

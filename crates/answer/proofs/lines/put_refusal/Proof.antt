@@ -1,0 +1,24 @@
+-- put_refusal: two lines. Assumes nothing.
+use Rattle.answer.proofs.LineLaws.{refused-page}
+use borrow.Author.Needs.{needs}
+use Rattle.answer.proofs.lines.put_refusal.Statement.{statement}
+use Rattle.answer.proofs.lines.put_refusal.Tie as tie
+use Rattle.answer.proofs.lines.put_refusal.Reads as reads
+use Rattle.answer.proofs.lines.put_refusal.Lts as lts
+use Rattle.answer.proofs.lines.put_outcome.Reads as put-outcome-reads
+use Rattle.answer.proofs.lines.put_steps.Reads as put-steps-reads
+
+put-outcome-requires : tie.Need-put-outcome-requires
+put-outcome-requires c κs = search needs
+
+put-steps-requires : tie.Need-put-steps-requires
+put-steps-requires c κs = search needs
+
+same-length : tie.Need-same-length
+same-length c = search needs
+
+returns : tie.Need-returns
+returns c = refused-page _ _ _ _ _ _ (c .before .before .before .before .before .before .put-outcome .ensures) (c .before .before .put-steps .ensures)
+
+pub put-refusal-spec : {M : Type 1} → statement M
+put-refusal-spec = tie.close (tie.spec put-outcome-requires put-steps-requires same-length returns)

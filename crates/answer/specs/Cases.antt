@@ -1,0 +1,44 @@
+-- Cases of the program, computed: the paper's whole output for 5 × (3 + 2), a register below zero, and inputs whose byte count fits
+-- nothing. Assumes nothing.
+use Prim.Native.Nat.{ℕ}
+use mathlib.Core.Path.{_≡_, refl}
+use mathlib.Core.List.{List, [], _∷_, _++_}
+use lib.ListN.{replicate}
+use Rattle.rules.specs.Refusals.{reason-number, refusal-number}
+use Rattle.rules.specs.Kinds.{kind-of, operand-fits}
+use Rattle.rules.specs.Reader.{node, read-expression, read-many, read-formal, read-command, read-root, nodes-of, read}
+use Rattle.rules.specs.Checker.{meaning-of, expression-code, expression-codes, has-name, shares-name, distinct, with-formals, command-ok, register-scope, root-is}
+use Rattle.rules.specs.Integers.{compute, compare, equal-integers, equal-truths, combine}
+use Rattle.rules.specs.States.{lookup, join, find, store-at, in-set, remove}
+use Rattle.rules.specs.Rules.{put-actuals, match-formals}
+use Rattle.rules.specs.Fire.{fire-expression, fire-command, fire-operator, fire-mark, fire-item, fire}
+use Rattle.rules.specs.Run.{priority, holds, first-holding, judge, run}
+use Rattle.rules.specs.Engine.{check-image, register-environment, register-store, start, registers-from, engine}
+use Rattle.integers.specs.Words.{integer-of, integers-of}
+use Rattle.answer.specs.Decimal.{ascii, digits-within, decimal, integer}
+use Rattle.answer.specs.Numbers.{little-endian, numbers}
+use Rattle.answer.specs.Program.{outcome-text, register-text, register-lines, page, run-input, call-input, program}
+
+-- Words below 256, four bytes each.
+abbrev words : List ℕ → List ℕ
+words [] = []
+words (w ∷ ws) = w ∷ 0 ∷ 0 ∷ 0 ∷ words ws
+
+-- 5 × (3 + 2)
+abbrev product : List ℕ
+product = words (5 ∷ 0 ∷ 6 ∷ 1 ∷ 4 ∷ 1 ∷ 1 ∷ 0 ∷ 5 ∷ 0 ∷ 3 ∷ 2 ∷ [])
+
+-- register 0 = −7, Div(Id 0, 2)
+abbrev quotient : List ℕ
+quotient = words (3 ∷ 1 ∷ 7 ∷ 3 ∷ 1 ∷ 0 ∷ 0 ∷ 2 ∷ []) ++ 249 ∷ replicate 7 255
+
+pub record CasesHold : Type 0 where
+  pub a-number : program product ≡ ascii "number 25\nsteps 7\n"
+  pub a-register : program quotient ≡ ascii "number -3\nsteps 4\nregister 0 -7\n"
+  pub no-bytes : program [] ≡ ascii "refused 1 at 0\nsteps 0\n"
+  pub one-byte-more : program (product ++ 0 ∷ []) ≡ ascii "refused 1 at 0\nsteps 0\n"
+  pub no-nodes : program (words (0 ∷ 0 ∷ [])) ≡ ascii "refused 2 at 0\nsteps 0\n"
+
+pub cases-hold : CasesHold
+unfolding program call-input run-input page register-lines register-text outcome-text little-endian numbers integer decimal digits-within integers-of integer-of refusal-number engine check-image read read-root read-command read-expression read-many read-formal node nodes-of kind-of operand-fits root-is register-scope command-ok expression-codes expression-code meaning-of has-name shares-name distinct with-formals start register-environment register-store run judge holds first-holding priority reason-number fire fire-item fire-expression fire-command fire-mark fire-operator compute compare equal-integers equal-truths combine lookup join find store-at in-set remove put-actuals match-formals registers-from
+cases-hold = record { a-number = refl; a-register = refl; no-bytes = refl; one-byte-more = refl; no-nodes = refl }

@@ -1,0 +1,65 @@
+-- What the functions that write an answer do, in the code's words: texts put into an output, and an answer as `run` gives it.
+-- Assumes nothing.
+use Prim.Native.Nat.{ℕ, _+_, _*_, _≤_}
+use mathlib.Core.Path.{_≡_}
+use mathlib.Core.Bool.{Bool, true, cond}
+use mathlib.Core.List.{List, [], _++_}
+use lib.Dec.{ltb}
+use lib.IntN.{ℤ}
+use lib.ListN.{length, take}
+use Rattle.integers.specs.Words.{integer-of}
+use Rattle.engine.specs.declared.Ran.{Ran}
+use Rattle.engine.specs.declared.Ran.the-variants.{Number, Truth, Location, Nothing, Refused}
+use Rattle.answer.specs.Decimal.{ascii, decimal, integer}
+use Rattle.answer.specs.Program.{line, register-lines, page, run-input, program}
+use Rattle.answer.specs.declared.input.Counted.{Counted}
+use Rattle.answer.specs.declared.input.Counted.the-variants as Count
+
+-- A text stands in the output from a place on, behind what stood before that place; and the next place.
+pub record Put (before : List ℕ) (at : ℕ) (text : List ℕ) (next : ℕ) (after : List ℕ) : Type 0 where
+  pub next-is : next ≡ at + length text
+  pub written : take next after ≡ take at before ++ text
+
+-- The same of a text of at most so many bytes.
+pub record PutWithin (most : ℕ) (before : List ℕ) (at : ℕ) (text : List ℕ) (next : ℕ) (after : List ℕ) : Type 0 where
+  pub put : Put before at text next after
+  pub short : next ≤ at + most
+
+unfoldable pub ran-text : Ran → List ℕ
+ran-text (Number w k) = ascii "number " ++ integer (integer-of w)
+ran-text (Truth w k) = ascii "truth " ++ decimal w
+ran-text (Location w k) = ascii "cell " ++ decimal w
+ran-text (Nothing k) = ascii "none"
+ran-text (Refused x p k) = ascii "refused " ++ decimal x ++ ascii " at " ++ decimal p
+
+abbrev pub ran-steps : Ran → ℕ
+ran-steps (Number w k) = k
+ran-steps (Truth w k) = k
+ran-steps (Location w k) = k
+ran-steps (Nothing k) = k
+ran-steps (Refused x p k) = k
+
+abbrev pub ran-shows : Ran → Bool
+ran-shows (Number w k) = true
+ran-shows (Truth w k) = true
+ran-shows (Location w k) = true
+ran-shows (Nothing k) = true
+ran-shows (Refused x p k) = ltb 22 x
+
+unfoldable pub ran-page : Ran → List ℤ → List ℕ
+ran-page r zs = line (ran-text r) ++ line (ascii "steps " ++ decimal (ran-steps r)) ++ cond (ran-shows r) (register-lines 0 zs) []
+
+-- The answer to an input that is refused before its image is read.
+unfoldable pub refusal-page : (number : ℕ) → List ℕ
+refusal-page x = line (ran-text (Refused x 0 0)) ++ line (ascii "steps " ++ decimal 0)
+
+-- What an input's counts come to: they fit its byte count, or it is refused.
+pub record CountsFit (n r : ℕ) (input : List ℕ) : Type 0 where
+  pub few-nodes : n ≤ 2000
+  pub few-registers : r ≤ 16
+  pub bytes : length input ≡ 8 + 8 * n + 8 * r
+  pub answer : program input ≡ page (run-input n r input)
+
+abbrev pub CountAnswer : (input : List ℕ) → Counted → Type 0
+CountAnswer input (Count.Fits n r) = CountsFit n r input
+CountAnswer input (Count.Refused x) = program input ≡ refusal-page x
