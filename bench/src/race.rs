@@ -2,7 +2,7 @@
 
 pub struct Race {
     pub name: &'static str,
-    /// What a time is divided by: the nodes of a check.
+    /// What a time is divided by: the nodes of a check, the steps of a run.
     pub units: u64,
     /// Nanoseconds a call.
     pub engine: f64,

@@ -1,7 +1,7 @@
 //! The engine's C interface as safe functions over slices.
 //!
-//! Nothing is tested before a call: slices of any length are handed over, as a
-//! host may hand them over.
+//! Nothing is tested before a call: slices of any length and any budget are
+//! handed over, as a host may hand them over.
 
 /// What `pi_check` returns. Refusal 0: the image passes, the value is the root's
 /// code or [`COMMAND`], and the place is 0. Otherwise the paper's number and
@@ -17,13 +17,59 @@ pub struct CheckReply {
 /// The value of a root that is a command.
 pub const COMMAND: u64 = 8;
 
+/// What `pi_run` returns. Refusal 0: the run ended normally, the outcome is one
+/// of [`NONE`], [`NUMBER`], [`TRUTH`] and [`CELL`], the value is the number as a
+/// two's complement word, 0 or 1, the cell's number, or 0 for none, and the place
+/// is 0. Otherwise the paper's number and place, and outcome and value are 0.
+#[repr(C)]
+#[derive(Clone, Copy, Debug, PartialEq, Eq)]
+pub struct RunReply {
+    pub refusal: u64,
+    pub outcome: u64,
+    pub value: u64,
+    pub place: u64,
+    pub steps: u64,
+}
+
+/// The outcomes of a run that ended normally.
+pub const NONE: u64 = 0;
+pub const NUMBER: u64 = 1;
+pub const TRUTH: u64 = 2;
+pub const CELL: u64 = 3;
+
 extern "C" {
     fn pi_check(image: *const u32, image_len: usize, work: *mut u64, work_len: usize)
         -> CheckReply;
+
+    fn pi_run(
+        image: *const u32,
+        image_len: usize,
+        registers: *mut u64,
+        registers_len: usize,
+        budget: u64,
+        work: *mut u64,
+        work_len: usize,
+    ) -> RunReply;
 }
 
 /// The engine's answer to an image.
 pub fn check(image: &[u32], work: &mut [u64]) -> CheckReply {
     // Each pointer is its slice's own, and each length its slice's length.
     unsafe { pi_check(image.as_ptr(), image.len(), work.as_mut_ptr(), work.len()) }
+}
+
+/// The engine's run of an image over registers, each a two's complement word.
+pub fn run(image: &[u32], registers: &mut [u64], budget: u64, work: &mut [u64]) -> RunReply {
+    // Each pointer is its slice's own, and each length its slice's length.
+    unsafe {
+        pi_run(
+            image.as_ptr(),
+            image.len(),
+            registers.as_mut_ptr(),
+            registers.len(),
+            budget,
+            work.as_mut_ptr(),
+            work.len(),
+        )
+    }
 }

@@ -5,10 +5,17 @@
 use second::generate::random::Random;
 use std::fmt::LowerHex;
 use std::hint::black_box;
+use std::sync::Once;
 
 /// Words that stand on each side. The number is odd, so that 32-bit words are
 /// not aligned as 64-bit words are.
 const GUARDS: usize = 33;
+
+/// How much freed memory the C library keeps for the next buffers: it takes the
+/// size of a large block that was freed for a measure. Otherwise it gives a slice
+/// back to the system after each call, which takes longer than the call.
+const KEPT_BYTES: usize = 4 << 20;
+static KEPT: Once = Once::new();
 
 /// A word that can be made of any bits.
 pub trait Junk: Copy + Eq + LowerHex {
@@ -51,6 +58,7 @@ impl<T: Junk> Guarded<T> {
 
     /// A slice of so many words of junk.
     pub fn junk(length: usize, random: &mut Random) -> Guarded<T> {
+        KEPT.call_once(|| drop(black_box(Vec::<u8>::with_capacity(KEPT_BYTES))));
         // Long slices are made often; a sum a word is quick.
         let (first, step) = (random.word(), random.word());
         let bits = |index: usize| first.wrapping_add(step.wrapping_mul(index as u64));
@@ -83,7 +91,8 @@ impl<T: Junk> Guarded<T> {
             (" before the slice", &words[..GUARDS], &self.made[..GUARDS]),
             (" behind the slice", &words[end..], &self.made[end..]),
         ];
-        parts.into_iter().find_map(|(part, now, must)| {
+        // Slices that are equal, as nearly all are, are quickly found so.
+        parts.into_iter().filter(|(_, now, must)| now != must).find_map(|(part, now, must)| {
             let index = (0..must.len()).find(|index| now[*index] != must[*index])?;
             let count = (index..must.len()).filter(|index| now[*index] != must[*index]).count();
             Some(format!(

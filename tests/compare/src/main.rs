@@ -1,7 +1,7 @@
 //! The command line: long comparisons by one command.
 
 use compare::difference::Difference;
-use compare::sample::{compare_check, Sample};
+use compare::sample::{compare_check, compare_run, Mixture, Sample, CHECKED, RUN};
 use compare::tally::Tally;
 use second::generate::Family;
 use std::process::ExitCode;
@@ -15,6 +15,9 @@ usage: compare COMMAND
   check COUNT SEED           compares the check of COUNT images made from SEED,
                              SEED + 1, and so on, of all families
   check COUNT SEED FAMILY    the same, of one family
+  run COUNT SEED             compares the runs of COUNT images: a short run at
+                             every budget, a long one at some
+  run COUNT SEED FAMILY      the same, of one family
   help                       prints this
 
 Progress goes to standard error. The first difference is printed, as a tree and as
@@ -30,8 +33,9 @@ const PROGRESS: Duration = Duration::from_secs(2);
 /// Compares one sample and counts what it was answered.
 type Comparison = fn(Sample, &mut Tally) -> Result<(), Box<Difference>>;
 
-/// The comparisons by their command.
-const COMPARISONS: [(&str, Comparison); 1] = [("check", compare_check)];
+/// The comparisons by their command, each with the mixture of families it takes.
+const COMPARISONS: [(&str, Comparison, &Mixture); 2] =
+    [("check", compare_check, &CHECKED), ("run", compare_run, &RUN)];
 
 /// A command line, understood.
 enum Request {
@@ -42,8 +46,12 @@ enum Request {
 struct Samples {
     count: u64,
     seed: u64,
-    /// One family, or a mixture of all.
-    family: Option<Family>,
+    source: Source,
+}
+
+enum Source {
+    One(Family),
+    All(&'static Mixture),
 }
 
 fn main() -> ExitCode {
@@ -70,8 +78,8 @@ fn understand(arguments: &[String]) -> Result<Request, String> {
         ["help" | "--help" | "-h"] => return Ok(Request::Help),
         [command, rest @ ..] => (*command, rest),
     };
-    let Some((name, comparison)) = COMPARISONS.into_iter().find(|(name, _)| *name == command)
-    else {
+    let found = COMPARISONS.into_iter().find(|(name, ..)| *name == command);
+    let Some((name, comparison, mixture)) = found else {
         return Err(format!("no command {command}; `compare help` lists them"));
     };
     let (count, seed, family) = match rest {
@@ -79,14 +87,14 @@ fn understand(arguments: &[String]) -> Result<Request, String> {
         [count, seed, family] => (count, seed, Some(*family)),
         _ => return Err(format!("{name} takes COUNT, SEED and FAMILY or not; see `compare help`")),
     };
-    let family = match family {
-        None => None,
-        Some(family) => Some(
+    let source = match family {
+        None => Source::All(mixture),
+        Some(family) => Source::One(
             Family::named(family)
                 .ok_or_else(|| format!("no family {family}; `compare help` lists them"))?,
         ),
     };
-    let samples = Samples { count: number(count, "COUNT")?, seed: number(seed, "SEED")?, family };
+    let samples = Samples { count: number(count, "COUNT")?, seed: number(seed, "SEED")?, source };
     Ok(Request::Compare { name, comparison, samples })
 }
 
@@ -97,9 +105,9 @@ fn number(text: &str, what: &str) -> Result<u64, String> {
 impl Samples {
     fn sample(&self, index: u64) -> Sample {
         let seed = self.seed.wrapping_add(index);
-        match self.family {
-            Some(family) => Sample { family, seed },
-            None => Sample::mixed(seed),
+        match self.source {
+            Source::One(family) => Sample { family, seed },
+            Source::All(mixture) => Sample::mixed(seed, mixture),
         }
     }
 }

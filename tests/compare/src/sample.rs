@@ -1,16 +1,26 @@
 //! Calls made from the second interpreter's generators, the same for the same
 //! family and seed everywhere.
 
-use crate::check;
 use crate::difference::Difference;
+use crate::run::Ran;
 use crate::tally::Tally;
-use second::engine::WORK_WORDS;
-use second::generate::random::Random;
+use crate::{check, run};
+use second::engine::{MOST_BUDGET, WORK_WORDS};
+use second::generate::random::{starting_value, Random};
 use second::generate::{Case, Family};
+use second::refusal;
 
 /// Lengths of the work slice that are enough, and that are not.
 pub const ENOUGH: [usize; 4] = [WORK_WORDS, WORK_WORDS, WORK_WORDS + 1, WORK_WORDS + 1_000];
 pub const TOO_SHORT: [usize; 3] = [0, 1, WORK_WORDS - 1];
+/// Budgets that are refused.
+pub const TOO_GREAT: [u64; 4] = [MOST_BUDGET + 1, 2 * MOST_BUDGET, 1 << 32, u64::MAX];
+
+/// A run of so many steps at most is compared at every budget.
+pub const SHORT_RUN: u64 = 300;
+/// A run that has not ended after so many steps is taken for an endless one. Few
+/// of them are compared at the greatest budget.
+pub const LONG_RUN: u64 = 20_000;
 
 /// One case of a generator.
 #[derive(Clone, Copy, Debug)]
@@ -19,9 +29,11 @@ pub struct Sample {
     pub seed: u64,
 }
 
-/// How many of each hundred samples of a mixture are of which family. Large
-/// cases take the second interpreter longest and are seldom.
-const MIXTURE: [(usize, Family); 10] = [
+/// How many of each hundred samples are of which family.
+pub type Mixture = [(usize, Family); 10];
+
+/// For checks. Large cases take the second interpreter longest and are seldom.
+pub const CHECKED: Mixture = [
     (20, Family::Small),
     (6, Family::Medium),
     (2, Family::Large),
@@ -34,10 +46,24 @@ const MIXTURE: [(usize, Family); 10] = [
     (6, Family::Host),
 ];
 
+/// For runs: more of what passes the checker.
+pub const RUN: Mixture = [
+    (36, Family::Small),
+    (10, Family::Medium),
+    (4, Family::Large),
+    (18, Family::Faulty),
+    (8, Family::Limits),
+    (8, Family::Damaged),
+    (6, Family::Shaped),
+    (2, Family::Plausible),
+    (2, Family::Words),
+    (6, Family::Host),
+];
+
 impl Sample {
     /// The sample of this seed in a mixture of all families.
-    pub fn mixed(seed: u64) -> Sample {
-        let family = *Random::new(!seed).weighted(&MIXTURE);
+    pub fn mixed(seed: u64, mixture: &Mixture) -> Sample {
+        let family = *Random::new(!seed).weighted(mixture);
         Sample { family, seed }
     }
 
@@ -45,7 +71,7 @@ impl Sample {
         self.family.case(self.seed)
     }
 
-    /// The source of what surrounds the call: lengths, junk.
+    /// The source of what surrounds the call: lengths, budgets, junk.
     pub fn random(self) -> Random {
         Random::new(self.seed ^ 0x5eed)
     }
@@ -54,6 +80,13 @@ impl Sample {
     pub fn family_name(self) -> &'static str {
         let row = Family::ALL.iter().find(|(_, family)| *family == self.family);
         row.expect("every family is listed").0
+    }
+
+    /// A difference, with this sample named in its call.
+    fn named(self, mut difference: Box<Difference>) -> Box<Difference> {
+        let Sample { seed, .. } = self;
+        difference.call += &format!(", {} {seed}", self.family_name());
+        difference
     }
 }
 
@@ -70,13 +103,76 @@ pub fn compare_check(sample: Sample, tally: &mut Tally) -> Result<(), Box<Differ
         lengths.push(*random.pick(&TOO_SHORT));
     }
     for length in lengths {
-        let answer = check::compare(&case.image, length, random).map_err(|mut difference| {
-            let Sample { seed, .. } = sample;
-            difference.call += &format!(", {} {seed}", sample.family_name());
-            difference
-        })?;
+        let answer = check::compare(&case.image, length, random)
+            .map_err(|difference| sample.named(difference))?;
         let (refusal, words) = check::in_words(answer);
         tally.count(refusal, words);
     }
     Ok(())
+}
+
+/// Compares the runs of one sample: a short run at every budget, a longer one at
+/// its last budgets and at random ones, an endless one now and then at the
+/// greatest; and the case's own faults of the host, or sometimes another.
+pub fn compare_run(sample: Sample, tally: &mut Tally) -> Result<(), Box<Difference>> {
+    let random = &mut sample.random();
+    let own = sample.case();
+    let mut compare = |case: &Case, random: &mut Random| -> Result<Ran, Box<Difference>> {
+        let ran =
+            run::compare_narrowing(case, random).map_err(|difference| sample.named(difference))?;
+        let (refusal, words) = run::in_words(ran.reply);
+        tally.count(refusal, words);
+        Ok(ran)
+    };
+    if own.budget > MOST_BUDGET || own.work_length < WORK_WORDS {
+        compare(&own, random)?;
+    }
+    let work_length = *random.pick(&ENOUGH);
+    let whole = compare(&Case { budget: LONG_RUN, work_length, ..own.clone() }, random)?;
+    for budget in budgets(&whole, random) {
+        compare(&Case { budget, work_length: WORK_WORDS, ..own.clone() }, random)?;
+    }
+    if random.chance(1, 8) {
+        compare(&with_a_fault(own, random), random)?;
+    }
+    Ok(())
+}
+
+/// The budgets for a run that came to this with [`LONG_RUN`] steps.
+fn budgets(whole: &Ran, random: &mut Random) -> Vec<u64> {
+    let steps = whole.reply.steps;
+    match whole.refused() {
+        1..=refusal::WORK => vec![0, MOST_BUDGET],
+        refusal::STEPS => {
+            // Small ones as often as great ones.
+            let mut any = || {
+                let most = LONG_RUN >> random.below(12);
+                random.below(most as usize) as u64
+            };
+            let mut all = vec![0, any(), any(), any(), any()];
+            if random.chance(1, 12) {
+                all.push(MOST_BUDGET);
+            }
+            all
+        }
+        _ if steps <= SHORT_RUN => (0..=steps + 1).chain([MOST_BUDGET]).collect(),
+        _ => {
+            let mut any = || random.below(steps as usize) as u64;
+            vec![0, any(), any(), any(), any(), steps - 1, steps, steps + 1, MOST_BUDGET]
+        }
+    }
+}
+
+/// The call with one more fault of the host.
+fn with_a_fault(mut case: Case, random: &mut Random) -> Case {
+    match random.below(3) {
+        0 => case.work_length = *random.pick(&TOO_SHORT),
+        1 => case.budget = *random.pick(&TOO_GREAT),
+        _ => {
+            let other = random.below(18);
+            let count = if other == case.registers.len() { 18 } else { other };
+            case.registers = (0..count).map(|_| starting_value(random, false)).collect();
+        }
+    }
+    case
 }

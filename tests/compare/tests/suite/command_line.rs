@@ -20,11 +20,22 @@ fn check_counts_what_it_compared() {
 }
 
 #[test]
-fn check_takes_each_family() {
+fn run_counts_what_it_compared() {
+    let (output, _, status) = compare(&["run", "100", "9"]);
+    assert_eq!(status, Some(0), "{output}");
+    assert!(output.contains("run: 100 images, "), "{output}");
+    assert!(output.contains(" calls, no difference"), "{output}");
+    assert!(output.contains("  none\n") && output.contains("  refused 30\n"), "{output}");
+}
+
+#[test]
+fn each_command_takes_each_family() {
     for (family, _) in second::generate::Family::ALL {
-        let (output, _, status) = compare(&["check", "3", "18446744073709551614", family]);
-        assert_eq!(status, Some(0), "{output}");
-        assert!(output.contains("check: 3 images, "), "{output}");
+        for command in ["check", "run"] {
+            let (output, _, status) = compare(&[command, "3", "18446744073709551614", family]);
+            assert_eq!(status, Some(0), "{output}");
+            assert!(output.contains(&format!("{command}: 3 images, ")), "{output}");
+        }
         assert!(compare(&["help"]).0.contains(family));
     }
 }
@@ -34,17 +45,18 @@ fn help_goes_to_standard_output() {
     for word in ["help", "--help", "-h"] {
         let (output, error, status) = compare(&[word]);
         assert_eq!((status, error.as_str()), (Some(0), ""));
-        assert!(output.contains("check COUNT SEED"));
+        assert!(output.contains("check COUNT SEED") && output.contains("run COUNT SEED"));
     }
 }
 
 #[test]
 fn bad_usage_says_what_is_wrong() {
-    let cases: [(&[&str], &str); 8] = [
+    let cases: [(&[&str], &str); 9] = [
         (&[], "no command"),
         (&["compare"], "no command compare"),
         (&["check"], "check takes COUNT, SEED"),
         (&["check", "1"], "check takes COUNT, SEED"),
+        (&["run", "1"], "run takes COUNT, SEED"),
         (&["check", "1", "2", "small", "4"], "check takes COUNT, SEED"),
         (&["check", "many", "2"], "COUNT must be a whole number, not many"),
         (&["check", "1", "-2"], "SEED must be a whole number, not -2"),

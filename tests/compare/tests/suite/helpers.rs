@@ -1,11 +1,14 @@
-//! What the tests share: one comparison that must find nothing, and the paper's
+//! What the tests share: comparisons that must find nothing, and the paper's
 //! images.
 
-use compare::check;
+use compare::run::Ran;
+use compare::sample::SHORT_RUN;
+use compare::{check, run};
 use second::build::*;
-use second::engine::{Answer, WORK_WORDS};
+use second::engine::{Answer, Outcome, MOST_BUDGET, WORK_WORDS};
 use second::generate::random::Random;
-use second::tree::{Place, Root};
+use second::generate::Case;
+use second::tree::{Command, Name, Place, Root};
 use second::Refusal;
 
 /// The answer that both give, with work words enough.
@@ -21,6 +24,57 @@ pub fn agreed_at(image: &[u32], work_length: usize, random: &mut Random) -> Answ
 /// The answer that both give to a tree with this many registers.
 pub fn agreed_tree(registers: u32, root: impl Into<Root>) -> Answer {
     agreed(&image(registers, root), &mut Random::new(0))
+}
+
+/// What comes of a call of `pi_run` for both.
+pub fn agreed_run(case: &Case, random: &mut Random) -> Ran {
+    run::compare_narrowing(case, random).unwrap_or_else(|difference| panic!("{difference}"))
+}
+
+/// What comes of the run of a tree, with one register a start, at the greatest
+/// budget; a short run is compared at every budget.
+pub fn agreed_tree_run(root: impl Into<Root>, starts: &[i64]) -> Ran {
+    let mut case = with_starts(image(starts.len() as u32, root), starts);
+    let random = &mut Random::new(0);
+    let whole = agreed_run(&case, random);
+    for budget in 0..=whole.reply.steps.min(SHORT_RUN) {
+        case.budget = budget;
+        agreed_run(&case, random);
+    }
+    whole
+}
+
+/// The registers after a run that must end normally, compared as above.
+pub fn registers_after(root: impl Into<Root>, starts: &[i64]) -> Vec<i64> {
+    let ran = agreed_tree_run(root, starts);
+    assert_eq!(ran.reply.outcome, Outcome::None);
+    ran.registers
+}
+
+/// Commands one after another, under CSeqs as shallow as can be.
+pub fn in_turn(mut all: Vec<Command>) -> Command {
+    if all.len() == 1 {
+        return all.remove(0);
+    }
+    let second = all.split_off(all.len() / 2);
+    cseq(in_turn(all), in_turn(second))
+}
+
+/// Commands that gather the values of names, in this order, in register 0: three
+/// times what was there, and the next.
+pub fn gather(names: &[Name]) -> Command {
+    let add = |name: &Name| assign(0, sum(mul(id(0), num(3)), id(*name)));
+    in_turn(names.iter().map(add).collect())
+}
+
+/// What [`gather`] leaves if the names have these values and there was 0.
+pub fn gathered(values: impl IntoIterator<Item = i64>) -> i64 {
+    values.into_iter().fold(0, |total, value| 3 * total + value)
+}
+
+/// A call with the greatest budget and work words enough.
+pub fn with_starts(image: Vec<u32>, starts: &[i64]) -> Case {
+    Case { image, registers: starts.to_vec(), budget: MOST_BUDGET, work_length: WORK_WORDS }
 }
 
 pub fn refused(number: u32, place: Place) -> Answer {

@@ -1,12 +1,7 @@
-//! The engine held against the second interpreter: a file a subject.
+//! The engine held against the second interpreter: a folder a function of the
+//! engine, a file a subject.
 
+mod check;
 mod command_line;
-mod differences;
-mod every_change;
-mod every_depth;
-mod every_small_image;
-mod every_type;
-mod families;
 mod helpers;
-mod paper;
-mod work_words;
+mod run;

@@ -1,6 +1,6 @@
 //! Every family of the generators, tens of thousands of images in all.
 
-use compare::sample::{compare_check, Sample};
+use compare::sample::{compare_check, Sample, CHECKED};
 use compare::tally::Tally;
 use second::generate::Family;
 
@@ -87,7 +87,7 @@ fn host() {
 fn mixture() {
     let mut tally = Tally::default();
     for seed in 0..5_000 {
-        compare_check(Sample::mixed(seed), &mut tally)
+        compare_check(Sample::mixed(seed, &CHECKED), &mut tally)
             .unwrap_or_else(|difference| panic!("{difference}"));
     }
     reaches(&tally, &[0, 1, 2, 3, 4, 5, 6, 10, 11, 12, 13, 14, 22], 1);

@@ -1,0 +1,82 @@
+//! What the cases share, as in the second interpreter's own suite: run an image,
+//! say what must come of it. The answer is the one that the engine and the second
+//! interpreter give alike.
+
+use compare::run::Ran;
+use compare::sample::SHORT_RUN;
+use compare::{check, run, Difference};
+use second::build::image;
+use second::engine::{Answer, Outcome, Reply, MOST_BUDGET, WORK_WORDS};
+use second::generate::random::Random;
+use second::generate::Case;
+use second::tree::{Place, Root};
+use second::Refusal;
+
+/// The reply and the registers after a run. It is compared at this budget and at
+/// lower ones: every one of a short run, the last ones and some more of a long.
+pub fn run_at(image: &[u32], starts: &[i64], budget: u64) -> (Reply, Vec<i64>) {
+    let random = &mut Random::new(budget);
+    let case = Case {
+        image: image.to_vec(),
+        registers: starts.to_vec(),
+        budget,
+        work_length: WORK_WORDS + random.below(3),
+    };
+    let Ran { reply, registers } = agreed(run::compare(&case, random));
+    let lower: Vec<u64> = match reply.steps {
+        steps @ 0..=SHORT_RUN => (0..=steps).collect(),
+        steps => {
+            let any = (0..8).map(|_| random.below(steps as usize) as u64);
+            any.chain(steps - 8..=steps).collect()
+        }
+    };
+    for budget in lower {
+        agreed(run::compare(&Case { budget, ..case.clone() }, random));
+    }
+    (reply, registers)
+}
+
+/// Run a tree with one register a start, at the greatest budget.
+pub fn run_tree(root: impl Into<Root>, starts: &[i64]) -> (Reply, Vec<i64>) {
+    run_at(&image(starts.len() as u32, root), starts, MOST_BUDGET)
+}
+
+/// The registers after a run that must end normally.
+pub fn registers_after(root: impl Into<Root>, starts: &[i64]) -> Vec<i64> {
+    let (reply, registers) = run_tree(root, starts);
+    assert_eq!(reply.outcome, Outcome::None);
+    registers
+}
+
+/// The outcome and steps of a tree's run.
+pub fn outcome(root: impl Into<Root>, starts: &[i64]) -> (Outcome, u64) {
+    let (reply, _) = run_tree(root, starts);
+    (reply.outcome, reply.steps)
+}
+
+/// The refusal and the steps of a run withheld for this reason.
+pub fn withheld(number: u32, steps: u64) -> Reply {
+    Reply { outcome: refused(number, 0), steps }
+}
+
+pub fn refused(number: u32, place: Place) -> Outcome {
+    Outcome::Refused(Refusal::new(number, place))
+}
+
+/// The checker's answer to an image, given work words enough.
+pub fn checked(image: &[u32]) -> Answer {
+    agreed(check::compare(image, WORK_WORDS, &mut Random::new(0)))
+}
+
+/// The checker's answer to a tree with this many registers.
+pub fn checked_tree(registers: u32, root: impl Into<Root>) -> Answer {
+    checked(&image(registers, root))
+}
+
+pub fn answer_refused(number: u32, place: Place) -> Answer {
+    Answer::Refused(Refusal::new(number, place))
+}
+
+fn agreed<T>(compared: Result<T, Box<Difference>>) -> T {
+    compared.unwrap_or_else(|difference| panic!("{difference}"))
+}

@@ -1,0 +1,21 @@
+//! The cases written by hand for the second interpreter, with the engine beside
+//! it: the same files, over helpers that compare every call both ways.
+
+mod helpers;
+
+#[path = "../../../second/tests/suite/arithmetic.rs"]
+mod arithmetic;
+#[path = "../../../second/tests/suite/blocks.rs"]
+mod blocks;
+#[path = "../../../second/tests/suite/budget.rs"]
+mod budget;
+#[path = "../../../second/tests/suite/calls.rs"]
+mod calls;
+#[path = "../../../second/tests/suite/cases.rs"]
+mod cases;
+#[path = "../../../second/tests/suite/limits.rs"]
+mod limits;
+#[path = "../../../second/tests/suite/shape.rs"]
+mod shape;
+#[path = "../../../second/tests/suite/types.rs"]
+mod types;

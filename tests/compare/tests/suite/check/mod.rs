@@ -1,0 +1,10 @@
+//! Checks: `pi_check` held against the second interpreter.
+
+mod differences;
+mod every_change;
+mod every_depth;
+mod every_small_image;
+mod every_type;
+mod families;
+mod paper;
+mod work_words;

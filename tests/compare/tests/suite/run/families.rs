@@ -1,0 +1,96 @@
+//! Every family of the generators: some hundred thousand runs in all, short ones
+//! at every budget.
+
+use compare::sample::{compare_run, Sample, RUN};
+use compare::tally::Tally;
+use second::generate::Family;
+
+/// Compares the runs of so many images; the tally says what came up.
+fn family(family: Family, count: u64) -> Tally {
+    let mut tally = Tally::default();
+    for seed in 0..count {
+        let sample = Sample { family, seed: 0xfeed_0000 + seed };
+        compare_run(sample, &mut tally).unwrap_or_else(|difference| panic!("{difference}"));
+    }
+    assert!(tally.calls() >= 2 * count);
+    tally
+}
+
+/// Each of these came up, so often at least.
+fn reaches(tally: &Tally, refusals: &[u32], often: u64) {
+    for number in refusals {
+        assert!(tally.refused(*number) >= often, "{number} in\n{}", tally.text());
+    }
+}
+
+#[test]
+fn small() {
+    let tally = family(Family::Small, 3_000);
+    reaches(&tally, &[0, 20, 21, 22, 30, 31, 32], 50);
+}
+
+#[test]
+fn medium() {
+    let tally = family(Family::Medium, 500);
+    reaches(&tally, &[0, 20, 21, 22, 30, 31, 32], 5);
+}
+
+#[test]
+fn large() {
+    let tally = family(Family::Large, 200);
+    reaches(&tally, &[0, 30, 31, 32], 5);
+}
+
+#[test]
+fn faulty() {
+    let tally = family(Family::Faulty, 2_000);
+    reaches(&tally, &[0, 30, 31, 32], 200);
+}
+
+#[test]
+fn limits() {
+    let tally = family(Family::Limits, 600);
+    reaches(&tally, &[0, 2, 6, 30, 33, 34, 35, 36], 20);
+}
+
+#[test]
+fn damaged() {
+    let tally = family(Family::Damaged, 3_000);
+    reaches(&tally, &[0, 1, 2, 3, 4, 5, 6, 10, 11, 12, 13, 14, 20, 21, 22, 30], 10);
+}
+
+#[test]
+fn shaped() {
+    let tally = family(Family::Shaped, 3_000);
+    reaches(&tally, &[0, 10, 11, 21, 22, 30], 20);
+}
+
+#[test]
+fn plausible() {
+    let tally = family(Family::Plausible, 3_000);
+    reaches(&tally, &[0, 1, 2, 3, 4, 5, 21, 22], 10);
+}
+
+#[test]
+fn words() {
+    let tally = family(Family::Words, 1_000);
+    reaches(&tally, &[1, 2, 21, 22], 10);
+}
+
+#[test]
+fn host() {
+    let tally = family(Family::Host, 2_000);
+    reaches(&tally, &[0, 1, 2, 3, 4, 5, 10, 11, 20, 21, 22, 30], 20);
+}
+
+/// The mixture that long comparisons are made of.
+#[test]
+fn mixture() {
+    let mut tally = Tally::default();
+    for seed in 0..1_000 {
+        compare_run(Sample::mixed(seed, &RUN), &mut tally)
+            .unwrap_or_else(|difference| panic!("{difference}"));
+    }
+    reaches(&tally, &[0, 1, 2, 3, 4, 5, 6, 10, 11, 20, 21, 22], 1);
+    reaches(&tally, &[30, 31, 32, 33, 34, 35, 36], 1);
+}

@@ -1,0 +1,13 @@
+//! Runs: `pi_run` held against the second interpreter.
+
+mod declarations;
+mod differences;
+mod every_change;
+mod every_operator;
+mod families;
+mod functions;
+mod host;
+mod limits;
+mod loops;
+mod paper;
+mod work_words;

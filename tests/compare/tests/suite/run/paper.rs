@@ -1,0 +1,92 @@
+//! What the paper says of runs, in its own figures and in the engine's numbers,
+//! which are written down here and asked of nobody.
+
+use crate::helpers::*;
+use compare::engine::{self, RunReply, CELL, NONE, NUMBER, TRUTH};
+use compare::run::as_words;
+use second::build::*;
+use second::engine::{MOST_BUDGET, WORK_WORDS};
+use second::generate::random::Random;
+
+/// The engine's reply and the registers after it.
+fn run(image: &[u32], starts: &[i64], budget: u64) -> (RunReply, Vec<i64>) {
+    let mut registers = as_words(starts);
+    let mut work = vec![u64::MAX; WORK_WORDS];
+    let reply = engine::run(image, &mut registers, budget, &mut work);
+    assert!(work.iter().all(|word| *word == 0));
+    (reply, registers.into_iter().map(|word| word as i64).collect())
+}
+
+fn ended(outcome: u64, value: i64, steps: u64) -> RunReply {
+    RunReply { refusal: 0, outcome, value: value as u64, place: 0, steps }
+}
+
+fn no(refusal: u64, place: u64, steps: u64) -> RunReply {
+    RunReply { refusal, outcome: 0, value: 0, place, steps }
+}
+
+/// The image of a case.
+fn case(wanted: &str) -> Vec<u32> {
+    let case = papers_images().into_iter().find(|(case, ..)| *case == wanted);
+    case.expect("a case of the paper").1
+}
+
+#[test]
+fn cases_a_to_l() {
+    type Row = (&'static str, &'static [i64], u64, RunReply, &'static [i64]);
+    const MOST: u64 = MOST_BUDGET;
+    let table: [Row; 18] = [
+        ("A", &[], MOST, ended(NUMBER, 25, 7), &[]),
+        ("A", &[], 6, no(30, 0, 6), &[]),
+        ("A", &[], 7, ended(NUMBER, 25, 7), &[]),
+        ("A", &[], 0, no(30, 0, 0), &[]),
+        ("D", &[], MOST, ended(NUMBER, -2, 4), &[]),
+        ("E", &[], MOST, no(31, 0, 3), &[]),
+        ("F", &[-7], MOST, ended(NUMBER, -3, 4), &[-7]),
+        ("G", &[1, 3], MOST, ended(NONE, 0, 71), &[6, 0]),
+        ("G", &[1, 20], MOST, ended(NONE, 0, 428), &[2_432_902_008_176_640_000, 0]),
+        ("G", &[1, 21], MOST, no(32, 0, 391), &[8_515_157_028_618_240_000, 3]),
+        ("H", &[5], MOST, ended(NONE, 0, 14), &[10]),
+        ("I", &[0], MOST, ended(NONE, 0, 21), &[7]),
+        ("J", &[9], MOST, ended(NONE, 0, 14), &[10]),
+        ("K", &[9], MOST, no(13, 4, 0), &[9]),
+        ("L", &[], MOST, no(10, 7, 0), &[]),
+        ("G", &[1, 3], 71, ended(NONE, 0, 71), &[6, 0]),
+        ("G", &[1, 3], 70, no(30, 0, 70), &[6, 0]),
+        ("G", &[1, 3], 10, no(30, 0, 10), &[1, 3]),
+    ];
+    for (name, starts, budget, reply, registers) in table {
+        let what = format!("case {name}, registers {starts:?}, budget {budget}");
+        assert_eq!(run(&case(name), starts, budget), (reply, registers.to_vec()), "{what}");
+    }
+}
+
+#[test]
+fn each_sort_of_outcome() {
+    let outcome = |image: Vec<u32>, starts: &[i64]| run(&image, starts, MOST_BUDGET).0;
+    assert_eq!(outcome(image(0, num(u32::MAX)), &[]), ended(NUMBER, u32::MAX.into(), 1));
+    assert_eq!(outcome(image(1, id(0)), &[i64::MIN]), ended(NUMBER, i64::MIN, 1));
+    assert_eq!(outcome(image(1, id(0)), &[-1]), ended(NUMBER, -1, 1));
+    assert_eq!(outcome(image(0, num(0)), &[]), ended(NUMBER, 0, 1));
+    assert_eq!(outcome(image(0, boo(false)), &[]), ended(TRUTH, 0, 1));
+    assert_eq!(outcome(image(0, boo(true)), &[]), ended(TRUTH, 1, 1));
+    assert_eq!(outcome(image(1, deref(0)), &[7]), ended(CELL, 0, 1));
+    assert_eq!(outcome(image(16, deref(15)), &[7; 16]), ended(CELL, 15, 1));
+    assert_eq!(outcome(image(1, assign(0, num(1))), &[7]), ended(NONE, 0, 3));
+}
+
+/// The paper's images at every budget, against the second interpreter.
+#[test]
+fn at_every_budget() {
+    for (_, image, _) in papers_images() {
+        for start in [0, 1, 3, 9, -7, 21, i64::MAX, i64::MIN] {
+            let starts = vec![start; image[1] as usize];
+            // Up to 21 rounds and beyond the end.
+            for budget in 0..=460 {
+                let mut case = with_starts(image.clone(), &starts);
+                case.budget = budget;
+                agreed_run(&case, &mut Random::new(budget));
+            }
+        }
+    }
+}
