@@ -1,9 +1,8 @@
 //! Every operator on every two of many notable integers, and on truths.
 
-use crate::helpers::{agreed_tree_run, with_starts};
-use compare::run::compare;
+use crate::helpers::{agreed_run, agreed_tree_run, with_starts};
 use second::build::*;
-use second::engine::Outcome;
+use second::engine::{Outcome, Reply};
 use second::generate::random::Random;
 use second::tree::Operator::{self, *};
 
@@ -49,14 +48,11 @@ fn of_two_integers() {
         for left in &notable {
             for right in &notable {
                 case.registers = vec![*left, *right];
-                let ran = compare(&case, random).unwrap_or_else(|found| panic!("{found}"));
-                let (outcome, steps) = match result(operator, *left, *right) {
-                    Ok(outcome) => (Some(outcome), 4),
-                    Err(_) => (None, 3),
-                };
-                let refused = result(operator, *left, *right).err().unwrap_or(0);
-                assert_eq!((ran.refused(), ran.reply.steps), (refused, steps));
-                assert!(outcome.is_none_or(|outcome| outcome == ran.reply.outcome));
+                let ran = agreed_run(&case, random);
+                match result(operator, *left, *right) {
+                    Ok(outcome) => assert_eq!(ran.reply, Reply { outcome, steps: 4 }),
+                    Err(number) => assert_eq!((ran.refused(), ran.reply.steps), (number, 3)),
+                }
                 assert_eq!(ran.registers, [*left, *right]);
             }
         }
@@ -74,7 +70,7 @@ fn of_an_assigns_value() {
         for left in &notable {
             for right in &notable {
                 case.registers = vec![*left, *right];
-                let ran = compare(&case, random).unwrap_or_else(|found| panic!("{found}"));
+                let ran = agreed_run(&case, random);
                 let first = match result(operator, *left, *right) {
                     Ok(Outcome::Number(stored)) => stored,
                     _ => *left,

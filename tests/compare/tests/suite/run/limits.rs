@@ -23,14 +23,17 @@ fn run(tower: &Tower, random: &mut Random) -> Ran {
     whole
 }
 
-/// How often each refusal from 33 on came up, and in how many runs none.
+/// How many runs ended normally, and how many with 33 to 36.
 #[derive(Debug, Default, PartialEq)]
 struct Ends([usize; 5]);
 
 impl Ends {
     fn count(&mut self, ran: &Ran) {
-        let kind = ran.refused().checked_sub(32).unwrap_or(0);
-        self.0[kind as usize] += 1;
+        match ran.refused() {
+            0 => self.0[0] += 1,
+            refusal @ 33..=36 => self.0[refusal as usize - 32] += 1,
+            _ => {}
+        }
     }
 
     /// Whether some runs ended normally, and some with each of these.

@@ -6,6 +6,7 @@ use compare::engine::{self, RunReply, CELL, NONE, NUMBER, TRUTH};
 use compare::run::as_words;
 use second::build::*;
 use second::engine::{MOST_BUDGET, WORK_WORDS};
+use second::generate::random::Random;
 
 /// The engine's reply and the registers after it.
 fn run(image: &[u32], starts: &[i64], budget: u64) -> (RunReply, Vec<i64>) {
@@ -80,10 +81,11 @@ fn at_every_budget() {
     for (_, image, _) in papers_images() {
         for start in [0, 1, 3, 9, -7, 21, i64::MAX, i64::MIN] {
             let starts = vec![start; image[1] as usize];
-            for budget in 0..=500 {
+            // Up to 21 rounds and beyond the end.
+            for budget in 0..=460 {
                 let mut case = with_starts(image.clone(), &starts);
                 case.budget = budget;
-                agreed_run(&case, &mut second::generate::random::Random::new(budget));
+                agreed_run(&case, &mut Random::new(budget));
             }
         }
     }
