@@ -64,7 +64,7 @@ pub fn compare_with(
         return Ok(answer);
     }
     let call = format!("check of {} words, work slice of {work_length} words", image.len());
-    Err(Box::new(Difference { call, faults, image: image.to_vec() }))
+    Err(Box::new(Difference { call, faults, image: image.to_vec(), input: None }))
 }
 
 /// A reply as the paper would say it, with its numbers.

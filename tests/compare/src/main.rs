@@ -1,14 +1,17 @@
 //! The command line: long comparisons by one command.
 
 use compare::difference::Difference;
-use compare::sample::{compare_check, compare_run, Mixture, Sample, CHECKED, RUN};
+use compare::program::Program;
+use compare::sample::{compare_check, compare_program, compare_run};
+use compare::sample::{Mixture, Sample, CHECKED, RUN};
 use compare::tally::Tally;
 use second::generate::Family;
 use std::process::ExitCode;
 use std::time::{Duration, Instant};
 
 const HELP: &str = "\
-compare: holds the engine's static library against the second interpreter
+compare: holds the engine's static library and the program against the second
+interpreter
 
 usage: compare COMMAND
 
@@ -18,11 +21,15 @@ usage: compare COMMAND
   run COUNT SEED             compares the runs of COUNT images: a short run at
                              every budget, a long one at some
   run COUNT SEED FAMILY      the same, of one family
+  program COUNT SEED         compares what the program prints for COUNT images with
+                             starting values, and for inputs made from them: cut,
+                             lengthened, changed
+  program COUNT SEED FAMILY  the same, of one family
   help                       prints this
 
 Progress goes to standard error. The first difference is printed, as a tree and as
 words, and ends the comparison. Exit status: 0 no difference, 1 a difference, 2 bad
-usage.
+usage. The program is target/bin/pirun, or what PIRUN names.
 
 families: small medium large faulty limits damaged shaped plausible words host
 ";
@@ -34,8 +41,13 @@ const PROGRESS: Duration = Duration::from_secs(2);
 type Comparison = fn(Sample, &mut Tally) -> Result<(), Box<Difference>>;
 
 /// The comparisons by their command, each with the mixture of families it takes.
-const COMPARISONS: [(&str, Comparison, &Mixture); 2] =
-    [("check", compare_check, &CHECKED), ("run", compare_run, &RUN)];
+const COMPARISONS: [(&str, Comparison, &Mixture); 3] = [
+    ("check", compare_check, &CHECKED),
+    ("run", compare_run, &RUN),
+    (PROGRAM, compare_program, &RUN),
+];
+/// The comparison that needs the program.
+const PROGRAM: &str = "program";
 
 /// A command line, understood.
 enum Request {
@@ -95,6 +107,9 @@ fn understand(arguments: &[String]) -> Result<Request, String> {
         ),
     };
     let samples = Samples { count: number(count, "COUNT")?, seed: number(seed, "SEED")?, source };
+    if name == PROGRAM {
+        Program::found()?;
+    }
     Ok(Request::Compare { name, comparison, samples })
 }
 

@@ -90,7 +90,7 @@ pub fn compare_with(
         "run of {} words, registers {starts:?}, budget {budget}, work slice of {work_length} words",
         image.len(),
     );
-    Err(Box::new(Difference { call, faults, image: image.clone() }))
+    Err(Box::new(Difference { call, faults, image: image.clone(), input: None }))
 }
 
 /// The same; a difference is told at the budget where it begins to show, as far as

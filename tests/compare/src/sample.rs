@@ -2,12 +2,16 @@
 //! family and seed everywhere.
 
 use crate::difference::Difference;
+use crate::inputs::changed;
+use crate::program::{self, Program};
 use crate::run::Ran;
 use crate::tally::Tally;
 use crate::{check, run};
+use second::encode::program_input;
 use second::engine::{MOST_BUDGET, WORK_WORDS};
 use second::generate::random::{starting_value, Random};
 use second::generate::{Case, Family};
+use second::program::with_budget;
 use second::refusal;
 
 /// Lengths of the work slice that are enough, and that are not.
@@ -46,7 +50,7 @@ pub const CHECKED: Mixture = [
     (6, Family::Host),
 ];
 
-/// For runs: more of what passes the checker.
+/// For runs, the program's too: more of what passes the checker.
 pub const RUN: Mixture = [
     (36, Family::Small),
     (10, Family::Medium),
@@ -136,6 +140,33 @@ pub fn compare_run(sample: Sample, tally: &mut Tally) -> Result<(), Box<Differen
         compare(&with_a_fault(own, random), random)?;
     }
     Ok(())
+}
+
+/// Compares the program on one sample: on its image with the starting values, and
+/// as often as not on an input made from that. One in four endless runs is compared.
+pub fn compare_program(sample: Sample, tally: &mut Tally) -> Result<(), Box<Difference>> {
+    let program = Program::found().unwrap_or_else(|message| panic!("{message}"));
+    let random = &mut sample.random();
+    let Case { image, registers, .. } = sample.case();
+    let mut inputs = vec![program_input(&image, &registers)];
+    if random.chance(1, 2) {
+        inputs.push(changed(&inputs[0], random));
+    }
+    for input in inputs {
+        if endless(&input) && !random.chance(1, 4) {
+            continue;
+        }
+        let output =
+            program::compare(&program, &input).map_err(|difference| sample.named(difference))?;
+        let (refusal, words) = program::in_words(&output);
+        tally.count(refusal, words);
+    }
+    Ok(())
+}
+
+/// Whether the program's run on this input is taken for an endless one.
+fn endless(input: &[u8]) -> bool {
+    with_budget(input, LONG_RUN).starts_with(b"refused 30 ")
 }
 
 /// The budgets for a run that came to this with [`LONG_RUN`] steps.

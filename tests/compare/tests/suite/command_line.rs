@@ -29,9 +29,39 @@ fn run_counts_what_it_compared() {
 }
 
 #[test]
+fn program_counts_what_it_compared() {
+    let (output, _, status) = compare(&["program", "100", "9"]);
+    assert_eq!(status, Some(0), "{output}");
+    assert!(output.contains("program: 100 images, "), "{output}");
+    assert!(output.contains(" calls, no difference"), "{output}");
+    assert!(output.contains("  none\n") && output.contains("  refused 1\n"), "{output}");
+}
+
+/// A program that is not there, and one that prints something else.
+#[test]
+fn another_program_is_named_by_pirun() {
+    let with_program = |path: &str, arguments: &[&str]| {
+        let mut command = Command::new(env!("CARGO_BIN_EXE_compare"));
+        let output = command.args(arguments).env("PIRUN", path).output().expect("it starts");
+        let text = |bytes| String::from_utf8(bytes).expect("text");
+        (text(output.stdout), text(output.stderr), output.status.code())
+    };
+    let (output, error, status) = with_program("/no/program", &["program", "1", "1"]);
+    assert_eq!((status, output.as_str()), (Some(2), ""));
+    assert_eq!(error, "compare: there is no program /no/program: see PIRUN\n");
+    let (output, _, status) = with_program("/bin/cat", &["program", "5", "1", "small"]);
+    assert_eq!(status, Some(1), "{output}");
+    assert!(output.starts_with("program on "), "{output}");
+    assert!(output.contains("\nthe image as a tree:\nregisters "), "{output}");
+    assert!(output.ends_with("this case alone:\ncompare program 1 1 small\n"), "{output}");
+    let (output, _, status) = with_program("/no/program", &["check", "1", "1"]);
+    assert_eq!(status, Some(0), "{output}");
+}
+
+#[test]
 fn each_command_takes_each_family() {
     for (family, _) in second::generate::Family::ALL {
-        for command in ["check", "run"] {
+        for command in ["check", "run", "program"] {
             let (output, _, status) = compare(&[command, "3", "18446744073709551614", family]);
             assert_eq!(status, Some(0), "{output}");
             assert!(output.contains(&format!("{command}: 3 images, ")), "{output}");
@@ -45,18 +75,21 @@ fn help_goes_to_standard_output() {
     for word in ["help", "--help", "-h"] {
         let (output, error, status) = compare(&[word]);
         assert_eq!((status, error.as_str()), (Some(0), ""));
-        assert!(output.contains("check COUNT SEED") && output.contains("run COUNT SEED"));
+        for command in ["check", "run", "program"] {
+            assert!(output.contains(&format!("  {command} COUNT SEED")));
+        }
     }
 }
 
 #[test]
 fn bad_usage_says_what_is_wrong() {
-    let cases: [(&[&str], &str); 9] = [
+    let cases: [(&[&str], &str); 10] = [
         (&[], "no command"),
         (&["compare"], "no command compare"),
         (&["check"], "check takes COUNT, SEED"),
         (&["check", "1"], "check takes COUNT, SEED"),
         (&["run", "1"], "run takes COUNT, SEED"),
+        (&["program", "1"], "program takes COUNT, SEED"),
         (&["check", "1", "2", "small", "4"], "check takes COUNT, SEED"),
         (&["check", "many", "2"], "COUNT must be a whole number, not many"),
         (&["check", "1", "-2"], "SEED must be a whole number, not -2"),

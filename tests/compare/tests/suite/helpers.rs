@@ -1,6 +1,7 @@
 //! What the tests share: comparisons that must find nothing, and the paper's
 //! images.
 
+use compare::program::{self, Program};
 use compare::run::Ran;
 use compare::sample::SHORT_RUN;
 use compare::{check, run};
@@ -44,6 +45,16 @@ pub fn agreed_tree_run(root: impl Into<Root>, starts: &[i64]) -> Ran {
     whole
 }
 
+/// The program, which must be there.
+pub fn the_program() -> Program {
+    Program::found().unwrap_or_else(|message| panic!("{message}"))
+}
+
+/// What the program prints for this input, and the second interpreter too.
+pub fn agreed_output(input: &[u8]) -> String {
+    program::compare(&the_program(), input).unwrap_or_else(|difference| panic!("{difference}"))
+}
+
 /// The registers after a run that must end normally, compared as above.
 pub fn registers_after(root: impl Into<Root>, starts: &[i64]) -> Vec<i64> {
     let ran = agreed_tree_run(root, starts);
@@ -83,6 +94,12 @@ pub fn refused(number: u32, place: Place) -> Answer {
 
 /// Words 5 0, 6 1 4 1 1, 0 5 0 3 2: 5 × (3 + 2).
 pub const CALCULATOR: [u32; 12] = [5, 0, 6, 1, 4, 1, 1, 0, 5, 0, 3, 2];
+
+/// The image of a case of the paper.
+pub fn papers_image(wanted: &str) -> Vec<u32> {
+    let case = papers_images().into_iter().find(|(case, ..)| *case == wanted);
+    case.expect("a case of the paper").1
+}
 
 /// The images of the cases A to L, each with the checker's answer by the paper.
 /// B and C are A's image, and G's three runs are of one image.

@@ -1,7 +1,8 @@
 //! The engine held against the second interpreter: a folder a function of the
-//! engine, a file a subject.
+//! engine and one for the program, a file a subject.
 
 mod check;
 mod command_line;
 mod helpers;
+mod program;
 mod run;

@@ -25,12 +25,6 @@ fn no(refusal: u64, place: u64, steps: u64) -> RunReply {
     RunReply { refusal, outcome: 0, value: 0, place, steps }
 }
 
-/// The image of a case.
-fn case(wanted: &str) -> Vec<u32> {
-    let case = papers_images().into_iter().find(|(case, ..)| *case == wanted);
-    case.expect("a case of the paper").1
-}
-
 #[test]
 fn cases_a_to_l() {
     type Row = (&'static str, &'static [i64], u64, RunReply, &'static [i64]);
@@ -57,7 +51,7 @@ fn cases_a_to_l() {
     ];
     for (name, starts, budget, reply, registers) in table {
         let what = format!("case {name}, registers {starts:?}, budget {budget}");
-        assert_eq!(run(&case(name), starts, budget), (reply, registers.to_vec()), "{what}");
+        assert_eq!(run(&papers_image(name), starts, budget), (reply, registers.to_vec()), "{what}");
     }
 }
 

@@ -1,0 +1,88 @@
+//! Every family of the generators: some three thousand inputs in all, of which a
+//! third are changed ones.
+
+use compare::sample::{compare_program, Sample, RUN};
+use compare::tally::Tally;
+use second::generate::Family;
+
+/// Compares what the program prints for so many images.
+fn family(family: Family, count: u64) -> Tally {
+    let mut tally = Tally::default();
+    for seed in 0..count {
+        let sample = Sample { family, seed: 0xbead_0000 + seed };
+        compare_program(sample, &mut tally).unwrap_or_else(|difference| panic!("{difference}"));
+    }
+    assert!(tally.calls() >= count);
+    tally
+}
+
+/// Each of these came up, so often at least.
+fn reaches(tally: &Tally, refusals: &[u32], often: u64) {
+    for number in refusals {
+        assert!(tally.refused(*number) >= often, "{number} in\n{}", tally.text());
+    }
+}
+
+#[test]
+fn small() {
+    reaches(&family(Family::Small, 400), &[0, 1, 2, 3, 30, 31, 32], 3);
+}
+
+#[test]
+fn medium() {
+    reaches(&family(Family::Medium, 200), &[0, 1, 2, 30, 31, 32], 1);
+}
+
+#[test]
+fn large() {
+    reaches(&family(Family::Large, 100), &[0, 1, 2, 30, 31, 32], 1);
+}
+
+#[test]
+fn faulty() {
+    reaches(&family(Family::Faulty, 200), &[0, 1, 2, 31, 32], 5);
+}
+
+#[test]
+fn limits() {
+    reaches(&family(Family::Limits, 200), &[0, 1, 2, 6, 33, 34, 35, 36], 3);
+}
+
+#[test]
+fn damaged() {
+    reaches(&family(Family::Damaged, 500), &[0, 1, 2, 3, 4, 5, 6, 10, 11, 12, 13, 14], 1);
+}
+
+#[test]
+fn shaped() {
+    reaches(&family(Family::Shaped, 200), &[0, 1, 2, 3, 10, 11], 5);
+}
+
+#[test]
+fn plausible() {
+    reaches(&family(Family::Plausible, 200), &[1, 2, 3, 4, 5], 5);
+}
+
+#[test]
+fn words() {
+    reaches(&family(Family::Words, 100), &[1, 2], 5);
+}
+
+#[test]
+fn host() {
+    reaches(&family(Family::Host, 150), &[0, 1, 2], 5);
+}
+
+/// The mixture that long comparisons are made of.
+#[test]
+fn mixture() {
+    let mut tally = Tally::default();
+    for seed in 0..200 {
+        compare_program(Sample::mixed(seed, &RUN), &mut tally)
+            .unwrap_or_else(|difference| panic!("{difference}"));
+    }
+    reaches(&tally, &[0, 1, 2, 3, 31, 32], 2);
+    for number in 20..=22 {
+        assert_eq!(tally.refused(number), 0);
+    }
+}

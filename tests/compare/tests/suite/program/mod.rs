@@ -1,0 +1,9 @@
+//! The program: what it prints held against the second interpreter, and against
+//! text that is written down here.
+
+mod differences;
+mod families;
+mod inputs;
+mod paper;
+mod refusals;
+mod streams;

@@ -1,0 +1,112 @@
+//! What the paper says of the program, as whole outputs. Its budget is 1,000,000,
+//! so the cases B and C, which are A at other budgets, have no place here.
+
+use crate::helpers::*;
+use second::build::*;
+use second::encode::program_input;
+use second::tree::Root;
+
+fn output_of(root: impl Into<Root>, starts: &[i64]) -> String {
+    agreed_output(&program_input(&image(starts.len() as u32, root), starts))
+}
+
+#[test]
+fn cases_a_to_l() {
+    let table: [(&str, &[i64], &str); 13] = [
+        ("A", &[], "number 25\nsteps 7\n"),
+        ("D", &[], "number -2\nsteps 4\n"),
+        ("E", &[], "refused 31 at 0\nsteps 3\n"),
+        ("F", &[-7], "number -3\nsteps 4\nregister 0 -7\n"),
+        ("G", &[1, 3], "none\nsteps 71\nregister 0 6\nregister 1 0\n"),
+        ("G", &[1, 20], "none\nsteps 428\nregister 0 2432902008176640000\nregister 1 0\n"),
+        (
+            "G",
+            &[1, 21],
+            "refused 32 at 0\nsteps 391\nregister 0 8515157028618240000\nregister 1 3\n",
+        ),
+        ("H", &[5], "none\nsteps 14\nregister 0 10\n"),
+        ("I", &[0], "none\nsteps 21\nregister 0 7\n"),
+        ("I", &[i64::MIN], "none\nsteps 21\nregister 0 7\n"),
+        ("J", &[9], "none\nsteps 14\nregister 0 10\n"),
+        ("K", &[9], "refused 13 at 4\nsteps 0\n"),
+        ("L", &[], "refused 10 at 7\nsteps 0\n"),
+    ];
+    for (case, starts, output) in table {
+        let input = program_input(&papers_image(case), starts);
+        assert_eq!(agreed_output(&input), output, "case {case}, starting values {starts:?}");
+    }
+}
+
+#[test]
+fn each_sort_of_outcome() {
+    assert_eq!(output_of(num(0), &[]), "number 0\nsteps 1\n");
+    assert_eq!(output_of(num(u32::MAX), &[]), "number 4294967295\nsteps 1\n");
+    assert_eq!(output_of(boo(false), &[]), "truth 0\nsteps 1\n");
+    assert_eq!(output_of(boo(true), &[]), "truth 1\nsteps 1\n");
+    assert_eq!(output_of(deref(1), &[4, -4]), "cell 1\nsteps 1\nregister 0 4\nregister 1 -4\n");
+    assert_eq!(output_of(assign(0, num(1)), &[7]), "none\nsteps 3\nregister 0 1\n");
+}
+
+/// Each cell of 16 registers, and each register's number.
+#[test]
+fn sixteen_registers() {
+    let starts: Vec<i64> = (0..16).map(|index| 100 * index - 700).collect();
+    let registers: String = starts
+        .iter()
+        .enumerate()
+        .map(|(index, value)| format!("register {index} {value}\n"))
+        .collect();
+    for cell in 0..16 {
+        let output = format!("cell {cell}\nsteps 1\n{registers}");
+        assert_eq!(output_of(deref(cell), &starts), output);
+    }
+}
+
+/// Values of every count of digits, as an outcome and in a register.
+#[test]
+fn every_power_of_ten_and_of_two() {
+    let tens = (0..19).map(|power| 10_i64.pow(power));
+    let twos = (0..63).map(|power| 1_i64 << power);
+    for value in tens.chain(twos).chain([i64::MAX]) {
+        for value in [value - 1, value, -value, -value - 1] {
+            let output = format!("number {value}\nsteps 1\nregister 0 {value}\n");
+            assert_eq!(output_of(id(0), &[value]), output);
+        }
+    }
+}
+
+/// The longest output there is: a refused run over 16 of the longest values.
+#[test]
+fn the_longest_output() {
+    let output = output_of(repeat(boo(true), assign(0, id(0))), &[i64::MIN; 16]);
+    let mut expected = "refused 30 at 0\nsteps 1000000\n".to_string();
+    for index in 0..16 {
+        expected += &format!("register {index} -9223372036854775808\n");
+    }
+    assert_eq!(output, expected);
+}
+
+/// An Assign with Sums below it, to this depth.
+fn sums(depth: usize) -> Root {
+    let value = (0..depth - 2).fold(num(1), |value, _| sum(value, num(1)));
+    assign(0, value).into()
+}
+
+#[test]
+fn depth_64_may_pass_and_65_is_6() {
+    let starts = &[0];
+    assert_eq!(output_of(sums(64), starts), "none\nsteps 189\nregister 0 63\n");
+    assert_eq!(output_of(sums(65), starts), "refused 6 at 64\nsteps 0\n");
+}
+
+#[test]
+fn n_2_000_may_pass_and_2_001_is_2() {
+    // 667 Assigns of a Num and 666 CSeqs.
+    let line = |assigns: usize| in_turn(vec![assign(0, num(1)); assigns]);
+    let whole = image(1, line(667));
+    assert_eq!(whole[0], 2_000);
+    assert_eq!(agreed_output(&program_input(&whole, &[5])), "none\nsteps 2667\nregister 0 1\n");
+    let over = image(1, cseq(line(665), assign(0, sum(num(1), sum(num(1), num(1))))));
+    assert_eq!(over[0], 2_001);
+    assert_eq!(agreed_output(&program_input(&over, &[5])), "refused 2 at 0\nsteps 0\n");
+}

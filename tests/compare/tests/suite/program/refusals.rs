@@ -1,0 +1,144 @@
+//! Each refusal of the list that the program can give. 20 to 22 are the host's:
+//! the program's own call has as many registers as r says, a budget of 1,000,000
+//! and work words enough.
+
+use crate::helpers::*;
+use second::build::*;
+use second::encode;
+use second::encode::program_input;
+use second::generate::tower::{Tower, HELPER};
+use second::tree::{Command, Declaration, Root};
+
+fn output_of(root: impl Into<Root>, starts: &[i64]) -> String {
+    agreed_output(&program_input(&image(starts.len() as u32, root), starts))
+}
+
+/// Refused before the first step: the registers are not printed.
+fn before_the_run(number: u32, place: u32) -> String {
+    format!("refused {number} at {place}\nsteps 0\n")
+}
+
+#[test]
+fn refusals_1_to_6() {
+    let table: [(&[u32], u32, u32); 14] = [
+        (&[], 1, 0),
+        (&[1], 1, 0),
+        (&[1, 0], 1, 0),
+        (&[1, 0, 1], 1, 0),
+        (&[1, 0, 1, 7, 7], 1, 0),
+        (&[0, 0], 2, 0),
+        (&[1, 17, 1, 7], 2, 0),
+        (&[1, 0, 18, 0], 3, 0),
+        (&[2, 0, 15, 99, 0, 0], 3, 1),
+        (&[1, 0, 2, 2], 4, 0),
+        (&[2, 0, 15, 2, 0, 9], 4, 1),
+        (&[1, 0, 15, 0], 5, 1),
+        (&[1, 0, 30, 0], 5, 0),
+        (&[2, 0, 1, 1, 0, 0], 5, 1),
+    ];
+    for (words, number, place) in table {
+        let input = program_input(words, &[]);
+        assert_eq!(agreed_output(&input), before_the_run(number, place), "{words:?}");
+    }
+    let deep = (0..64).fold(boo(true), |value, _| not(value));
+    assert_eq!(output_of(deep, &[]), before_the_run(6, 64));
+}
+
+#[test]
+fn refusals_10_to_14() {
+    let function = || bind_abs(1, &[(2, 0)], block(bind(3, num(0)), assign(0, id(2))));
+    let repeated = dseq(bind(1, num(1)), bind(1, num(2)));
+    let table: [(Command, u32, u32); 8] = [
+        (assign(0, id(1)), 10, 1),
+        (assign(1, num(0)), 10, 0),
+        (assign(0, boo(true)), 11, 0),
+        (repeat(num(1), assign(0, num(0))), 11, 0),
+        (blk(repeated, assign(0, num(0))), 12, 1),
+        (blk(bind(1, num(1)), assign(1, num(2))), 13, 3),
+        (blk(function(), call(1, vec![])), 14, 9),
+        (blk(function(), call(1, vec![boo(true)])), 11, 9),
+    ];
+    for (root, number, place) in table {
+        assert_eq!(output_of(root.clone(), &[5]), before_the_run(number, place), "{root:?}");
+    }
+}
+
+#[test]
+fn refusals_30_to_32() {
+    assert_eq!(
+        output_of(repeat(boo(true), assign(0, num(7))), &[5]),
+        "refused 30 at 0\nsteps 1000000\nregister 0 7\n"
+    );
+    let both = cseq(assign(0, num(8)), assign(1, div(id(0), id(1))));
+    assert_eq!(output_of(both, &[5, 0]), "refused 31 at 0\nsteps 8\nregister 0 8\nregister 1 0\n");
+    assert_eq!(
+        output_of(sum(id(0), num(1)), &[i64::MAX]),
+        "refused 32 at 0\nsteps 3\nregister 0 9223372036854775807\n"
+    );
+    assert_eq!(
+        output_of(div(id(0), id(1)), &[i64::MIN, -1]),
+        "refused 32 at 0\nsteps 3\nregister 0 -9223372036854775808\nregister 1 -1\n"
+    );
+}
+
+/// As many turns of a loop as the budget has room for, and one more.
+#[test]
+fn the_budget_is_one_million() {
+    let turns = |count: i64| {
+        let down = repeat(lt(num(0), id(0)), assign(0, sub(id(0), num(1))));
+        output_of(down, &[count])
+    };
+    let steps = |output: &str| -> u64 {
+        let line = output.lines().nth(1).expect("the steps");
+        line.strip_prefix("steps ").expect("the steps").parse().expect("a number")
+    };
+    let (none, one) = (steps(&turns(0)), steps(&turns(1)));
+    let most = (1_000_000 - none) / (one - none);
+    let last = turns(most as i64);
+    assert!(last.starts_with("none\n") && last.ends_with("\nregister 0 0\n"), "{last}");
+    let over = turns(most as i64 + 1);
+    assert!(over.starts_with("refused 30 at 0\nsteps 1000000\n"), "{over}");
+}
+
+/// Blocks one in the other, each with so many declarations.
+fn nested(blocks: usize, names: u32, declaration: fn(u32) -> Declaration) -> Command {
+    (0..blocks).fold(assign(0, num(1)), |inner, _| {
+        blk(declarations((1..=names).map(declaration).collect()), inner)
+    })
+}
+
+/// 256 cells and 512 bindings may be; one more may not.
+#[test]
+fn refusals_33_and_34() {
+    let cells = |names| nested(5, names, |name| bind_ref(name, num(4)));
+    let plain = |names| nested(9, names, |name| bind(name, num(4)));
+    let table = [
+        (cells(51), 1, "none\n"),
+        (cells(51), 2, "refused 33 at 0\n"),
+        (plain(56), 8, "none\n"),
+        (plain(56), 9, "refused 34 at 0\n"),
+    ];
+    for (root, registers, outcome) in table {
+        let output = output_of(root, &vec![3; registers]);
+        assert!(output.starts_with(outcome), "{output}");
+        let changed = if outcome == "none\n" { 1 } else { 3 };
+        assert!(output.contains(&format!("\nregister 0 {changed}\n")), "{output}");
+        assert_eq!(output.lines().count(), 2 + registers);
+    }
+}
+
+#[test]
+fn refusals_35_and_36() {
+    for (values, control, outcome) in [
+        (506, 400, "none\n"),
+        (508, 400, "refused 35 at 0\n"),
+        (100, 507, "none\n"),
+        (100, 508, "refused 36 at 0\n"),
+        (510, 509, "refused 35 at 0\n"),
+    ] {
+        let tower = Tower::reaching(values, control, 11, call(HELPER, vec![]));
+        let input = program_input(&encode(&tower.routine()), &vec![0; tower.registers]);
+        let output = agreed_output(&input);
+        assert!(output.starts_with(outcome), "{values} and {control}: {output}");
+    }
+}
