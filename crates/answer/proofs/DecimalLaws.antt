@@ -1,4 +1,4 @@
--- The fewest digits that hold a number are its decimal digits, and a word's integer has those of its magnitude. Assumes nothing.
+-- The fewest digits that hold a number are its decimal digits, and a word's integer has those of its magnitude.
 use Prim.Native.Nat.{ℕ, zero, suc, _+_, _-_, _*_, _/_, _%_, _^_, _<_, _≤_}
 use mathlib.Core.Path.{_≡_, sym, ap, _∙_, subst}
 use mathlib.Core.List.{List, [], _∷_, _++_}

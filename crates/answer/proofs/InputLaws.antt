@@ -1,4 +1,4 @@
--- What an input's counts come to, by the definition of the program. Assumes nothing.
+-- What an input's counts come to, by the definition of the program.
 use Prim.Native.Nat.{ℕ, _+_, _*_, _<_, _≤_}
 use mathlib.Core.Path.{_≡_, sym, ap, _∙_, subst}
 use mathlib.Core.Bool.{true, false, cond}
@@ -7,9 +7,9 @@ use native.Mathlib.Omega.{arith}
 use borrow.Author.Tests.{le-ltb, lt-ltb, le-leb, lt-leb, eq-eqb, ne-eqb}
 use lib.Dec.{eqb, ltb}
 use lib.ListN.{length, take, drop}
-use Rattle.rules.specs.Refusals.{Length, Size, refusal-number}
-use Rattle.rules.specs.Reader.{size-fits}
-use Rattle.rules.specs.Engine.{Called, refused, refusing}
+use Rattle.rules.specs.paper.Refusals.{Length, Size, refusal-number}
+use Rattle.rules.specs.paper.Reader.{size-fits}
+use Rattle.rules.specs.paper.Engine.{Called, refused, refusing}
 use Rattle.answer.specs.Decimal.{ascii, decimal}
 use Rattle.answer.specs.Numbers.{little-endian}
 use Rattle.answer.specs.Program.{line, outcome-text, page, run-input, call-input, program}

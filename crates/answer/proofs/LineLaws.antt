@@ -1,4 +1,4 @@
--- The lines of an answer, put together from their texts. Assumes nothing.
+-- The lines of an answer, put together from their texts.
 use Prim.Native.Nat.{ℕ, suc, _+_, _*_, _<_, _≤_}
 use mathlib.Core.Path.{_≡_, refl, sym, ap, _∙_}
 use mathlib.Core.Bool.{true, false, cond}

@@ -1,4 +1,4 @@
--- Numbers in bytes, least byte first: one from its bytes, and several one by one. Assumes nothing.
+-- Numbers in bytes, least byte first: one from its bytes, and several one by one.
 use Prim.Native.Nat.{ℕ, zero, suc, _+_, _-_, _*_, _<_, _≤_}
 use mathlib.Core.Path.{_≡_, refl, sym, ap, _∙_}
 use mathlib.Core.List.{List, [], _∷_, _++_, append-nil}

@@ -1,4 +1,4 @@
--- The page of an answer in the code's words is the page of the engine's call. Assumes nothing.
+-- The page of an answer in the code's words is the page of the engine's call.
 use Prim.Native.Nat.{ℕ, _+_, _*_, _<_, _≤_}
 use mathlib.Core.Path.{_≡_, refl, ap, _∙_}
 use mathlib.Core.Bool.{cond}
@@ -6,7 +6,7 @@ use mathlib.Core.List.{List, [], _++_}
 use native.Mathlib.Omega.{arith}
 use lib.ListN.{length, take, drop, getD, replicate, length-replicate}
 use lib.Seq.{length-take-le}
-use Rattle.rules.specs.Engine.{number, truth-of, cell, nothing, Answer, outcome, refused, Called, engine}
+use Rattle.rules.specs.paper.Engine.{number, truth-of, cell, nothing, Answer, outcome, refused, Called, engine}
 use Rattle.integers.specs.Words.{integers-of, words-of}
 use Rattle.integers.specs.WordLaws.{integer-of-word}
 use Rattle.engine.specs.Runs.{ran, run-reply}

@@ -1,4 +1,4 @@
--- Texts put into an output one behind the other. Assumes nothing.
+-- Texts put into an output one behind the other.
 use Prim.Native.Nat.{ℕ, suc, _+_, _<_, _≤_}
 use mathlib.Core.Path.{_≡_, sym, ap, _∙_}
 use mathlib.Core.List.{List, _++_, append-assoc}

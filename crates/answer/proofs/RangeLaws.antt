@@ -1,4 +1,4 @@
--- Every integer that the engine answers is of the range, so the word that holds it tells it. Assumes nothing.
+-- Every integer that the engine answers is of the range, so the word that holds it tells it.
 use Prim.Native.Nat.{ℕ, zero, suc, _+_, _<_}
 use mathlib.Core.Path.{_≡_, refl, sym, subst}
 use mathlib.Core.Bool.{Bool, true, false, cond}
@@ -8,18 +8,18 @@ use borrow.Author.Tests.{eqb-true}
 use lib.Dec.{T, eqb, leb, ltb}
 use lib.IntN.{ℤ}
 use lib.ListN.{length, getD}
-use Rattle.rules.specs.Refusals as Refusals
-use Rattle.rules.specs.Limits.{most-budget, work-words}
-use Rattle.rules.specs.Integers.{in-range}
-use Rattle.rules.specs.Tree.{Root}
-use Rattle.rules.specs.Checker.{Passed}
-use Rattle.rules.specs.States.{integer, truth, location, value, closure, Entry, bindable, name, node, environment, locations, Store, find, State, values-of, store-of}
-use Rattle.rules.specs.Run.{Ending, ended, stopped, run}
-use Rattle.rules.specs.History.{History, Reach}
-use Rattle.rules.specs.Claim.{AllInRange}
-use Rattle.rules.specs.Ends.{EndsWell, normally, withheld-for, RegisterHolds, RangedValues, StateFacts}
-use Rattle.rules.specs.RunEnds.{run-ends, state-facts}
-use Rattle.rules.specs.Engine.{Checked, turned-back, passed, check-image, number, truth-of, cell, nothing, outcome-of, as-register, registers-from, Answer, outcome, refused, Called, cleared, refusing, finish, start, run-checked, engine}
+use Rattle.rules.specs.paper.Refusals as Refusals
+use Rattle.rules.specs.paper.Limits.{most-budget, work-words}
+use Rattle.rules.specs.paper.Integers.{in-range}
+use Rattle.rules.specs.paper.Tree.{Root}
+use Rattle.rules.specs.paper.Checker.{Passed}
+use Rattle.rules.specs.paper.States.{integer, truth, location, value, closure, Entry, bindable, name, node, environment, locations, Store, find, State, values-of, store-of}
+use Rattle.rules.specs.paper.Run.{Ending, ended, stopped, run}
+use Rattle.rules.specs.claims.History.{History, Reach}
+use Rattle.rules.specs.claims.Claim.{AllInRange}
+use Rattle.rules.specs.claims.Ends.{EndsWell, normally, withheld-for, RegisterHolds, RangedValues, StateFacts}
+use Rattle.rules.specs.proofs.running.RunEnds.{run-ends, state-facts}
+use Rattle.rules.specs.paper.Engine.{Checked, turned-back, passed, check-image, number, truth-of, cell, nothing, outcome-of, as-register, registers-from, Answer, outcome, refused, Called, cleared, refusing, finish, start, run-checked, engine}
 use Rattle.integers.specs.Words.{integers-of, words-of}
 use Rattle.integers.specs.WordLaws.{integer-in-range, integer-of-word}
 

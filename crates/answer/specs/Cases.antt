@@ -1,19 +1,19 @@
 -- Cases of the program, computed: the paper's whole output for 5 × (3 + 2), a register below zero, and inputs whose byte count fits
--- nothing. Assumes nothing.
+-- nothing.
 use Prim.Native.Nat.{ℕ}
 use mathlib.Core.Path.{_≡_, refl}
 use mathlib.Core.List.{List, [], _∷_, _++_}
 use lib.ListN.{replicate}
-use Rattle.rules.specs.Refusals.{reason-number, refusal-number}
-use Rattle.rules.specs.Kinds.{kind-of, operand-fits}
-use Rattle.rules.specs.Reader.{node, read-expression, read-many, read-formal, read-command, read-root, nodes-of, read}
-use Rattle.rules.specs.Checker.{meaning-of, expression-code, expression-codes, has-name, shares-name, distinct, with-formals, command-ok, register-scope, root-is}
-use Rattle.rules.specs.Integers.{compute, compare, equal-integers, equal-truths, combine}
-use Rattle.rules.specs.States.{lookup, join, find, store-at, in-set, remove}
-use Rattle.rules.specs.Rules.{put-actuals, match-formals}
-use Rattle.rules.specs.Fire.{fire-expression, fire-command, fire-operator, fire-mark, fire-item, fire}
-use Rattle.rules.specs.Run.{priority, holds, first-holding, judge, run}
-use Rattle.rules.specs.Engine.{check-image, register-environment, register-store, start, registers-from, engine}
+use Rattle.rules.specs.paper.Refusals.{reason-number, refusal-number}
+use Rattle.rules.specs.paper.Kinds.{kind-of, operand-fits}
+use Rattle.rules.specs.paper.Reader.{node, read-expression, read-many, read-formal, read-command, read-root, nodes-of, read}
+use Rattle.rules.specs.paper.Checker.{meaning-of, expression-code, expression-codes, has-name, shares-name, distinct, with-formals, command-ok, register-scope, root-is}
+use Rattle.rules.specs.paper.Integers.{compute, compare, equal-integers, equal-truths, combine}
+use Rattle.rules.specs.paper.States.{lookup, join, find, store-at, in-set, remove}
+use Rattle.rules.specs.paper.Rules.{put-actuals, match-formals}
+use Rattle.rules.specs.paper.Fire.{fire-expression, fire-command, fire-operator, fire-mark, fire-item, fire}
+use Rattle.rules.specs.paper.Run.{priority, holds, first-holding, judge, run}
+use Rattle.rules.specs.paper.Engine.{check-image, register-environment, register-store, start, registers-from, engine}
 use Rattle.integers.specs.Words.{integer-of, integers-of}
 use Rattle.answer.specs.Decimal.{ascii, digits-within, decimal, integer}
 use Rattle.answer.specs.Numbers.{little-endian, numbers}

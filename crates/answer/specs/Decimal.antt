@@ -1,4 +1,4 @@
--- Numbers and words as the text of an answer: bytes, in ASCII. Assumes nothing.
+-- Numbers and words as the text of an answer: bytes, in ASCII.
 use Prim.Native.Nat.{ℕ, zero, suc, _+_, _/_, _%_}
 use Prim.Native.Char.{code}
 use Prim.Native.String.{String, [] as end, _∷_ as _then_}

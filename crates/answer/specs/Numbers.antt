@@ -1,4 +1,4 @@
--- Numbers in the bytes of an input, least byte first. Assumes nothing.
+-- Numbers in the bytes of an input, least byte first.
 use Prim.Native.Nat.{ℕ, zero, suc, _+_, _*_}
 use mathlib.Core.List.{List, [], _∷_}
 use lib.ListN.{take, drop}

@@ -1,16 +1,15 @@
 -- The program as one function (paper, "The program and its cases"): from the bytes of standard input to the bytes of standard output.
--- Assumes nothing.
 use Prim.Native.Nat.{ℕ, suc, _+_, _*_}
 use mathlib.Core.Bool.{Bool, true, cond}
 use mathlib.Core.List.{List, [], _∷_, _++_}
 use lib.Dec.{eqb, ltb}
 use lib.IntN.{ℤ}
 use lib.ListN.{length, take, drop, replicate}
-use Rattle.rules.specs.Refusals.{Length, Size, refusal-number}
-use Rattle.rules.specs.Limits.{most-budget, work-words}
-use Rattle.rules.specs.Listing.{truth-word}
-use Rattle.rules.specs.Reader.{size-fits}
-use Rattle.rules.specs.Engine.{number, truth-of, cell, nothing, Answer, outcome, refused, Called, refusing, engine}
+use Rattle.rules.specs.paper.Refusals.{Length, Size, refusal-number}
+use Rattle.rules.specs.paper.Limits.{most-budget, work-words}
+use Rattle.rules.specs.claims.Listing.{truth-word}
+use Rattle.rules.specs.paper.Reader.{size-fits}
+use Rattle.rules.specs.paper.Engine.{number, truth-of, cell, nothing, Answer, outcome, refused, Called, refusing, engine}
 use Rattle.integers.specs.Words.{integers-of}
 use Rattle.answer.specs.Decimal.{ascii, decimal, integer}
 use Rattle.answer.specs.Numbers.{little-endian, numbers}

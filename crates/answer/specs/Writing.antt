@@ -1,5 +1,4 @@
 -- What the functions that write an answer do, in the code's words: texts put into an output, and an answer as `run` gives it.
--- Assumes nothing.
 use Prim.Native.Nat.{ℕ, _+_, _*_, _≤_}
 use mathlib.Core.Path.{_≡_}
 use mathlib.Core.Bool.{Bool, true, cond}

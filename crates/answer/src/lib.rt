@@ -7,7 +7,7 @@ ghost use mathlib.Core.Path.{_≡_};
 ghost use Prim.Native.Nat.{_+_, _*_, _≤_};
 ghost use lib.ListN.{length, take, drop};
 ghost use Rattle.io.specs.Counts.{Counts};
-ghost use Rattle.rules.specs.Engine.{engine};
+ghost use Rattle.rules.specs.paper.Engine.{engine};
 ghost use Rattle.integers.specs.Words.{integers-of};
 ghost use Rattle.answer.specs.Numbers.{numbers};
 ghost use Rattle.answer.specs.Program.{page, run-input, program};

@@ -1,4 +1,4 @@
--- Assign's mark: the value goes to the cell that the name is bound to. Assumes nothing.
+-- Assign's mark: the value goes to the cell that the name is bound to.
 use Prim.Native.Nat.{ℕ, _+_, _-_, _<_, _≤_}
 use mathlib.Core.Path.{_≡_, refl, sym, ap, _∙_, subst}
 use mathlib.Core.Bool.{false}
@@ -6,9 +6,9 @@ use mathlib.Core.List.{List, _∷_}
 use mathlib.Core.Option.{some}
 use native.Mathlib.Omega.{arith}
 use lib.ListN.{length, getD}
-use Rattle.rules.specs.States.{Value, location, Bindable, value, Environment, lookup, Store, store-at, Entry, Item, mark, assign-mark, state}
-use Rattle.rules.specs.Rules.{Rule, Effect, goes, Table, assign-at}
-use Rattle.rules.specs.Run.{judge}
+use Rattle.rules.specs.paper.States.{Value, location, Bindable, value, Environment, lookup, Store, store-at, Entry, Item, mark, assign-mark, state}
+use Rattle.rules.specs.paper.Rules.{Rule, Effect, goes, Table, assign-at}
+use Rattle.rules.specs.paper.Run.{judge}
 use Rattle.automaton.specs.Regions.{Slot, slot, regions, Fits, with-values, with-cells, set-slot}
 use Rattle.automaton.specs.Represents.{ValueAs, SegmentAs, Since, ValuesAs, Models}
 use Rattle.automaton.specs.Rows.{RowOf}

@@ -1,21 +1,21 @@
 -- The rule of Blk: the location set is saved on the value stack and becomes empty; the declaration, the first mark, the command and the
--- second mark go on control. Assumes nothing.
+-- second mark go on control.
 use Prim.Native.Nat.{ℕ, _+_, _*_, _<_, _≤_}
 use mathlib.Core.Path.{_≡_, refl, sym, ap, _∙_, subst}
 use mathlib.Core.Bool.{false}
 use mathlib.Core.List.{List, [], _∷_}
 use native.Mathlib.Omega.{arith}
 use lib.ListN.{length, getD}
-use Rattle.rules.specs.Tree.{Command, block, Blk, Declaration}
-use Rattle.rules.specs.Refusals.{ValueEntries, ControlEntries, reason-number}
-use Rattle.rules.specs.States.{Environment, Store, Entry, locations, Item, command, declaration, mark, first-mark, second-mark, state}
-use Rattle.rules.specs.Rules.{Rule, Effect, goes, Table}
-use Rattle.rules.specs.Rules as Rules
-use Rattle.rules.specs.Run.{judge}
+use Rattle.rules.specs.paper.Tree.{Command, block, Blk, Declaration}
+use Rattle.rules.specs.paper.Refusals.{ValueEntries, ControlEntries, reason-number}
+use Rattle.rules.specs.paper.States.{Environment, Store, Entry, locations, Item, command, declaration, mark, extend-mark, leave-mark, state}
+use Rattle.rules.specs.paper.Rules.{Rule, Effect, goes, Table}
+use Rattle.rules.specs.paper.Rules as Rules
+use Rattle.rules.specs.paper.Run.{judge}
 use Rattle.reader.specs.Pack.{packed-end}
 use Rattle.reader.specs.Stored.{StoredCommand, block-of, blk, StoredDeclaration}
 use Rattle.automaton.specs.Regions.{slot, Regions, regions, Fits, with-control, with-values, raised-values}
-use Rattle.automaton.specs.Represents.{Since, none-since, no-more, declaring, declaration-on, command-on, first-on, second-on, opened-on, Models}
+use Rattle.automaton.specs.Represents.{Since, none-since, no-more, declaring, declaration-on, command-on, extend-on, leave-on, opened-on, Models}
 use Rattle.automaton.specs.Steps.{StepAnswer, Applicable, Steps}
 use Rattle.automaton.specs.declared.machine.Machine.{Machine}
 use Rattle.automaton.specs.declared.machine.Stepped.the-variants.{Made, Withheld}
@@ -40,7 +40,7 @@ block-at {nodes} {d = dec} (block-of (blk {d = d} {i = i} {j = j} {k = k} h a b)
     record { depth = d; middle = j; next = k; declared = subst (λ l. StoredDeclaration nodes d l j dec) (after-node i) a; body = b }
 
 block-effect : {C : List Item} {E : Environment} {S : Store} {L : List ℕ} {n : ℕ} {r : Rule} {p : ℕ} {d : Declaration} {c : Command} {X : List Entry} {f : Effect} →
-    Table C E S L n r (command (block (Blk p d c))) X f → goes (state (declaration d ∷ mark first-mark ∷ command c ∷ mark (second-mark p n) ∷ C) (locations L ∷ X) E S [] n) ≡ f
+    Table C E S L n r (command (block (Blk p d c))) X f → goes (state (declaration d ∷ mark extend-mark ∷ command c ∷ mark (leave-mark p n) ∷ C) (locations L ∷ X) E S [] n) ≡ f
 block-effect Rules.blk = refl
 
 -- The declaration's place is a node's.
@@ -102,7 +102,7 @@ block-values-withheld words m i q d c C X E S L n rule f ready =
     let fits = ready .fits in
     subst (λ g. StepAnswer (judge false g) (Withheld 35) words words) (block-effect (ready .applies))
     (step-withheld words ValueEntries _ _
-    (judged-values (declaration d ∷ mark first-mark ∷ command c ∷ mark (second-mark i n) ∷ C) (locations L ∷ X) E S [] n (omega (arith, z .cells-height, fits .few-cells)) (omega (arith, z .bindings-height, fits .few-bindings)) (omega (arith, z .values-height, q)))
+    (judged-values (declaration d ∷ mark extend-mark ∷ command c ∷ mark (leave-mark i n) ∷ C) (locations L ∷ X) E S [] n (omega (arith, z .cells-height, fits .few-cells)) (omega (arith, z .bindings-height, fits .few-bindings)) (omega (arith, z .values-height, q)))
     refl)
 
 pub block-control-withheld : (words : List ℕ) (m : Machine) (i : ℕ) → (m .values ≡ 512 → ⊥) → 508 < m .control →
@@ -114,7 +114,7 @@ block-control-withheld words m i few q d c C X E S L n rule f ready =
     let fits = ready .fits in
     subst (λ g. StepAnswer (judge false g) (Withheld 36) words words) (block-effect (ready .applies))
     (step-withheld words ControlEntries _ _
-    (judged-control (declaration d ∷ mark first-mark ∷ command c ∷ mark (second-mark i n) ∷ C) (locations L ∷ X) E S [] n (omega (arith, z .cells-height, fits .few-cells)) (omega (arith, z .bindings-height, fits .few-bindings)) (omega (arith, z .values-height, fits .few-values, few)) (omega (arith, z .control-height, q)))
+    (judged-control (declaration d ∷ mark extend-mark ∷ command c ∷ mark (leave-mark i n) ∷ C) (locations L ∷ X) E S [] n (omega (arith, z .cells-height, fits .few-cells)) (omega (arith, z .bindings-height, fits .few-bindings)) (omega (arith, z .values-height, fits .few-values, few)) (omega (arith, z .control-height, q)))
     refl)
 
 -- What `enter_block` does.
@@ -159,11 +159,11 @@ module _ (words : List ℕ) (m : Machine) (fits : Fits words m) (few : m .values
         let body-is = place ∙ root-end words m (declaration-root (tree .declared)) in
         let cells-are = cells-counted words m ∙ sym cells-kept in
         subst (λ g. StepAnswer (judge false g) (Made r) words after) (block-effect (ready .applies))
-        (step-made words after m r (Made r) (declaration d ∷ mark first-mark ∷ command c ∷ mark (second-mark i n) ∷ C) (locations L ∷ X) E S [] n refl after-fits
-        (subst (λ κ′. Models κ′ (declaration d ∷ mark first-mark ∷ command c ∷ mark (second-mark i n) ∷ C) (locations L ∷ X) E S [] n) (sym all)
+        (step-made words after m r (Made r) (declaration d ∷ mark extend-mark ∷ command c ∷ mark (leave-mark i n) ∷ C) (locations L ∷ X) E S [] n refl after-fits
+        (subst (λ κ′. Models κ′ (declaration d ∷ mark extend-mark ∷ command c ∷ mark (leave-mark i n) ∷ C) (locations L ∷ X) E S [] n) (sym all)
         (record {
           mode = declaring n (t .blocks);
-          control-as = declaration-on (tree .declared) (first-on refl (command-on (subst (λ l. StoredCommand (κ .nodes) (tree .depth) l (tree .next) c) (sym body-is) (tree .body)) (second-on (ap (λ l. 2070 + 4096 * l) (bindings-kept ∙ sym (z .bindings-height))) (v .control-as))));
+          control-as = declaration-on (tree .declared) (extend-on refl (command-on (subst (λ l. StoredCommand (κ .nodes) (tree .depth) l (tree .next) c) (sym body-is) (tree .body)) (leave-on (ap (λ l. 2070 + 4096 * l) (bindings-kept ∙ sym (z .bindings-height))) (v .control-as))));
           values-as = opened-on refl no-more (sym (v .bindings-as)) (v .environment-as) (subst (λ l. Since (κ .base) l L) cells-are (v .locations-as)) (base-is words m) (v .values-as);
           environment-as = v .environment-as;
           store-as = v .store-as;

@@ -1,13 +1,13 @@
--- A block's two marks: what they find on the stacks, and the state that they leave. Assumes nothing.
+-- A block's two marks: what they find on the stacks, and the state that they leave.
 use Prim.Native.Nat.{ℕ, zero, suc, _+_, _-_, _*_, _/_, _<_, _≤_}
 use mathlib.Core.Path.{_≡_, refl, sym, ap, _∙_, subst}
 use mathlib.Core.List.{List, [], _∷_}
 use native.Mathlib.Omega.{arith}
 use lib.ListN.{length, getD}
-use Rattle.rules.specs.States.{Environment, join, Store, remove, Entry, environment, locations, first-mark, second-mark, Item, mark, State, state}
-use Rattle.rules.specs.Rules.{Rule, Effect, goes, Table, first-at, second-at}
+use Rattle.rules.specs.paper.States.{Environment, join, Store, remove, Entry, environment, locations, extend-mark, leave-mark, Item, mark, State, state}
+use Rattle.rules.specs.paper.Rules.{Rule, Effect, goes, Table, extend-at, leave-at}
 use Rattle.automaton.specs.Regions.{Slot, slot, slots, Regions, regions, Fits, with-control, with-values, raised-values}
-use Rattle.automaton.specs.Represents.{SegmentAs, StoreAs, Since, Extends, Mode, running, declaring, ControlAs, first-on, second-on, ValuesAs, declared-on, opened-on, frame-on, Models}
+use Rattle.automaton.specs.Represents.{SegmentAs, StoreAs, Since, Extends, Mode, running, declaring, ControlAs, extend-on, leave-on, ValuesAs, declared-on, opened-on, frame-on, Models}
 use Rattle.automaton.specs.Steps.{Ready, Steps}
 use Rattle.automaton.specs.declared.machine.Machine.{Machine}
 use Rattle.automaton.specs.declared.machine.Stepped.the-variants.{Made}
@@ -85,17 +85,17 @@ module _ (words : List ℕ) (m : Machine) where
     pub values-as : ValuesAs (κ .nodes) (κ .rows) (κ .base) (κ .declared) (κ .environment) E (declaring opened outer) (κ .values) (environment declared-names ∷ locations outer-locations ∷ rest)
 
   first-by : (w : ℕ) {C : List Item} {E : Environment} {S : Store} {L : List ℕ} {n : ℕ} {r : Rule} {e : Effect} (D : Environment) (K : List ℕ) (Y : List Entry) (mode : Mode) →
-      Table C E S L n r (mark first-mark) (environment D ∷ locations K ∷ Y) e → ControlAs (κ .nodes) mode (w ∷ κ .control) (mark first-mark ∷ C) →
+      Table C E S L n r (mark extend-mark) (environment D ∷ locations K ∷ Y) e → ControlAs (κ .nodes) mode (w ∷ κ .control) (mark extend-mark ∷ C) →
       ValuesAs (κ .nodes) (κ .rows) (κ .base) (κ .declared) (κ .environment) E mode (κ .values) (environment D ∷ locations K ∷ Y) → FirstTop C E S L n e
-  first-by w D K Y mode first-at (first-on {m = k} {ms = ms} q h) v = record { declared-names = D; outer-locations = K; rest = Y; opened = k; outer = ms; effect-is = refl; control-as = h; values-as = v }
+  first-by w D K Y mode extend-at (extend-on {m = k} {ms = ms} q h) v = record { declared-names = D; outer-locations = K; rest = Y; opened = k; outer = ms; effect-is = refl; control-as = h; values-as = v }
 
-  first-top : (w : ℕ) {C : List Item} {X : List Entry} {E : Environment} {S : Store} {L : List ℕ} {n : ℕ} {r : Rule} {e : Effect} → Ready words m w (mark first-mark) C X E S L n r e → FirstTop C E S L n e
+  first-top : (w : ℕ) {C : List Item} {X : List Entry} {E : Environment} {S : Store} {L : List ℕ} {n : ℕ} {r : Rule} {e : Effect} → Ready words m w (mark extend-mark) C X E S L n r e → FirstTop C E S L n e
   first-top w {C} {X} {E} {S} {L} {n} {r} {e} ready =
-      let g = ready .first refl in
-      first-by w (g .0) (g .1) (g .2) (ready .models .mode) (subst (λ Z. Table C E S L n r (mark first-mark) Z e) (g .3) (ready .applies)) (ready .models .control-as)
+      let g = ready .at-extend-mark refl in
+      first-by w (g .0) (g .1) (g .2) (ready .models .mode) (subst (λ Z. Table C E S L n r (mark extend-mark) Z e) (g .3) (ready .applies)) (ready .models .control-as)
       (subst (λ Z. ValuesAs (κ .nodes) (κ .rows) (κ .base) (κ .declared) (κ .environment) E (ready .models .mode) (κ .values) Z) (g .3) (ready .models .values-as))
 
-  pub first-some : (w : ℕ) {C : List Item} {X : List Entry} {E : Environment} {S : Store} {L : List ℕ} {n : ℕ} {r : Rule} {e : Effect} → Ready words m w (mark first-mark) C X E S L n r e → 1 ≤ m .values
+  pub first-some : (w : ℕ) {C : List Item} {X : List Entry} {E : Environment} {S : Store} {L : List ℕ} {n : ℕ} {r : Rule} {e : Effect} → Ready words m w (mark extend-mark) C X E S L n r e → 1 ≤ m .values
   first-some w ready =
       let one = declared-top (first-top w ready .values-as) in
       one-on-top words m (one .top) (one .rest) (one .are) .some-values
@@ -111,7 +111,7 @@ module _ (words : List ℕ) (m : Machine) where
   joined-fits f = record { room = f .room; few-control = f .few-control; few-values = omega (arith, f .few-values); few-bindings = f .few-bindings; few-cells = f .few-cells }
 
   pub first-made : (w : ℕ) (after : List ℕ) (t : Machine) → t ≡ raised-values joined →
-      regions after (raised-values joined) ≡ with-values (slot 0 (m .environment) ∷ regions words joined .values) (regions words joined) → Steps words m w (mark first-mark) (Made t) after
+      regions after (raised-values joined) ≡ with-values (slot 0 (m .environment) ∷ regions words joined .values) (regions words joined) → Steps words m w (mark extend-mark) (Made t) after
   first-made w after t q put C X E S L n r e ready =
       answered (Made t) words after (top .effect-is)
       (step-made words after m (raised-values joined) (Made t) C new (join (top .declared-names) E) S L n (ap Made q)
@@ -163,14 +163,14 @@ module _ (words : List ℕ) (m : Machine) where
     pub values-as : ValuesAs (κ .nodes) (κ .rows) (κ .base) (κ .declared) (κ .environment) E (running (k ∷ outer)) (κ .values) (environment saved ∷ locations outer-locations ∷ rest)
 
   second-by : (w p k : ℕ) {C : List Item} {X : List Entry} {E : Environment} {S : Store} {L : List ℕ} {n : ℕ} {r : Rule} {e : Effect} (mode : Mode) →
-      Table C E S L n r (mark (second-mark p k)) X e → ControlAs (κ .nodes) mode (w ∷ κ .control) (mark (second-mark p k) ∷ C) →
+      Table C E S L n r (mark (leave-mark p k)) X e → ControlAs (κ .nodes) mode (w ∷ κ .control) (mark (leave-mark p k) ∷ C) →
       ValuesAs (κ .nodes) (κ .rows) (κ .base) (κ .declared) (κ .environment) E mode (κ .values) X → SecondTop w k C E S L e
-  second-by w p k mode (second-at {F = F} {K = K} {X = Y}) (second-on {ms = ms} q h) v = record { saved = F; outer-locations = K; rest = Y; outer = ms; effect-is = refl; word-is = q; control-as = h; values-as = v }
+  second-by w p k mode (leave-at {F = F} {K = K} {X = Y}) (leave-on {ms = ms} q h) v = record { saved = F; outer-locations = K; rest = Y; outer = ms; effect-is = refl; word-is = q; control-as = h; values-as = v }
 
-  second-top : (w p k : ℕ) {C : List Item} {X : List Entry} {E : Environment} {S : Store} {L : List ℕ} {n : ℕ} {r : Rule} {e : Effect} → Ready words m w (mark (second-mark p k)) C X E S L n r e → SecondTop w k C E S L e
+  second-top : (w p k : ℕ) {C : List Item} {X : List Entry} {E : Environment} {S : Store} {L : List ℕ} {n : ℕ} {r : Rule} {e : Effect} → Ready words m w (mark (leave-mark p k)) C X E S L n r e → SecondTop w k C E S L e
   second-top w p k ready = second-by w p k (ready .models .mode) (ready .applies) (ready .models .control-as) (ready .models .values-as)
 
-  pub second-some : (w p k : ℕ) {C : List Item} {X : List Entry} {E : Environment} {S : Store} {L : List ℕ} {n : ℕ} {r : Rule} {e : Effect} → Ready words m w (mark (second-mark p k)) C X E S L n r e → 2 ≤ m .values
+  pub second-some : (w p k : ℕ) {C : List Item} {X : List Entry} {E : Environment} {S : Store} {L : List ℕ} {n : ℕ} {r : Rule} {e : Effect} → Ready words m w (mark (leave-mark p k)) C X E S L n r e → 2 ≤ m .values
   second-some w p k ready =
       let top = frame-top (second-top w p k ready .values-as) in
       two-on-top words m (top .top) (top .second) (top .rest) (top .are) .some-values
@@ -212,7 +212,7 @@ module _ (words : List ℕ) (m : Machine) where
   unfolding regions
   left-of w = refl
 
-  pub second-made : (w p k : ℕ) → Steps words m w (mark (second-mark p k)) (Made (left w)) words
+  pub second-made : (w p k : ℕ) → Steps words m w (mark (leave-mark p k)) (Made (left w)) words
   second-made w p k C X E S L n r e ready =
       answered (Made (left w)) words words (top .effect-is)
       (step-made words words m (left w) (Made (left w)) C (top .rest) (top .saved) (remove L S) (top .outer-locations) k refl

@@ -1,4 +1,4 @@
--- Call's mark: the frame that it saves, and the state that it leaves. Assumes nothing.
+-- Call's mark: the frame that it saves, and the state that it leaves.
 use Prim.Native.Nat.{ℕ, zero, suc, _+_, _-_, _*_, _/_, _%_, _<_, _≤_}
 use mathlib.Core.Path.{_≡_, refl, sym, ap, _∙_, subst}
 use mathlib.Core.Bool.{false}
@@ -6,13 +6,13 @@ use mathlib.Core.List.{List, [], _∷_}
 use mathlib.Core.Option.{some, Option·some-injective}
 use native.Mathlib.Omega.{arith}
 use lib.ListN.{length, getD}
-use Rattle.rules.specs.Tree.{Formal, block}
-use Rattle.rules.specs.States.{Environment, Store, Entry, environment, locations, call-mark, second-mark, Item, command, mark, State, state}
-use Rattle.rules.specs.Rules.{Rule, Effect, Matched, match-formals}
-use Rattle.rules.specs.Run.{judge}
+use Rattle.rules.specs.paper.Tree.{Formal, block}
+use Rattle.rules.specs.paper.States.{Environment, Store, Entry, environment, locations, call-mark, leave-mark, Item, command, mark, State, state}
+use Rattle.rules.specs.paper.Rules.{Rule, Effect, Matched, match-formals}
+use Rattle.rules.specs.paper.Run.{judge}
 use Rattle.reader.specs.Stored.{StoredCommand, block-of}
 use Rattle.automaton.specs.Regions.{Slot, slot, slots, Regions, regions, Fits, with-control, with-values, raised-control, raised-values}
-use Rattle.automaton.specs.Represents.{SegmentAs, Since, none-since, Extends, Mode, running, ControlAs, command-on, second-on, ValuesAs, frame-on, Models}
+use Rattle.automaton.specs.Represents.{SegmentAs, Since, none-since, Extends, Mode, running, ControlAs, command-on, leave-on, ValuesAs, frame-on, Models}
 use Rattle.automaton.specs.Steps.{StepAnswer, Ready}
 use Rattle.automaton.specs.Formals.{with-bound, with-formals, Binding, Binds, framed, with-frame}
 use Rattle.automaton.specs.declared.machine.Machine.{Machine}
@@ -144,7 +144,7 @@ module _ (words : List ℕ) (m : Machine) (w row : ℕ) (found : RowFound words 
       all = put ∙ ap (λ j. with-frame (m .base) (m .environment) (2070 + 4096 * m .bindings) (formal-first words m row + w / 262144) j) bound-are
 
       abbrev control-after : List Item
-      control-after = command (block (top .body)) ∷ mark (second-mark p n) ∷ C
+      control-after = command (block (top .body)) ∷ mark (leave-mark p n) ∷ C
 
       abbrev values-after : List Entry
       values-after = environment E ∷ locations L ∷ top .matched .rest
@@ -159,7 +159,7 @@ module _ (words : List ℕ) (m : Machine) (w row : ℕ) (found : RowFound words 
       control-as =
           command-on
           (subst (λ i. StoredCommand (κ .nodes) (closure .depth) i (closure .block-end) (block (top .body))) (sym (block-is words m w p x k ready row found)) (block-of (closure .block-stored)))
-          (second-on (ap (λ i. 2070 + 4096 * i) (sym bindings-before)) (top .control-as))
+          (leave-on (ap (λ i. 2070 + 4096 * i) (sym bindings-before)) (top .control-as))
 
       values-as : ValuesAs (κ .nodes) (bound-all .rows) (m .cells) (κ .declared) (bound-all .pointer) (top .matched .environment-with) (running (n ∷ top .outer)) (last-regions .values) values-after
       values-as =

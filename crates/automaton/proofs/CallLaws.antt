@@ -1,17 +1,17 @@
--- The rule of Call: the mark, then the actuals one by one, the last on top. Assumes nothing.
+-- The rule of Call: the mark, then the actuals one by one, the last on top.
 use Prim.Native.Nat.{ℕ, suc, _+_, _*_, _-_, _/_, _<_, _≤_}
 use mathlib.Core.Path.{_≡_, refl, sym, ap, _∙_, subst}
 use mathlib.Core.Bool.{false}
 use mathlib.Core.List.{List, [], _∷_}
 use native.Mathlib.Omega.{arith}
 use lib.ListN.{length, getD}
-use Rattle.rules.specs.Tree.{Expression, Call}
-use Rattle.rules.specs.Limits.{names, most-parameters}
-use Rattle.rules.specs.Refusals.{ControlEntries, reason-number}
-use Rattle.rules.specs.States.{Environment, Store, Entry, Item, expression, command, mark, call-mark, state}
-use Rattle.rules.specs.Rules.{Rule, Effect, goes, put-actuals, Table}
-use Rattle.rules.specs.Rules as Rules
-use Rattle.rules.specs.Run.{judge}
+use Rattle.rules.specs.paper.Tree.{Expression, Call}
+use Rattle.rules.specs.paper.Limits.{names, most-parameters}
+use Rattle.rules.specs.paper.Refusals.{ControlEntries, reason-number}
+use Rattle.rules.specs.paper.States.{Environment, Store, Entry, Item, expression, command, mark, call-mark, state}
+use Rattle.rules.specs.paper.Rules.{Rule, Effect, goes, put-actuals, Table}
+use Rattle.rules.specs.paper.Rules as Rules
+use Rattle.rules.specs.paper.Run.{judge}
 use Rattle.reader.specs.Pack.{packed-operand, packed-end}
 use Rattle.reader.specs.Stored.{HasWord, operand-is, StoredActuals, no-actuals, one-actual, StoredCommand, call}
 use Rattle.automaton.specs.Regions.{Regions, regions, Fits, with-control}

@@ -1,15 +1,15 @@
--- Call's mark: what it finds on the stacks and in the closure, and when its step is withheld. Assumes nothing.
+-- Call's mark: what it finds on the stacks and in the closure, and when its step is withheld.
 use Prim.Native.Nat.{ℕ, zero, suc, _+_, _-_, _*_, _/_, _%_, _<_, _≤_}
 use mathlib.Core.Path.{_≡_, refl, sym, ap, _∙_, subst}
 use mathlib.Core.List.{List, [], _∷_}
 use mathlib.Core.Option.{some}
 use native.Mathlib.Omega.{arith}
 use lib.ListN.{length, getD}
-use Rattle.rules.specs.Tree.{Formal, Block, block, Abs}
-use Rattle.rules.specs.Limits.{names, most-parameters}
-use Rattle.rules.specs.Refusals.{Bindings, ValueEntries, ControlEntries, reason-number}
-use Rattle.rules.specs.States.{Bindable, closure, Environment, lookup, Store, Entry, environment, locations, call-mark, second-mark, Item, command, mark, State, state}
-use Rattle.rules.specs.Rules.{Rule, Effect, goes, Table, call-at, Matched, match-formals}
+use Rattle.rules.specs.paper.Tree.{Formal, Block, block, Abs}
+use Rattle.rules.specs.paper.Limits.{names, most-parameters}
+use Rattle.rules.specs.paper.Refusals.{Bindings, ValueEntries, ControlEntries, reason-number}
+use Rattle.rules.specs.paper.States.{Bindable, closure, Environment, lookup, Store, Entry, environment, locations, call-mark, leave-mark, Item, command, mark, State, state}
+use Rattle.rules.specs.paper.Rules.{Rule, Effect, goes, Table, call-at, Matched, match-formals}
 use Rattle.reader.specs.Stored.{StoredFormals, StoredBlock, StoredBound, abs}
 use Rattle.automaton.specs.Regions.{Slot, Regions, regions, Fits, with-control}
 use Rattle.automaton.specs.Represents.{SegmentAs, BindableAs, closure-as, Extends, no-more, Mode, running, ControlAs, call-on, ValuesAs, Models}
@@ -64,7 +64,7 @@ module _ (words : List ℕ) (m : Machine) where
     pub definition : Environment
     pub matched : Matched
     pub outer : List ℕ
-    pub effect-is : e ≡ goes (state (command (block body) ∷ mark (second-mark p n) ∷ C) (environment E ∷ locations L ∷ matched .rest) (matched .environment-with) S [] (n + k))
+    pub effect-is : e ≡ goes (state (command (block body) ∷ mark (leave-mark p n) ∷ C) (environment E ∷ locations L ∷ matched .rest) (matched .environment-with) S [] (n + k))
     pub looked : lookup x E ≡ some (closure formals body definition)
     pub matches : match-formals k formals X definition ≡ some matched
     pub word-is : w ≡ 2072 + 4096 * (x + names * k)

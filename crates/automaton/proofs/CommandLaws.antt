@@ -1,16 +1,16 @@
--- The rules of Assign, Loop and CSeq, and which command stands at a place by its kind. Assumes nothing.
+-- The rules of Assign, Loop and CSeq, and which command stands at a place by its kind.
 use Prim.Native.Nat.{ℕ, _+_, _<_}
 use mathlib.Core.Path.{_≡_, refl, sym, _∙_, subst}
 use mathlib.Core.Bool.{false}
 use mathlib.Core.List.{List, _∷_}
 use native.Mathlib.Omega.{arith}
 use lib.ListN.{getD}
-use Rattle.rules.specs.Tree.{Expression, Command, Assign, Loop, CSeq}
-use Rattle.rules.specs.Limits.{names}
-use Rattle.rules.specs.States.{Environment, Store, Entry, name, node, Item, expression, command, mark, assign-mark, loop-mark, state}
-use Rattle.rules.specs.Rules.{Rule, Effect, goes, Table}
-use Rattle.rules.specs.Rules as Rules
-use Rattle.rules.specs.Run.{judge}
+use Rattle.rules.specs.paper.Tree.{Expression, Command, Assign, Loop, CSeq}
+use Rattle.rules.specs.paper.Limits.{names}
+use Rattle.rules.specs.paper.States.{Environment, Store, Entry, name, node, Item, expression, command, mark, assign-mark, loop-mark, state}
+use Rattle.rules.specs.paper.Rules.{Rule, Effect, goes, Table}
+use Rattle.rules.specs.paper.Rules as Rules
+use Rattle.rules.specs.paper.Run.{judge}
 use Rattle.reader.specs.Pack.{packed-operand, packed-end}
 use Rattle.reader.specs.Stored.{HasWord, operand-is, StoredExpression, StoredCommand, assign, loop, cseq}
 use Rattle.automaton.specs.Regions.{regions}

@@ -1,4 +1,4 @@
--- Words copied one by one. Assumes nothing.
+-- Words copied one by one.
 use Prim.Native.Nat.{ℕ, suc, _+_, _<_, _≤_}
 use mathlib.Core.Path.{_≡_, refl, sym, ap, _∙_, subst}
 use mathlib.Core.List.{List, [], _∷_, _++_}
@@ -6,7 +6,7 @@ use native.Mathlib.Omega.{arith}
 use native.Mathlib.Nat.{zero-add}
 use lib.ListN.{length, getD, set, take, drop}
 use lib.Seq.{paste, paste-suc, length-paste, drop-length}
-use Rattle.rules.specs.Basics.{append-nothing}
+use Rattle.rules.specs.proofs.Basics.{append-nothing}
 
 pub copy-next : (into from now : List ℕ) (i : ℕ) → now ≡ paste into 0 from i → i < length into → i < length from → set now i (getD from i 0) ≡ paste into 0 from (i + 1)
 copy-next into from now i q low within =

@@ -1,16 +1,16 @@
--- The rules of Bind, DSeq, Ref and Abs. Assumes nothing.
+-- The rules of Bind, DSeq, Ref and Abs.
 use Prim.Native.Nat.{ℕ, suc, _+_, _*_, _<_, _≤_}
 use mathlib.Core.Path.{_≡_, refl, sym, ap, _∙_, subst}
 use mathlib.Core.Bool.{false}
 use mathlib.Core.List.{List, _∷_}
 use native.Mathlib.Omega.{arith}
 use lib.ListN.{getD}
-use Rattle.rules.specs.Tree.{Expression, Formal, Block, Declaration, Bind, DSeq, Bound, Ref, Abs}
-use Rattle.rules.specs.Limits.{names}
-use Rattle.rules.specs.States.{closure, Environment, Store, Entry, bindable, name, Item, expression, declaration, reference, abstraction, mark, ref-mark, bind-mark, dseq-mark, bound-item, state}
-use Rattle.rules.specs.Rules.{Rule, Effect, goes, Table}
-use Rattle.rules.specs.Rules as Rules
-use Rattle.rules.specs.Run.{judge}
+use Rattle.rules.specs.paper.Tree.{Expression, Formal, Block, Declaration, Bind, DSeq, Bound, Ref, Abs}
+use Rattle.rules.specs.paper.Limits.{names}
+use Rattle.rules.specs.paper.States.{closure, Environment, Store, Entry, bindable, name, Item, expression, declaration, reference, abstraction, mark, ref-mark, bind-mark, dseq-mark, bound-item, state}
+use Rattle.rules.specs.paper.Rules.{Rule, Effect, goes, Table}
+use Rattle.rules.specs.paper.Rules as Rules
+use Rattle.rules.specs.paper.Run.{judge}
 use Rattle.reader.specs.Pack.{packed-operand, packed-end}
 use Rattle.reader.specs.Stored.{HasWord, operand-is, StoredExpression, StoredDeclaration, bind, dseq, StoredBound, plain-of, ref, abs}
 use Rattle.automaton.specs.Regions.{slots, regions}

@@ -1,11 +1,11 @@
--- Which rule's function the item on top of control goes to, by its word and its node's kind. Assumes nothing.
+-- Which rule's function the item on top of control goes to, by its word and its node's kind.
 use Prim.Native.Nat.{ℕ, zero, suc, _+_, _-_, _<_, _≤_}
 use mathlib.Core.Path.{_≡_, refl, sym, ap, _∙_, subst}
 use mathlib.Core.List.{List, [], _∷_}
 use native.Mathlib.Omega.{arith}
 use lib.ListN.{getD}
-use Rattle.rules.specs.Tree.{Expression, Formal, Command, Block, Declaration}
-use Rattle.rules.specs.States.{Item, Mark, expression, command, declaration, reference, abstraction, mark}
+use Rattle.rules.specs.paper.Tree.{Expression, Formal, Command, Block, Declaration}
+use Rattle.rules.specs.paper.States.{Item, Mark, expression, command, declaration, reference, abstraction, mark}
 use Rattle.reader.specs.Pack.{packed-kind}
 use Rattle.automaton.specs.Steps.{Applicable, Steps}
 use Rattle.automaton.specs.Runs.{Enabled, EnabledAt, StepsFrom}

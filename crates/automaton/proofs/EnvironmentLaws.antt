@@ -1,4 +1,4 @@
--- Older rows stay as they are under new ones: what segments, closures and the value stack say of them. Assumes nothing.
+-- Older rows stay as they are under new ones: what segments, closures and the value stack say of them.
 use Prim.Native.Nat.{ℕ, zero, suc, _<_, _≤_}
 use mathlib.Core.Path.{_≡_, refl, sym, ap, _∙_, subst}
 use mathlib.Core.Bool.{Bool, true, false, cond}
@@ -7,9 +7,9 @@ use mathlib.Core.Option.{Option, none, some}
 use native.Mathlib.Omega.{arith}
 use lib.Dec.{T, eqb, eqb→eq, eqb-refl}
 use lib.ListN.{length}
-use Rattle.rules.specs.Basics.{missing, true-test, false-test, passed-test}
-use Rattle.rules.specs.Limits.{names}
-use Rattle.rules.specs.States.{Bindable, Environment, empty, bound, join, Cell, Store, in-set, remove, Entry}
+use Rattle.rules.specs.proofs.Basics.{missing, true-test, false-test, passed-test}
+use Rattle.rules.specs.paper.Limits.{names}
+use Rattle.rules.specs.paper.States.{Bindable, Environment, empty, bound, join, Cell, Store, in-set, remove, Entry}
 use Rattle.automaton.specs.Regions.{Slot, slot, slots, slot-at}
 use Rattle.automaton.specs.Represents.{SegmentAs, no-row, one-row, BindableAs, value-as, closure-as, link, StoreAs, no-cell, one-cell, Since, none-since, one-since, Extends, no-more, one-more, Mode, running, declaring, ValuesAs, nothing-on, bindable-on, name-on, node-on, declared-on, opened-on, frame-on}
 use Rattle.automaton.proofs.RegionLaws.{slots-length}

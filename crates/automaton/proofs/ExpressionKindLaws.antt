@@ -1,13 +1,13 @@
--- Which expression stands at a node, by its kind: the rule's function that the kind chooses is the expression's. Assumes nothing.
+-- Which expression stands at a node, by its kind: the rule's function that the kind chooses is the expression's.
 use Prim.Native.Nat.{ℕ}
 use mathlib.Core.Path.{_≡_, refl, sym, _∙_, subst}
 use mathlib.Core.Bool.{Bool}
 use mathlib.Core.List.{List}
 use native.Mathlib.Omega.{arith}
 use lib.ListN.{getD}
-use Rattle.rules.specs.Tree.{Operator, Expression, Num, Boo, Id, DeRef, ValRef, Binary, Not}
-use Rattle.rules.specs.Listing.{operator-number}
-use Rattle.rules.specs.States.{expression}
+use Rattle.rules.specs.paper.Tree.{Operator, Expression, Num, Boo, Id, DeRef, ValRef, Binary, Not}
+use Rattle.rules.specs.claims.Listing.{operator-number}
+use Rattle.rules.specs.paper.States.{expression}
 use Rattle.reader.specs.Pack.{packed-kind}
 use Rattle.reader.specs.Stored.{kind-is, StoredExpression}
 use Rattle.reader.specs.Stored as Stored

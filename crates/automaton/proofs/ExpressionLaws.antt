@@ -1,5 +1,4 @@
 -- The rules of Num, Boo, the operators and Not: what the code reads of the node is the rule's, and what it does is the rule's step.
--- Assumes nothing.
 use Prim.Native.Nat.{ℕ, suc, _+_, _<_, _^_}
 use mathlib.Core.Path.{_≡_, refl, sym, ap, _∙_, subst}
 use mathlib.Core.Bool.{Bool, false}
@@ -7,11 +6,11 @@ use mathlib.Core.List.{List, _∷_}
 use native.Mathlib.Omega.{arith}
 use lib.IntN.{pos}
 use lib.ListN.{length, getD}
-use Rattle.rules.specs.Tree.{Operator, arithmetic, Sum, Sub, Mul, Div, Eq, order, Lt, Le, Gt, Ge, logic, And, Or, Expression, Num, Boo, Binary, Not}
-use Rattle.rules.specs.Listing.{operator-number, truth-word}
-use Rattle.rules.specs.States.{integer, truth, value, operator-mark, not-mark, expression, mark}
-use Rattle.rules.specs.Rules.{Rule, Effect, Table, num, boo, binary, negation}
-use Rattle.rules.specs.Run.{judge}
+use Rattle.rules.specs.paper.Tree.{Operator, arithmetic, Sum, Sub, Mul, Div, Eq, order, Lt, Le, Gt, Ge, logic, And, Or, Expression, Num, Boo, Binary, Not}
+use Rattle.rules.specs.claims.Listing.{operator-number, truth-word}
+use Rattle.rules.specs.paper.States.{integer, truth, value, operator-mark, not-mark, expression, mark}
+use Rattle.rules.specs.paper.Rules.{Rule, Effect, Table, num, boo, binary, negation}
+use Rattle.rules.specs.paper.Run.{judge}
 use Rattle.reader.specs.Pack.{packed-end, packed-operand}
 use Rattle.reader.specs.Stored.{HasWord, operand-is, end-is, StoredExpression}
 use Rattle.reader.specs.Stored as Stored

@@ -1,15 +1,15 @@
--- A call's Formals bound one after the other: what the next one finds, and what its row leaves. Assumes nothing.
+-- A call's Formals bound one after the other: what the next one finds, and what its row leaves.
 use Prim.Native.Nat.{ℕ, zero, suc, _+_, _-_, _*_, _%_, _<_, _≤_}
 use mathlib.Core.Path.{_≡_, refl, sym, ap, _∙_, subst}
 use mathlib.Core.List.{List, [], _∷_}
 use mathlib.Core.Option.{some, Option·some-injective}
 use native.Mathlib.Omega.{arith}
 use lib.ListN.{length, getD}
-use Rattle.rules.specs.Basics.{missing}
-use Rattle.rules.specs.Tree.{Formal}
-use Rattle.rules.specs.Limits.{names}
-use Rattle.rules.specs.States.{Value, value, closure, Environment, bound, Entry, bindable, name, node, environment, locations}
-use Rattle.rules.specs.Rules.{Matched, match-formals}
+use Rattle.rules.specs.proofs.Basics.{missing}
+use Rattle.rules.specs.paper.Tree.{Formal}
+use Rattle.rules.specs.paper.Limits.{names}
+use Rattle.rules.specs.paper.States.{Value, value, closure, Environment, bound, Entry, bindable, name, node, environment, locations}
+use Rattle.rules.specs.paper.Rules.{Matched, match-formals}
 use Rattle.reader.specs.Pack.{packed-operand}
 use Rattle.reader.specs.Stored.{HasWord, operand-is, StoredFormals, no-formals, one-formal}
 use Rattle.automaton.specs.Regions.{Slot, slot, Regions, regions, Fits, with-values, with-row, raised-rows}

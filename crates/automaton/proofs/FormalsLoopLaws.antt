@@ -1,11 +1,11 @@
--- The loop that binds a call's Formals: what holds each time around. Assumes nothing.
+-- The loop that binds a call's Formals: what holds each time around.
 use Prim.Native.Nat.{ℕ, zero, suc, _+_, _-_, _*_, _%_, _<_, _≤_}
 use mathlib.Core.Path.{_≡_, refl, sym, ap, _∙_, subst}
 use mathlib.Core.List.{List, [], _∷_}
 use native.Mathlib.Omega.{arith}
 use lib.ListN.{length, getD}
-use Rattle.rules.specs.States.{Environment}
-use Rattle.rules.specs.Rules.{Matched}
+use Rattle.rules.specs.paper.States.{Environment}
+use Rattle.rules.specs.paper.Rules.{Matched}
 use Rattle.reader.specs.Pack.{packed-operand}
 use Rattle.automaton.specs.Regions.{Slot, slot, Regions, regions, Fits, with-row, raised-rows}
 use Rattle.automaton.specs.Represents.{Mode}

@@ -1,17 +1,17 @@
--- The marks of Bind, DSeq and blocks: what they find on the stacks, and the state that they leave. Assumes nothing.
+-- The marks of Bind, DSeq and blocks: what they find on the stacks, and the state that they leave.
 use Prim.Native.Nat.{ℕ, zero, suc, _+_, _-_, _*_, _/_, _<_, _≤_}
 use mathlib.Core.Path.{_≡_, refl, sym, ap, _∙_, subst}
 use mathlib.Core.Bool.{false}
 use mathlib.Core.List.{List, [], _∷_}
 use native.Mathlib.Omega.{arith}
 use lib.ListN.{length, getD}
-use Rattle.rules.specs.Limits.{names}
-use Rattle.rules.specs.Refusals.{Bindings, reason-number}
-use Rattle.rules.specs.States.{Bindable, Environment, empty, bound, join, Store, remove, Entry, environment, locations, bindable, name, bind-mark, dseq-mark, first-mark, second-mark, Item, mark, State, state}
-use Rattle.rules.specs.Rules.{Rule, Effect, goes, Table, bind-at, dseq-at, first-at, second-at}
-use Rattle.rules.specs.Run.{judge}
+use Rattle.rules.specs.paper.Limits.{names}
+use Rattle.rules.specs.paper.Refusals.{Bindings, reason-number}
+use Rattle.rules.specs.paper.States.{Bindable, Environment, empty, bound, join, Store, remove, Entry, environment, locations, bindable, name, bind-mark, dseq-mark, extend-mark, leave-mark, Item, mark, State, state}
+use Rattle.rules.specs.paper.Rules.{Rule, Effect, goes, Table, bind-at, dseq-at, extend-at, leave-at}
+use Rattle.rules.specs.paper.Run.{judge}
 use Rattle.automaton.specs.Regions.{Slot, slot, slots, Regions, regions, Fits, with-control, with-values, with-row, raised-rows, raised-values}
-use Rattle.automaton.specs.Represents.{ValueAs, integer-as, truth-as, location-as, SegmentAs, no-row, one-row, BindableAs, value-as, closure-as, link, Since, Extends, no-more, one-more, Mode, running, declaring, ControlAs, bind-on, dseq-on, first-on, second-on, ValuesAs, bindable-on, name-on, node-on, declared-on, opened-on, frame-on, Models}
+use Rattle.automaton.specs.Represents.{ValueAs, integer-as, truth-as, location-as, SegmentAs, no-row, one-row, BindableAs, value-as, closure-as, link, Since, Extends, no-more, one-more, Mode, running, declaring, ControlAs, bind-on, dseq-on, extend-on, leave-on, ValuesAs, bindable-on, name-on, node-on, declared-on, opened-on, frame-on, Models}
 use Rattle.automaton.specs.Steps.{StepAnswer, Ready, Steps}
 use Rattle.automaton.specs.declared.machine.Machine.{Machine}
 use Rattle.automaton.specs.declared.machine.Stepped.{Stepped}

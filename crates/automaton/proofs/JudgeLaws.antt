@@ -1,4 +1,4 @@
--- Which steps are made and which are withheld: reasons 33 to 36 by the state after the step, the lowest first. Assumes nothing.
+-- Which steps are made and which are withheld: reasons 33 to 36 by the state after the step, the lowest first.
 use Prim.Native.Nat.{ℕ, _<_, _≤_}
 use mathlib.Core.Path.{_≡_, refl, sym, ap, _∙_, subst}
 use mathlib.Core.Bool.{Bool, true, false, cond}
@@ -6,10 +6,10 @@ use mathlib.Core.List.{List, [], _∷_}
 use native.Mathlib.Omega.{arith}
 use borrow.Author.Tests.{le-ltb, lt-ltb}
 use lib.ListN.{length}
-use Rattle.rules.specs.Refusals.{Reason, ZeroDivisor, OutOfRange, Cells, Bindings, ValueEntries, ControlEntries, reason-number}
-use Rattle.rules.specs.States.{Environment, Store, Entry, Item, State, state}
-use Rattle.rules.specs.Rules.{Effect, goes, fails}
-use Rattle.rules.specs.Run.{priority, holds, first-holding, made, withheld, judge}
+use Rattle.rules.specs.paper.Refusals.{Reason, ZeroDivisor, OutOfRange, Cells, Bindings, ValueEntries, ControlEntries, reason-number}
+use Rattle.rules.specs.paper.States.{Environment, Store, Entry, Item, State, state}
+use Rattle.rules.specs.paper.Rules.{Effect, goes, fails}
+use Rattle.rules.specs.paper.Run.{priority, holds, first-holding, made, withheld, judge}
 
 module _ (C : List Item) (X : List Entry) (E : Environment) (S : Store) (L : List ℕ) (n : ℕ) where
   pub judged-made : length S ≤ 256 → n ≤ 512 → length X ≤ 512 → length C ≤ 512 → judge false (goes (state C X E S L n)) ≡ made (state C X E S L n)

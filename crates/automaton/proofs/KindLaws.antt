@@ -1,11 +1,11 @@
--- Which command or declaration stands at a place, by the kind of its node. Assumes nothing.
+-- Which command or declaration stands at a place, by the kind of its node.
 use Prim.Native.Nat.{ℕ}
 use mathlib.Core.Path.{_≡_, refl, sym, subst}
 use mathlib.Core.List.{List}
 use native.Mathlib.Omega.{arith}
 use lib.ListN.{getD}
-use Rattle.rules.specs.Tree.{Expression, Command, Assign, Loop, CSeq, block, Call, Blk, Declaration, Bind, DSeq, Bound}
-use Rattle.rules.specs.States.{Item, command, declaration}
+use Rattle.rules.specs.paper.Tree.{Expression, Command, Assign, Loop, CSeq, block, Call, Blk, Declaration, Bind, DSeq, Bound}
+use Rattle.rules.specs.paper.States.{Item, command, declaration}
 use Rattle.reader.specs.Pack.{packed-kind}
 use Rattle.reader.specs.Stored.{kind-is, StoredCommand, assign, loop, cseq, block-of, call, blk, StoredDeclaration, bind, dseq}
 use Rattle.automaton.specs.Regions.{regions}

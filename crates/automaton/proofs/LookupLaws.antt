@@ -1,4 +1,4 @@
--- A look-up along the rows of an environment. Assumes nothing.
+-- A look-up along the rows of an environment.
 use Prim.Native.Nat.{ℕ, zero, suc, _+_, _-_, _*_, _/_, _%_, _<_, _≤_}
 use mathlib.Core.Path.{_≡_, refl, sym, ap, _∙_, subst}
 use mathlib.Core.Bool.{Bool, true, false, cond}
@@ -7,8 +7,8 @@ use mathlib.Core.Option.{Option, none, some, Option·some-injective}
 use native.Mathlib.Omega.{arith}
 use lib.Dec.{T, eqb, eqb→eq, eqb-refl}
 use lib.ListN.{length, getD}
-use Rattle.rules.specs.Basics.{missing, true-test, false-test, passed-test, failed-test}
-use Rattle.rules.specs.States.{Bindable, Environment, empty, bound, lookup}
+use Rattle.rules.specs.proofs.Basics.{missing, true-test, false-test, passed-test, failed-test}
+use Rattle.rules.specs.paper.States.{Bindable, Environment, empty, bound, lookup}
 use Rattle.automaton.specs.Regions.{Slot, slot, slots, slot-at}
 use Rattle.automaton.specs.Represents.{SegmentAs, no-row, one-row, BindableAs, link}
 use Rattle.automaton.specs.Rows.{RowOf}

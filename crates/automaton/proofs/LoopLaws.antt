@@ -1,15 +1,15 @@
--- Loop's mark: if the test is true, the command goes on control and the Loop below it. Assumes nothing.
+-- Loop's mark: if the test is true, the command goes on control and the Loop below it.
 use Prim.Native.Nat.{ℕ, suc, _+_, _-_, _<_, _≤_}
 use mathlib.Core.Path.{_≡_, refl, sym, ap, _∙_, subst}
 use mathlib.Core.Bool.{Bool, true, false}
 use mathlib.Core.List.{List, _∷_}
 use native.Mathlib.Omega.{arith}
 use lib.ListN.{getD}
-use Rattle.rules.specs.Tree.{Expression, Command, Loop}
-use Rattle.rules.specs.Listing.{truth-word}
-use Rattle.rules.specs.States.{truth, Environment, Store, Entry, node, val, Item, command, mark, loop-mark, state}
-use Rattle.rules.specs.Rules.{Rule, Effect, goes, Table, loop-true, loop-false}
-use Rattle.rules.specs.Run.{judge}
+use Rattle.rules.specs.paper.Tree.{Expression, Command, Loop}
+use Rattle.rules.specs.claims.Listing.{truth-word}
+use Rattle.rules.specs.paper.States.{truth, Environment, Store, Entry, node, val, Item, command, mark, loop-mark, state}
+use Rattle.rules.specs.paper.Rules.{Rule, Effect, goes, Table, loop-true, loop-false}
+use Rattle.rules.specs.paper.Run.{judge}
 use Rattle.reader.specs.Pack.{packed-end}
 use Rattle.reader.specs.Stored.{end-is, StoredCommand, loop}
 use Rattle.automaton.specs.Regions.{Slot, Regions, regions, Fits, with-control, with-values}

@@ -1,4 +1,4 @@
--- Which rule a mark has: the number of its kind is the low part of its word and fixes the mark. Assumes nothing.
+-- Which rule a mark has: the number of its kind is the low part of its word and fixes the mark.
 use Prim.Native.Nat.{ℕ, _+_, _*_, _%_, _<_, _≤_}
 use mathlib.Core.Path.{_≡_, refl, sym, subst}
 use mathlib.Core.Bool.{cond}
@@ -6,18 +6,18 @@ use mathlib.Core.List.{List, _∷_}
 use native.Mathlib.Omega.{arith}
 use borrow.Author.Tests.{lt-ltb, le-ltb, ne-eqb}
 use lib.Dec.{eqb, ltb}
-use Rattle.rules.specs.Tree.{Arithmetic, Sum, Sub, Mul, Div, Order, Lt, Le, Gt, Ge, Logic, And, Or, Operator, arithmetic, Eq, order, logic}
-use Rattle.rules.specs.Limits.{names}
-use Rattle.rules.specs.Listing.{operator-number}
-use Rattle.rules.specs.States.{Item, mark, Mark, operator-mark, not-mark, assign-mark, loop-mark, ref-mark, bind-mark, dseq-mark, first-mark, second-mark, call-mark}
-use Rattle.automaton.specs.Represents.{Mode, ControlAs, operator-on, not-on, assign-on, loop-on, ref-on, bind-on, dseq-on, first-on, second-on, call-on}
+use Rattle.rules.specs.paper.Tree.{Arithmetic, Sum, Sub, Mul, Div, Order, Lt, Le, Gt, Ge, Logic, And, Or, Operator, arithmetic, Eq, order, logic}
+use Rattle.rules.specs.paper.Limits.{names}
+use Rattle.rules.specs.claims.Listing.{operator-number}
+use Rattle.rules.specs.paper.States.{Item, mark, Mark, operator-mark, not-mark, assign-mark, loop-mark, ref-mark, bind-mark, dseq-mark, extend-mark, leave-mark, call-mark}
+use Rattle.automaton.specs.Represents.{Mode, ControlAs, operator-on, not-on, assign-on, loop-on, ref-on, bind-on, dseq-on, extend-on, leave-on, call-on}
 use Rattle.automaton.specs.Steps.{Applicable, Steps}
 use Rattle.automaton.specs.declared.machine.Machine.{Machine}
 use Rattle.automaton.specs.declared.machine.Stepped.{Stepped}
 
 -- The rules of marks.
 pub data Arm : Type 0 where
-  on-arithmetic on-equal on-order on-logic on-not on-assign on-loop on-second on-first on-call on-bind on-dseq on-ref : Arm
+  on-arithmetic on-equal on-order on-logic on-not on-assign on-loop on-leave on-extend on-call on-bind on-dseq on-ref : Arm
 
 -- By the number of the kind, in the order of the code's tests.
 abbrev pub arm-of : ℕ → Arm
@@ -29,7 +29,7 @@ arm-of k =
     (cond (eqb k 15) on-not
     (cond (eqb k 20) on-assign
     (cond (eqb k 21) on-loop
-    (cond (eqb k 22) on-second (cond (eqb k 23) on-first (cond (eqb k 24) on-call (cond (eqb k 30) on-bind (cond (eqb k 31) on-dseq on-ref)))))))))))
+    (cond (eqb k 22) on-leave (cond (eqb k 23) on-extend (cond (eqb k 24) on-call (cond (eqb k 30) on-bind (cond (eqb k 31) on-dseq on-ref)))))))))))
 
 -- Which marks have the rule.
 abbrev pub Has : (w : ℕ) → Arm → Mark → Type 0
@@ -40,8 +40,8 @@ Has w on-logic k = (o : Logic) × (w ≡ 2048 + operator-number (logic o)) × (k
 Has w on-not k = k ≡ not-mark
 Has w on-assign k = k ≡ assign-mark
 Has w on-loop k = k ≡ loop-mark
-Has w on-second k = (p n : ℕ) × (k ≡ second-mark p n)
-Has w on-first k = k ≡ first-mark
+Has w on-leave k = (p n : ℕ) × (k ≡ leave-mark p n)
+Has w on-extend k = k ≡ extend-mark
 Has w on-call k = (p x n : ℕ) × (k ≡ call-mark p x n)
 Has w on-bind k = k ≡ bind-mark
 Has w on-dseq k = k ≡ dseq-mark
@@ -79,8 +79,8 @@ has (loop-on {w = w} q h) = by-kind w 21 loop-mark (omega (arith, q)) refl
 has (ref-on {w = w} q h) = by-kind w 40 ref-mark (omega (arith, q)) refl
 has (bind-on {w = w} q h) = by-kind w 30 bind-mark (omega (arith, q)) refl
 has (dseq-on {w = w} q h) = by-kind w 31 dseq-mark (omega (arith, q)) refl
-has (first-on {w = w} q h) = by-kind w 23 first-mark (omega (arith, q)) refl
-has (second-on {m = m} {w = w} {p = p} q h) = by-kind w 22 (second-mark p m) (second-kind w m q) (p, m, refl)
+has (extend-on {w = w} q h) = by-kind w 23 extend-mark (omega (arith, q)) refl
+has (leave-on {m = m} {w = w} {p = p} q h) = by-kind w 22 (leave-mark p m) (second-kind w m q) (p, m, refl)
 has (call-on {w = w} {p = p} {x = x} {k = k} q l g h) = by-kind w 24 (call-mark p x k) (call-kind w (x + names * k) q) (p, x, k, refl)
 
 -- ---- The tests that are no equation.
@@ -133,8 +133,8 @@ module _ (words : List ℕ) (m : Machine) (w : ℕ) (s : (k : Mark) × Applicabl
   pub logic-needs : arm-of (w % 64) ≡ on-logic → (o : Logic) × (w ≡ 2048 + operator-number (logic o)) × Applicable words m w (mark (operator-mark (logic o)))
   logic-needs q = let h = has-there on-logic q in (h .0, h .1, as-mark (h .2))
 
-  pub second-needs : arm-of (w % 64) ≡ on-second → (p n : ℕ) × Applicable words m w (mark (second-mark p n))
-  second-needs q = let h = has-there on-second q in (h .0, h .1, as-mark (h .2))
+  pub leave-needs : arm-of (w % 64) ≡ on-leave → (p n : ℕ) × Applicable words m w (mark (leave-mark p n))
+  leave-needs q = let h = has-there on-leave q in (h .0, h .1, as-mark (h .2))
 
   pub call-needs : arm-of (w % 64) ≡ on-call → (p x k : ℕ) × Applicable words m w (mark (call-mark p x k))
   call-needs q = let h = has-there on-call q in (h .0, h .1, h .2, as-mark (h .3))
@@ -160,8 +160,8 @@ module _ (before : List ℕ) (m : Machine) (w : ℕ) (answer : Stepped) (after :
   pub logic-steps : arm-of (w % 64) ≡ on-logic → ((o : Logic) → w ≡ 2048 + operator-number (logic o) → At (operator-mark (logic o))) → (k : Mark) → At k
   logic-steps q h = steps-by on-logic q (λ k e. subst At (sym (e .2)) (h (e .0) (e .1)))
 
-  pub second-steps : arm-of (w % 64) ≡ on-second → ((p n : ℕ) → At (second-mark p n)) → (k : Mark) → At k
-  second-steps q h = steps-by on-second q (λ k e. subst At (sym (e .2)) (h (e .0) (e .1)))
+  pub leave-steps : arm-of (w % 64) ≡ on-leave → ((p n : ℕ) → At (leave-mark p n)) → (k : Mark) → At k
+  leave-steps q h = steps-by on-leave q (λ k e. subst At (sym (e .2)) (h (e .0) (e .1)))
 
   pub call-steps : arm-of (w % 64) ≡ on-call → ((p x n : ℕ) → At (call-mark p x n)) → (k : Mark) → At k
   call-steps q h = steps-by on-call q (λ k e. subst At (sym (e .3)) (h (e .0) (e .1) (e .2)))

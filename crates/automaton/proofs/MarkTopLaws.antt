@@ -1,4 +1,4 @@
--- A mark on top of control: the state without it; and the words of the values that it takes. Assumes nothing.
+-- A mark on top of control: the state without it; and the words of the values that it takes.
 use Prim.Native.Nat.{ℕ, _+_, _-_, _≤_}
 use mathlib.Core.Path.{_≡_, refl, sym, ap, _∙_, subst}
 use mathlib.Core.Bool.{Bool}
@@ -6,9 +6,9 @@ use mathlib.Core.List.{List, _∷_}
 use native.Mathlib.Omega.{arith}
 use lib.IntN.{ℤ}
 use lib.ListN.{getD}
-use Rattle.rules.specs.Tree.{Operator}
-use Rattle.rules.specs.Listing.{truth-word}
-use Rattle.rules.specs.States.{Value, integer, truth, location, value, Environment, Store, Entry, val, Item, mark, operator-mark, not-mark, assign-mark, loop-mark, ref-mark}
+use Rattle.rules.specs.paper.Tree.{Operator}
+use Rattle.rules.specs.claims.Listing.{truth-word}
+use Rattle.rules.specs.paper.States.{Value, integer, truth, location, value, Environment, Store, Entry, val, Item, mark, operator-mark, not-mark, assign-mark, loop-mark, ref-mark}
 use Rattle.integers.specs.Words.{integer-of}
 use Rattle.automaton.specs.Regions.{Slot, Regions, regions, Fits, with-control, with-values}
 use Rattle.automaton.specs.Represents.{ValueAs, integer-as, truth-as, location-as, BindableAs, value-as, Mode, ControlAs, operator-on, not-on, assign-on, loop-on, ref-on, ValuesAs, Models}

@@ -1,17 +1,16 @@
 -- The heights of the machine are the sizes of the state it holds; and a state that a step leaves, put together from its parts.
--- Assumes nothing.
 use Prim.Native.Nat.{ℕ, zero, suc, _+_, _<_, _≤_}
 use mathlib.Core.Path.{_≡_, refl, sym, ap, _∙_, subst}
 use mathlib.Core.Bool.{false}
 use mathlib.Core.List.{List, [], _∷_}
 use native.Mathlib.Omega.{arith}
 use lib.ListN.{length, take, drop}
-use Rattle.rules.specs.Refusals.{Reason, reason-number}
-use Rattle.rules.specs.States.{Environment, Store, Entry, Item, State, state}
-use Rattle.rules.specs.Rules.{goes}
-use Rattle.rules.specs.Run.{Verdict, made, withheld, judge}
+use Rattle.rules.specs.paper.Refusals.{Reason, reason-number}
+use Rattle.rules.specs.paper.States.{Environment, Store, Entry, Item, State, state}
+use Rattle.rules.specs.paper.Rules.{goes}
+use Rattle.rules.specs.paper.Run.{Verdict, made, withheld, judge}
 use Rattle.automaton.specs.Regions.{stack, Slot, slots, Regions, regions, Fits}
-use Rattle.automaton.specs.Represents.{StoreAs, no-cell, one-cell, Mode, ControlAs, nothing-left, expression-on, command-on, declaration-on, reference-on, abstraction-on, operator-on, not-on, assign-on, loop-on, ref-on, bind-on, dseq-on, first-on, second-on, call-on, ValuesAs, nothing-on, bindable-on, name-on, node-on, declared-on, opened-on, frame-on, Models}
+use Rattle.automaton.specs.Represents.{StoreAs, no-cell, one-cell, Mode, ControlAs, nothing-left, expression-on, command-on, declaration-on, reference-on, abstraction-on, operator-on, not-on, assign-on, loop-on, ref-on, bind-on, dseq-on, extend-on, leave-on, call-on, ValuesAs, nothing-on, bindable-on, name-on, node-on, declared-on, opened-on, frame-on, Models}
 use Rattle.automaton.specs.Steps.{Stands, Untouched, IsMade, IsWithheld, StepAnswer}
 use Rattle.automaton.specs.declared.machine.Machine.{Machine}
 use Rattle.automaton.specs.declared.machine.Stepped.{Stepped}
@@ -35,8 +34,8 @@ control-size (loop-on q h) = ap suc (control-size h)
 control-size (ref-on q h) = ap suc (control-size h)
 control-size (bind-on q h) = ap suc (control-size h)
 control-size (dseq-on q h) = ap suc (control-size h)
-control-size (first-on q h) = ap suc (control-size h)
-control-size (second-on q h) = ap suc (control-size h)
+control-size (extend-on q h) = ap suc (control-size h)
+control-size (leave-on q h) = ap suc (control-size h)
 control-size (call-on q x k h) = ap suc (control-size h)
 
 pub values-size : {nodes : List ℕ} {rows : List Slot} {base d p : ℕ} {E : Environment} {m : Mode} {ws : List Slot} {X : List Entry} →

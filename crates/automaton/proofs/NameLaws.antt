@@ -1,4 +1,4 @@
--- The rules of Id, DeRef and ValRef: the name's row, the cells that it leads to, and the value that goes on the stack. Assumes nothing.
+-- The rules of Id, DeRef and ValRef: the name's row, the cells that it leads to, and the value that goes on the stack.
 use Prim.Native.Nat.{ℕ, _+_, _/_, _%_, _<_}
 use mathlib.Core.Path.{_≡_, refl, sym, ap, _∙_, subst}
 use mathlib.Core.Bool.{Bool, true, false, cond}
@@ -7,11 +7,11 @@ use mathlib.Core.Option.{some, Option·some-injective}
 use native.Mathlib.Omega.{arith}
 use lib.Dec.{eqb}
 use lib.ListN.{length, getD}
-use Rattle.rules.specs.Basics.{missing}
-use Rattle.rules.specs.Tree.{Expression, Id, DeRef, ValRef}
-use Rattle.rules.specs.States.{Value, location, Bindable, value, Environment, lookup, Store, find, Entry, Item, expression}
-use Rattle.rules.specs.Rules.{Rule, Effect, IsPlain, Table, id-plain, id-cell, deref, valref}
-use Rattle.rules.specs.Run.{judge}
+use Rattle.rules.specs.proofs.Basics.{missing}
+use Rattle.rules.specs.paper.Tree.{Expression, Id, DeRef, ValRef}
+use Rattle.rules.specs.paper.States.{Value, location, Bindable, value, Environment, lookup, Store, find, Entry, Item, expression}
+use Rattle.rules.specs.paper.Rules.{Rule, Effect, IsPlain, Table, id-plain, id-cell, deref, valref}
+use Rattle.rules.specs.paper.Run.{judge}
 use Rattle.reader.specs.Pack.{packed-operand}
 use Rattle.reader.specs.Stored.{operand-is, StoredExpression}
 use Rattle.reader.specs.Stored as Stored

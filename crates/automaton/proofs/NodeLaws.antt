@@ -1,11 +1,11 @@
--- The reader's word of a node that stands in the machine's tree is the work word; and the item on top of control. Assumes nothing.
+-- The reader's word of a node that stands in the machine's tree is the work word; and the item on top of control.
 use Prim.Native.Nat.{ℕ, zero, suc, _+_, _<_, _≤_}
 use mathlib.Core.Path.{_≡_, refl, sym, ap, _∙_, subst}
 use mathlib.Core.List.{List, [], _∷_}
 use lib.ListN.{getD, take}
 use lib.Seq.{getD-take}
-use Rattle.rules.specs.Tree.{Expression, Command, Declaration}
-use Rattle.rules.specs.States.{Environment, Store, Entry, Item, expression, command, declaration}
+use Rattle.rules.specs.paper.Tree.{Expression, Command, Declaration}
+use Rattle.rules.specs.paper.States.{Environment, Store, Entry, Item, expression, command, declaration}
 use Rattle.reader.specs.Stored.{HasWord, StoredExpression, StoredCommand, StoredDeclaration}
 use Rattle.automaton.specs.Regions.{Regions, regions, with-control}
 use Rattle.automaton.specs.Represents.{Mode, ControlAs, expression-on, command-on, declaration-on, Models}

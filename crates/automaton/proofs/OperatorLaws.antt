@@ -1,4 +1,4 @@
--- The operators' marks: what stands in place of the operands is the value of the rules. Assumes nothing.
+-- The operators' marks: what stands in place of the operands is the value of the rules.
 use Prim.Native.Nat.{ℕ, _+_, _-_, _<_, _≤_}
 use mathlib.Core.Path.{_≡_, refl, sym, ap, _∙_, subst}
 use mathlib.Core.Bool.{Bool, true, false, not}
@@ -7,14 +7,14 @@ use mathlib.Core.Option.{some, Option·some-injective}
 use native.Mathlib.Omega.{arith}
 use lib.Dec.{eqb}
 use lib.ListN.{getD}
-use Rattle.rules.specs.Basics.{missing}
-use Rattle.rules.specs.Tree.{Arithmetic, Order, Logic, Operator, arithmetic, Eq, order, logic}
-use Rattle.rules.specs.Listing.{truth-word}
-use Rattle.rules.specs.Refusals.{Reason, Steps, ZeroDivisor, OutOfRange, Cells, Bindings, ValueEntries, ControlEntries, reason-number}
-use Rattle.rules.specs.Integers.{number, failed, compute, compare, equal-truths, combine}
-use Rattle.rules.specs.States.{Value, integer, truth, Environment, Store, Entry, val, Item, mark, operator-mark, not-mark, state}
-use Rattle.rules.specs.Rules.{Rule, Effect, goes, fails, pushed, equal-values, Table, arithmetic-at, equal-at, order-at, logic-at, not-at}
-use Rattle.rules.specs.Run.{priority, holds, first-holding, withheld, judge}
+use Rattle.rules.specs.proofs.Basics.{missing}
+use Rattle.rules.specs.paper.Tree.{Arithmetic, Order, Logic, Operator, arithmetic, Eq, order, logic}
+use Rattle.rules.specs.claims.Listing.{truth-word}
+use Rattle.rules.specs.paper.Refusals.{Reason, Steps, ZeroDivisor, OutOfRange, Cells, Bindings, ValueEntries, ControlEntries, reason-number}
+use Rattle.rules.specs.paper.Integers.{number, failed, compute, compare, equal-truths, combine}
+use Rattle.rules.specs.paper.States.{Value, integer, truth, Environment, Store, Entry, val, Item, mark, operator-mark, not-mark, state}
+use Rattle.rules.specs.paper.Rules.{Rule, Effect, goes, fails, pushed, equal-values, Table, arithmetic-at, equal-at, order-at, logic-at, not-at}
+use Rattle.rules.specs.paper.Run.{priority, holds, first-holding, withheld, judge}
 use Rattle.integers.specs.Words.{integer-of, word-of, computed}
 use Rattle.integers.specs.WordLaws.{equal-words, word-below, computed-in-range, computed-number, computed-failed}
 use Rattle.integers.specs.declared.Computed.the-variants.{Number, Failed}

@@ -1,13 +1,13 @@
--- An operator's number fixes the operator, hence what is computed or compared. Assumes nothing.
+-- An operator's number fixes the operator, hence what is computed or compared.
 use Prim.Native.Nat.{ℕ, _+_}
 use mathlib.Core.Path.{_≡_, refl, sym, ap, _∙_}
 use mathlib.Core.Bool.{Bool, true, false, not}
 use native.Mathlib.Omega.{arith}
 use lib.IntN.{ℤ}
 use lib.Signed.{ltZ}
-use Rattle.rules.specs.Tree.{Arithmetic, Sum, Sub, Mul, Div, Order, Lt, Le, Gt, Ge, Logic, And, Or, arithmetic, order, logic}
-use Rattle.rules.specs.Listing.{operator-number, truth-word}
-use Rattle.rules.specs.Integers.{compute, compare, combine}
+use Rattle.rules.specs.paper.Tree.{Arithmetic, Sum, Sub, Mul, Div, Order, Lt, Le, Gt, Ge, Logic, And, Or, arithmetic, order, logic}
+use Rattle.rules.specs.claims.Listing.{operator-number, truth-word}
+use Rattle.rules.specs.paper.Integers.{compute, compare, combine}
 use Rattle.integers.specs.Words.{computed}
 use Rattle.integers.specs.WordLaws.{compare-lt, compare-le, compare-gt, compare-ge}
 use Rattle.integers.specs.declared.Computed.{Computed}

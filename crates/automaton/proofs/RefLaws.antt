@@ -1,14 +1,14 @@
--- Ref's mark: a cell with the value, its location in L and in the value's place. Assumes nothing.
+-- Ref's mark: a cell with the value, its location in L and in the value's place.
 use Prim.Native.Nat.{ℕ, suc, _+_, _-_, _<_, _≤_}
 use mathlib.Core.Path.{_≡_, refl, sym, ap, _∙_, subst}
 use mathlib.Core.Bool.{false}
 use mathlib.Core.List.{List, _∷_}
 use native.Mathlib.Omega.{arith}
 use lib.ListN.{length, getD}
-use Rattle.rules.specs.Refusals.{Cells, reason-number}
-use Rattle.rules.specs.States.{location, Environment, Store, Entry, val, Item, mark, ref-mark}
-use Rattle.rules.specs.Rules.{Rule, Effect, Table, ref-at}
-use Rattle.rules.specs.Run.{judge}
+use Rattle.rules.specs.paper.Refusals.{Cells, reason-number}
+use Rattle.rules.specs.paper.States.{location, Environment, Store, Entry, val, Item, mark, ref-mark}
+use Rattle.rules.specs.paper.Rules.{Rule, Effect, Table, ref-at}
+use Rattle.rules.specs.paper.Run.{judge}
 use Rattle.automaton.specs.Regions.{Slot, slot, regions, Fits, with-values, with-cells, raised-values, raised-cells}
 use Rattle.automaton.specs.Represents.{ValueAs, location-as, value-as, one-cell, Since, one-since, bindable-on, Models}
 use Rattle.automaton.specs.Steps.{StepAnswer, Applicable, Steps}

@@ -1,4 +1,4 @@
--- Writing a word of one region leaves the others as they are; and what the top of a stack is. Assumes nothing.
+-- Writing a word of one region leaves the others as they are; and what the top of a stack is.
 use Prim.Native.Nat.{ℕ, zero, suc, _+_, _-_, _<_, _≤_}
 use mathlib.Core.Path.{_≡_, refl, sym, ap, _∙_, subst}
 use mathlib.Core.Bool.{Bool, true, false, cond}
@@ -8,7 +8,7 @@ use native.Mathlib.Omega.{arith}
 use lib.Dec.{T, eqb, eqb→eq, eqb-refl}
 use lib.ListN.{length, getD, set, take, drop, length-set}
 use lib.Seq.{getD-set-same, getD-set-other, take-set-le, drop-set-lt}
-use Rattle.rules.specs.Basics.{true-test, false-test, passed-test, failed-test}
+use Rattle.rules.specs.proofs.Basics.{true-test, false-test, passed-test, failed-test}
 use Rattle.automaton.specs.Regions.{stack, Slot, slot, slots, slot-at, set-slot, Regions, regions, Fits, with-control, with-values, with-row, with-cells, raised-control, raised-values, raised-rows, raised-cells}
 use Rattle.automaton.specs.declared.machine.Machine.{Machine}
 

@@ -1,4 +1,4 @@
--- What is taken from the last state: the registers' words, and the word of the value that is left. Assumes nothing.
+-- What is taken from the last state: the registers' words, and the word of the value that is left.
 use Prim.Native.Nat.{ℕ, zero, suc, _+_, _<_, _≤_}
 use mathlib.Core.Path.{_≡_, refl, sym, ap, _∙_, subst}
 use mathlib.Core.List.{List, [], _∷_}
@@ -8,9 +8,9 @@ use native.Mathlib.Nat.{zero-add, add-suc, suc-add}
 use lib.IntN.{ℤ}
 use lib.ListN.{length, getD, take, drop}
 use lib.Seq.{drop-cons}
-use Rattle.rules.specs.States.{Value, integer, truth, location, value, Environment, Store, find, Entry, val, Item, State, state, store-of}
-use Rattle.rules.specs.Ends.{RegisterHolds}
-use Rattle.rules.specs.Engine.{as-register, registers-from}
+use Rattle.rules.specs.paper.States.{Value, integer, truth, location, value, Environment, Store, find, Entry, val, Item, State, state, store-of}
+use Rattle.rules.specs.claims.Ends.{RegisterHolds}
+use Rattle.rules.specs.paper.Engine.{as-register, registers-from}
 use Rattle.integers.specs.Words.{integer-of, word-of, words-of}
 use Rattle.integers.specs.WordLaws.{word-of-integer}
 use Rattle.automaton.specs.Regions.{regions, Fits}

@@ -1,4 +1,4 @@
--- Room for some entries more on control, and what is left of it after one. Assumes nothing.
+-- Room for some entries more on control, and what is left of it after one.
 use Prim.Native.Nat.{ℕ, suc, _+_, _<_, _≤_}
 use mathlib.Core.Path.{_≡_, ap}
 use mathlib.Core.List.{List}

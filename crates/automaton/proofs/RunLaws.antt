@@ -1,4 +1,4 @@
--- The run's loop: what holds each time round, and how it ends. Assumes nothing.
+-- The run's loop: what holds each time round, and how it ends.
 use Prim.Native.Nat.{ℕ, zero, suc, _+_, _-_, _<_, _≤_}
 use mathlib.Core.Path.{_≡_, refl, sym, ap, _∙_, subst}
 use mathlib.Core.Bool.{Bool, false}
@@ -6,19 +6,19 @@ use mathlib.Core.List.{List, [], _∷_}
 use mathlib.Core.Option.{Option, none, some}
 use native.Mathlib.Omega.{arith}
 use lib.ListN.{length}
-use Rattle.rules.specs.Refusals.{Reason, Steps, reason-number}
-use Rattle.rules.specs.Checker.{Scope, Passed}
-use Rattle.rules.specs.States.{Environment, Store, Entry, environment, locations, Item, mark, first-mark, State, state, control-of}
-use Rattle.rules.specs.Rules.{Rule, Effect, goes, fails, Applies}
-use Rattle.rules.specs.Fire.{fire, fires}
-use Rattle.rules.specs.FireExact.{applies→fires}
-use Rattle.rules.specs.Run.{Verdict, made, withheld, settle, judge, Ending, ended, stopped, attempt, run, first-holding, holds, priority}
-use Rattle.rules.specs.History.{History, note}
-use Rattle.rules.specs.Continuation.{StackShape, declared, opened, ControlTyped, first-mark-typed, ValuesTyped, declared-on, opened-on, Invariant}
-use Rattle.rules.specs.World.{World}
-use Rattle.rules.specs.Progress.{Next, Progress}
-use Rattle.rules.specs.WholeRun.{progress}
-use Rattle.automaton.specs.Steps.{Stands, Holds, Untouched, IsMade, IsWithheld, StepAnswer, FirstMark}
+use Rattle.rules.specs.paper.Refusals.{Reason, Steps, reason-number}
+use Rattle.rules.specs.paper.Checker.{Scope, Passed}
+use Rattle.rules.specs.paper.States.{Environment, Store, Entry, environment, locations, Item, mark, extend-mark, State, state, control-of}
+use Rattle.rules.specs.paper.Rules.{Rule, Effect, goes, fails, Applies}
+use Rattle.rules.specs.paper.Fire.{fire, fires}
+use Rattle.rules.specs.proofs.running.FireExact.{applies→fires}
+use Rattle.rules.specs.paper.Run.{Verdict, made, withheld, settle, judge, Ending, ended, stopped, attempt, run, first-holding, holds, priority}
+use Rattle.rules.specs.claims.History.{History, note}
+use Rattle.rules.specs.proofs.running.Continuation.{StackShape, declared, opened, ControlTyped, extend-mark-typed, ValuesTyped, declared-on, opened-on, Invariant}
+use Rattle.rules.specs.proofs.running.World.{World}
+use Rattle.rules.specs.proofs.running.Progress.{Next, Progress}
+use Rattle.rules.specs.proofs.running.WholeRun.{progress}
+use Rattle.automaton.specs.Steps.{Stands, Holds, Untouched, IsMade, IsWithheld, StepAnswer, AtExtendMark}
 use Rattle.automaton.specs.Runs.{EnabledAt, Enabled, StepsFrom, HasEnded, HasStopped, RunAnswer}
 use Rattle.automaton.specs.declared.machine.Machine.{Machine}
 use Rattle.automaton.specs.declared.machine.Stepped.{Stepped}
@@ -30,16 +30,16 @@ use Rattle.automaton.proofs.ModelLaws.{sizes}
 
 -- At a block's first mark the declared names lie on the block's location set.
 first-values : {a : Passed} {r : ℕ} {C : List Item} {X : List Entry} {E : Environment} {W : World} {L : List ℕ} {P : List State} {Γ : Scope} {Θ : StackShape} →
-    ControlTyped a (mark first-mark ∷ C) Γ Θ → ValuesTyped r E W L X Θ P → (D : Environment) × (K : List ℕ) × (Y : List Entry) × (X ≡ environment D ∷ locations K ∷ Y)
-first-values (first-mark-typed c) v = below v
+    ControlTyped a (mark extend-mark ∷ C) Γ Θ → ValuesTyped r E W L X Θ P → (D : Environment) × (K : List ℕ) × (Y : List Entry) × (X ≡ environment D ∷ locations K ∷ Y)
+first-values (extend-mark-typed c) v = below v
   where
     below : {r : ℕ} {X : List Entry} {E : Environment} {W : World} {L : List ℕ} {P : List State} {Δ Γ : Scope} {p : ℕ} {Θ : StackShape} →
         ValuesTyped r E W L X (declared Δ (opened p Γ Θ)) P → (D : Environment) × (K : List ℕ) × (Y : List Entry) × (X ≡ environment D ∷ locations K ∷ Y)
     below (declared-on {D = D} e (opened-on {K = K} {X = Y} t g s w)) = (D, K, Y, refl)
 
-first-shape : (a : Passed) (r : ℕ) (i : Item) (C : List Item) (X : List Entry) (E : Environment) (S : Store) (L : List ℕ) (n : ℕ) (h : History) →
-    Invariant a r (state (i ∷ C) X E S L n) h → FirstMark i X
-first-shape a r i C X E S L n h inv q = first-values (subst (λ j. ControlTyped a (j ∷ C) (inv .scope) (inv .shape)) q (inv .control)) (inv .values)
+extend-mark-shape : (a : Passed) (r : ℕ) (i : Item) (C : List Item) (X : List Entry) (E : Environment) (S : Store) (L : List ℕ) (n : ℕ) (h : History) →
+    Invariant a r (state (i ∷ C) X E S L n) h → AtExtendMark i X
+extend-mark-shape a r i C X E S L n h inv q = first-values (subst (λ j. ControlTyped a (j ∷ C) (inv .scope) (inv .shape)) q (inv .control)) (inv .values)
 
 pub record Moves (words : List ℕ) (m : Machine) (a : Passed) (r : ℕ) (σ : State) (h : History) : Type 0 where
   pub item : Item
@@ -71,7 +71,7 @@ moves words m a r (state (i ∷ C) X E S L n) h held inv d =
       rule = p .rule;
       effect = p .effect;
       is = refl;
-      enabled = record { stands = held; applies = p .applies; first = first-shape a r i C X E S L n h inv };
+      enabled = record { stands = held; applies = p .applies; at-extend-mark = extend-mark-shape a r i C X E S L n h inv };
       fired = applies→fires (p .rule) (state (i ∷ C) X E S L n) (p .effect) (p .applies);
       next = p .next;
     }

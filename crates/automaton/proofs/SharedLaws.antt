@@ -1,14 +1,14 @@
--- What several rules do alike: a value more, or entries more on control. Assumes nothing.
+-- What several rules do alike: a value more, or entries more on control.
 use Prim.Native.Nat.{ℕ, zero, suc, _+_, _<_, _≤_}
 use mathlib.Core.Path.{_≡_, refl, sym, ap, _∙_, subst}
 use mathlib.Core.Bool.{false}
 use mathlib.Core.List.{List, [], _∷_}
 use native.Mathlib.Omega.{arith}
 use lib.ListN.{length}
-use Rattle.rules.specs.Refusals.{Reason, ValueEntries, ControlEntries, reason-number}
-use Rattle.rules.specs.States.{Bindable, Environment, Store, Entry, bindable, Item, State, state}
-use Rattle.rules.specs.Rules.{goes}
-use Rattle.rules.specs.Run.{withheld, judge}
+use Rattle.rules.specs.paper.Refusals.{Reason, ValueEntries, ControlEntries, reason-number}
+use Rattle.rules.specs.paper.States.{Bindable, Environment, Store, Entry, bindable, Item, State, state}
+use Rattle.rules.specs.paper.Rules.{goes}
+use Rattle.rules.specs.paper.Run.{withheld, judge}
 use Rattle.automaton.specs.Regions.{Slot, slot, slots, Regions, regions, Fits, with-control, with-values, raised-control, raised-values}
 use Rattle.automaton.specs.Represents.{BindableAs, ControlAs, ValuesAs, bindable-on, Models}
 use Rattle.automaton.specs.Steps.{StepAnswer, Pushes, PutsTwo, PutsThree, Enters}

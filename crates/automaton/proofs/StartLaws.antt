@@ -1,4 +1,4 @@
--- The start of a run: the registers' rows and cells, one by one, and the root on control. Assumes nothing.
+-- The start of a run: the registers' rows and cells, one by one, and the root on control.
 use Prim.Native.Nat.{ℕ, zero, suc, _+_, _*_, _<_, _≤_}
 use mathlib.Core.Path.{_≡_, refl, sym, ap, _∙_, subst}
 use mathlib.Core.Bool.{true}
@@ -9,10 +9,10 @@ use lib.Dec.{eqb, eqb-refl}
 use lib.IntN.{ℤ, pos}
 use lib.ListN.{length, getD, take, drop}
 use lib.Seq.{getD-take}
-use Rattle.rules.specs.Basics.{true-test}
-use Rattle.rules.specs.Tree.{Root, expression, command}
-use Rattle.rules.specs.States.{value, location, bound}
-use Rattle.rules.specs.Engine.{register-environment, register-store, root-item, start}
+use Rattle.rules.specs.proofs.Basics.{true-test}
+use Rattle.rules.specs.paper.Tree.{Root, expression, command}
+use Rattle.rules.specs.paper.States.{value, location, bound}
+use Rattle.rules.specs.paper.Engine.{register-environment, register-store, root-item, start}
 use Rattle.reader.specs.Stored.{StoredRoot, root-expression, root-command}
 use Rattle.reader.specs.StoredLaws.{same-expression, same-command}
 use Rattle.integers.specs.Words.{integer-of, integers-of}

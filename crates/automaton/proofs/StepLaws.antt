@@ -1,19 +1,19 @@
--- The item on top of control: where its word stands, and of which sort it is by its word. Assumes nothing.
+-- The item on top of control: where its word stands, and of which sort it is by its word.
 use Prim.Native.Nat.{ℕ, zero, suc, _+_, _-_, _<_, _≤_}
 use mathlib.Core.Path.{_≡_, refl, sym, ap, _∙_, subst}
 use mathlib.Core.List.{List, [], _∷_}
 use native.Mathlib.Omega.{arith}
 use lib.Dec.{lit<}
 use lib.ListN.{length, getD}
-use Rattle.rules.specs.Tree.{Operator, arithmetic, Eq, order, logic, Arithmetic, Sum, Sub, Mul, Div, Order, Lt, Le, Gt, Ge, Logic, And, Or, Expression, Formal, Command, Block, Declaration}
-use Rattle.rules.specs.Listing.{operator-number}
-use Rattle.rules.specs.States.{Environment, Store, Entry, Item, Mark, expression, command, declaration, reference, abstraction, mark}
-use Rattle.rules.specs.Rules.{Rule, Effect}
+use Rattle.rules.specs.paper.Tree.{Operator, arithmetic, Eq, order, logic, Arithmetic, Sum, Sub, Mul, Div, Order, Lt, Le, Gt, Ge, Logic, And, Or, Expression, Formal, Command, Block, Declaration}
+use Rattle.rules.specs.claims.Listing.{operator-number}
+use Rattle.rules.specs.paper.States.{Environment, Store, Entry, Item, Mark, expression, command, declaration, reference, abstraction, mark}
+use Rattle.rules.specs.paper.Rules.{Rule, Effect}
 use Rattle.reader.specs.Pack.{packed-kind}
 use Rattle.reader.specs.Stored.{HasWord, kind-is, StoredExpression, StoredCommand, StoredBlock, StoredDeclaration, StoredBound}
 use Rattle.reader.specs.Stored as Stored
 use Rattle.automaton.specs.Regions.{stack, Regions, regions, Fits, with-control}
-use Rattle.automaton.specs.Represents.{Mode, ControlAs, expression-on, command-on, declaration-on, reference-on, abstraction-on, operator-on, not-on, assign-on, loop-on, ref-on, bind-on, dseq-on, first-on, second-on, call-on, Models}
+use Rattle.automaton.specs.Represents.{Mode, ControlAs, expression-on, command-on, declaration-on, reference-on, abstraction-on, operator-on, not-on, assign-on, loop-on, ref-on, bind-on, dseq-on, extend-on, leave-on, call-on, Models}
 use Rattle.automaton.specs.Steps.{Stands, Ready}
 use Rattle.automaton.specs.Runs.{EnabledAt}
 use Rattle.automaton.specs.declared.machine.Machine.{Machine}
@@ -117,8 +117,8 @@ module _ (words : List ℕ) (m : Machine) where
   item-sort (ref-on q h) = mark-sort (omega (arith, q))
   item-sort (bind-on q h) = mark-sort (omega (arith, q))
   item-sort (dseq-on q h) = mark-sort (omega (arith, q))
-  item-sort (first-on q h) = mark-sort (omega (arith, q))
-  item-sort (second-on q h) = mark-sort (omega (arith, q))
+  item-sort (extend-on q h) = mark-sort (omega (arith, q))
+  item-sort (leave-on q h) = mark-sort (omega (arith, q))
   item-sort (call-on q x k h) = mark-sort (omega (arith, q))
 
 -- ---- The item taken off control.
@@ -142,7 +142,7 @@ taken words m {i} {C} {X} {E} {S} {L} {n} h =
             fits = record { room = f .room; few-control = omega (arith, f .few-control); few-values = f .few-values; few-bindings = f .few-bindings; few-cells = f .few-cells };
             models = μ;
             applies = h .applies;
-            first = h .first;
+            at-extend-mark = h .at-extend-mark;
           };
       sort = item-sort words (lowered m) (μ .control-as);
     }

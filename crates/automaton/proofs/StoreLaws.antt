@@ -1,4 +1,4 @@
--- The cells and the store: where a location is found, and a cell that is set. Assumes nothing.
+-- The cells and the store: where a location is found, and a cell that is set.
 use Prim.Native.Nat.{ℕ, suc, _<_}
 use mathlib.Core.Path.{_≡_, refl, sym, ap, _∙_}
 use mathlib.Core.Bool.{Bool, true, false, cond}
@@ -7,8 +7,8 @@ use mathlib.Core.Option.{some}
 use native.Mathlib.Omega.{arith}
 use lib.Dec.{eqb, eqb→eq}
 use lib.ListN.{length}
-use Rattle.rules.specs.Basics.{missing, passed-test}
-use Rattle.rules.specs.States.{Value, Store, find, store-at}
+use Rattle.rules.specs.proofs.Basics.{missing, passed-test}
+use Rattle.rules.specs.paper.States.{Value, Store, find, store-at}
 use Rattle.automaton.specs.Regions.{Slot, set-slot}
 use Rattle.automaton.specs.Represents.{ValueAs, StoreAs, no-cell, one-cell}
 

@@ -1,12 +1,12 @@
--- The top of the value stack: its entries by their slots, the words in which these stand, and the stack without them. Assumes nothing.
+-- The top of the value stack: its entries by their slots, the words in which these stand, and the stack without them.
 use Prim.Native.Nat.{ℕ, zero, suc, _+_, _-_, _<_, _≤_}
 use mathlib.Core.Path.{_≡_, refl, sym, ap, _∙_, subst}
 use mathlib.Core.List.{List, [], _∷_}
 use native.Mathlib.Omega.{arith}
 use lib.ListN.{length, getD}
-use Rattle.rules.specs.Tree.{Expression, Command, Loop}
-use Rattle.rules.specs.Limits.{names}
-use Rattle.rules.specs.States.{Bindable, Environment, Entry, bindable, name, node, environment, locations}
+use Rattle.rules.specs.paper.Tree.{Expression, Command, Loop}
+use Rattle.rules.specs.paper.Limits.{names}
+use Rattle.rules.specs.paper.States.{Bindable, Environment, Entry, bindable, name, node, environment, locations}
 use Rattle.reader.specs.Stored.{StoredCommand}
 use Rattle.automaton.specs.Regions.{Slot, slot, slots, Regions, regions, with-values}
 use Rattle.automaton.specs.Represents.{BindableAs, SegmentAs, Since, Extends, Mode, running, declaring, ValuesAs, nothing-on, bindable-on, name-on, node-on, declared-on, opened-on, frame-on}

@@ -1,12 +1,12 @@
--- What a call does to the regions: a row for each Formal, and the frame that it saves. Assumes nothing.
+-- What a call does to the regions: a row for each Formal, and the frame that it saves.
 use Prim.Native.Nat.{ℕ, _+_, _-_}
 use mathlib.Core.Path.{_≡_}
 use mathlib.Core.List.{List, _∷_}
 use mathlib.Core.Option.{some}
 use lib.ListN.{length}
-use Rattle.rules.specs.Tree.{Formal}
-use Rattle.rules.specs.States.{Environment, Entry}
-use Rattle.rules.specs.Rules.{Matched, match-formals}
+use Rattle.rules.specs.paper.Tree.{Formal}
+use Rattle.rules.specs.paper.States.{Environment, Entry}
+use Rattle.rules.specs.paper.Rules.{Matched, match-formals}
 use Rattle.reader.specs.Stored.{StoredFormals}
 use Rattle.automaton.specs.Regions.{Slot, slot, Regions, regions, with-control, with-values, raised-control, raised-values}
 use Rattle.automaton.specs.Represents.{SegmentAs, Extends, Mode, ValuesAs}

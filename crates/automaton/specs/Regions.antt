@@ -1,5 +1,4 @@
 -- What the machine keeps in the work words, region by region: the tree's nodes, the stacks, the rows of the bindings and the cells.
--- Assumes nothing.
 use Prim.Native.Nat.{ℕ, zero, suc, _+_, _≤_}
 use mathlib.Core.List.{List, [], _∷_}
 use mathlib.Core.Bool.{cond}

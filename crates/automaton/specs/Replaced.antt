@@ -1,10 +1,10 @@
--- What a step answers that puts a value in place of two. Assumes nothing.
+-- What a step answers that puts a value in place of two.
 use Prim.Native.Nat.{ℕ}
 use mathlib.Core.Bool.{false}
 use mathlib.Core.List.{List, _∷_}
-use Rattle.rules.specs.States.{Value, Environment, Store, Entry, val, Item, state}
-use Rattle.rules.specs.Rules.{goes}
-use Rattle.rules.specs.Run.{judge}
+use Rattle.rules.specs.paper.States.{Value, Environment, Store, Entry, val, Item, state}
+use Rattle.rules.specs.paper.Rules.{goes}
+use Rattle.rules.specs.paper.Run.{judge}
 use Rattle.automaton.specs.Regions.{regions}
 use Rattle.automaton.specs.Represents.{ValueAs, Models}
 use Rattle.automaton.specs.Steps.{StepAnswer}

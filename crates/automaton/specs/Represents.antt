@@ -1,5 +1,5 @@
 -- Which state of the automaton the regions hold. A value's label is 1 for a location and 0 for anything else; a row's is its name, its
--- value's label and the pointer of the row below it; a location set is the count of cells there were before its first. Assumes nothing.
+-- value's label and the pointer of the row below it; a location set is the count of cells there were before its first.
 use Prim.Native.Nat.{ℕ, zero, suc, _+_, _*_, _<_, _≤_}
 use mathlib.Core.Path.{_≡_}
 use mathlib.Core.Bool.{Bool}
@@ -7,10 +7,10 @@ use mathlib.Core.List.{List, [], _∷_}
 use mathlib.Core.Option.{Option, none, some}
 use lib.IntN.{ℤ}
 use lib.ListN.{length}
-use Rattle.rules.specs.Tree.{Operator, Expression, Formal, Command, Loop, Block, Declaration, Bound, Ref, Abs}
-use Rattle.rules.specs.Limits.{names, most-parameters}
-use Rattle.rules.specs.Listing.{operator-number, truth-word}
-use Rattle.rules.specs.States.{Value, integer, truth, location, Bindable, value, closure, Environment, empty, bound, Cell, Store, Entry, bindable, name, node, environment, locations, operator-mark, not-mark, assign-mark, loop-mark, ref-mark, bind-mark, dseq-mark, first-mark, second-mark, call-mark, Item, expression, command, declaration, reference, abstraction, mark, State, state}
+use Rattle.rules.specs.paper.Tree.{Operator, Expression, Formal, Command, Loop, Block, Declaration, Bound, Ref, Abs}
+use Rattle.rules.specs.paper.Limits.{names, most-parameters}
+use Rattle.rules.specs.claims.Listing.{operator-number, truth-word}
+use Rattle.rules.specs.paper.States.{Value, integer, truth, location, Bindable, value, closure, Environment, empty, bound, Cell, Store, Entry, bindable, name, node, environment, locations, operator-mark, not-mark, assign-mark, loop-mark, ref-mark, bind-mark, dseq-mark, extend-mark, leave-mark, call-mark, Item, expression, command, declaration, reference, abstraction, mark, State, state}
 use Rattle.reader.specs.Stored.{StoredExpression, StoredCommand, StoredDeclaration, StoredBound}
 use Rattle.integers.specs.Words.{integer-of}
 use Rattle.automaton.specs.Regions.{Slot, slot-at, Regions}
@@ -88,10 +88,10 @@ pub data ControlAs (nodes : List ℕ) : Mode → List ℕ → List Item → Type
       ControlAs nodes (declaring m ms) ws C → ControlAs nodes (declaring m ms) (w ∷ ws) (mark bind-mark ∷ C)
   dseq-on : {m : ℕ} {ms : List ℕ} {ws : List ℕ} {C : List Item} {w : ℕ} → w ≡ 2079 →
       ControlAs nodes (declaring m ms) ws C → ControlAs nodes (declaring m ms) (w ∷ ws) (mark dseq-mark ∷ C)
-  first-on : {m : ℕ} {ms : List ℕ} {ws : List ℕ} {C : List Item} {w : ℕ} → w ≡ 2071 →
-      ControlAs nodes (running (m ∷ ms)) ws C → ControlAs nodes (declaring m ms) (w ∷ ws) (mark first-mark ∷ C)
-  second-on : {m : ℕ} {ms : List ℕ} {ws : List ℕ} {C : List Item} {w p : ℕ} → w ≡ 2070 + 4096 * m →
-      ControlAs nodes (running ms) ws C → ControlAs nodes (running (m ∷ ms)) (w ∷ ws) (mark (second-mark p m) ∷ C)
+  extend-on : {m : ℕ} {ms : List ℕ} {ws : List ℕ} {C : List Item} {w : ℕ} → w ≡ 2071 →
+      ControlAs nodes (running (m ∷ ms)) ws C → ControlAs nodes (declaring m ms) (w ∷ ws) (mark extend-mark ∷ C)
+  leave-on : {m : ℕ} {ms : List ℕ} {ws : List ℕ} {C : List Item} {w p : ℕ} → w ≡ 2070 + 4096 * m →
+      ControlAs nodes (running ms) ws C → ControlAs nodes (running (m ∷ ms)) (w ∷ ws) (mark (leave-mark p m) ∷ C)
   call-on : {ms : List ℕ} {ws : List ℕ} {C : List Item} {w p x k : ℕ} → w ≡ 2072 + 4096 * (x + names * k) → x < names → k ≤ most-parameters →
       ControlAs nodes (running ms) ws C → ControlAs nodes (running ms) (w ∷ ws) (mark (call-mark p x k) ∷ C)
 

@@ -1,9 +1,9 @@
--- What a look-up in the rows finds. Assumes nothing.
+-- What a look-up in the rows finds.
 use Prim.Native.Nat.{ℕ, _<_, _≤_}
 use mathlib.Core.Path.{_≡_}
 use mathlib.Core.List.{List}
 use lib.ListN.{length}
-use Rattle.rules.specs.States.{Bindable}
+use Rattle.rules.specs.paper.States.{Bindable}
 use Rattle.automaton.specs.Regions.{Slot}
 use Rattle.automaton.specs.Represents.{BindableAs, link}
 

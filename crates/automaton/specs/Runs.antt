@@ -1,13 +1,13 @@
--- What a step and a run of the machine answer, from the state that it holds. Assumes nothing.
+-- What a step and a run of the machine answer, from the state that it holds.
 use Prim.Native.Nat.{ℕ}
 use mathlib.Core.Path.{_≡_}
 use mathlib.Core.Bool.{false}
 use mathlib.Core.List.{List, [], _∷_}
-use Rattle.rules.specs.Refusals.{Reason, reason-number}
-use Rattle.rules.specs.States.{Environment, Store, Entry, Item, State, state}
-use Rattle.rules.specs.Rules.{Rule, Effect, Table}
-use Rattle.rules.specs.Run.{judge, Ending, ended, stopped, lost}
-use Rattle.automaton.specs.Steps.{Stands, Holds, Untouched, StepAnswer, FirstMark}
+use Rattle.rules.specs.paper.Refusals.{Reason, reason-number}
+use Rattle.rules.specs.paper.States.{Environment, Store, Entry, Item, State, state}
+use Rattle.rules.specs.paper.Rules.{Rule, Effect, Table}
+use Rattle.rules.specs.paper.Run.{judge, Ending, ended, stopped, lost}
+use Rattle.automaton.specs.Steps.{Stands, Holds, Untouched, StepAnswer, AtExtendMark}
 use Rattle.automaton.specs.declared.machine.Machine.{Machine}
 use Rattle.automaton.specs.declared.machine.Stepped.{Stepped}
 use Rattle.automaton.specs.declared.Ending as Endings
@@ -17,7 +17,7 @@ use Rattle.automaton.specs.declared.Ending.the-variants.{Ended, Stopped}
 pub record EnabledAt (words : List ℕ) (m : Machine) (i : Item) (C : List Item) (X : List Entry) (E : Environment) (S : Store) (L : List ℕ) (n : ℕ) (r : Rule) (e : Effect) : Type 0 where
   pub stands : Stands words m (i ∷ C) X E S L n
   pub applies : Table C E S L n r i X e
-  pub first : FirstMark i X
+  pub at-extend-mark : AtExtendMark i X
 
 pub record Enabled (words : List ℕ) (m : Machine) : Type 0 where
   pub item : Item

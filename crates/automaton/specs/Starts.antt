@@ -1,11 +1,11 @@
--- The state in which a run starts, as the machine holds it, and the value that is left where one ends. Assumes nothing.
+-- The state in which a run starts, as the machine holds it, and the value that is left where one ends.
 use Prim.Native.Nat.{ℕ}
 use mathlib.Core.List.{List, _∷_}
 use lib.ListN.{length}
-use Rattle.rules.specs.Tree.{Root}
-use Rattle.rules.specs.Engine.{start}
-use Rattle.rules.specs.Listing.{truth-word}
-use Rattle.rules.specs.States.{Value, integer, truth, location, Environment, Store, Entry, val, Item}
+use Rattle.rules.specs.paper.Tree.{Root}
+use Rattle.rules.specs.paper.Engine.{start}
+use Rattle.rules.specs.claims.Listing.{truth-word}
+use Rattle.rules.specs.paper.States.{Value, integer, truth, location, Environment, Store, Entry, val, Item}
 use Rattle.reader.specs.Stored.{StoredRoot}
 use Rattle.integers.specs.Words.{word-of, integers-of}
 use Rattle.automaton.specs.Steps.{Stands, Holds, Untouched}

@@ -1,13 +1,13 @@
--- What a step of the machine answers, by the rules' table. Assumes nothing.
+-- What a step of the machine answers, by the rules' table.
 use Prim.Native.Nat.{ℕ, _≤_}
 use mathlib.Core.Path.{_≡_}
 use mathlib.Core.Bool.{false}
 use mathlib.Core.List.{List, [], _∷_}
 use lib.ListN.{length, take, drop}
-use Rattle.rules.specs.Refusals.{Reason, reason-number}
-use Rattle.rules.specs.States.{Bindable, Environment, Store, Entry, bindable, environment, locations, Item, mark, first-mark, State, state}
-use Rattle.rules.specs.Rules.{Rule, Effect, goes, Table}
-use Rattle.rules.specs.Run.{Verdict, made, withheld, judge}
+use Rattle.rules.specs.paper.Refusals.{Reason, reason-number}
+use Rattle.rules.specs.paper.States.{Bindable, Environment, Store, Entry, bindable, environment, locations, Item, mark, extend-mark, State, state}
+use Rattle.rules.specs.paper.Rules.{Rule, Effect, goes, Table}
+use Rattle.rules.specs.paper.Run.{Verdict, made, withheld, judge}
 use Rattle.automaton.specs.Regions.{Regions, slot, regions, Fits, with-control}
 use Rattle.automaton.specs.Represents.{BindableAs, ControlAs, ValuesAs, Models}
 use Rattle.automaton.specs.declared.machine.Machine.{Machine}
@@ -45,14 +45,14 @@ StepAnswer (withheld x) r before after = IsWithheld x r before after
 
 -- An item was taken off control: its word, the machine without it, and the rule that applies at it. At a block's first mark the value
 -- stack has the declared names on the location set.
-abbrev pub FirstMark : Item → List Entry → Type 0
-FirstMark i X = i ≡ mark first-mark → (D : Environment) × (K : List ℕ) × (Y : List Entry) × (X ≡ environment D ∷ locations K ∷ Y)
+abbrev pub AtExtendMark : Item → List Entry → Type 0
+AtExtendMark i X = i ≡ mark extend-mark → (D : Environment) × (K : List ℕ) × (Y : List Entry) × (X ≡ environment D ∷ locations K ∷ Y)
 
 pub record Ready (words : List ℕ) (m : Machine) (w : ℕ) (i : Item) (C : List Item) (X : List Entry) (E : Environment) (S : Store) (L : List ℕ) (n : ℕ) (r : Rule) (e : Effect) : Type 0 where
   pub fits : Fits words m
   pub models : Models (with-control w (regions words m)) (i ∷ C) X E S L n
   pub applies : Table C E S L n r i X e
-  pub first : FirstMark i X
+  pub at-extend-mark : AtExtendMark i X
 
 -- Some rule applies at this item.
 pub record Applicable (words : List ℕ) (m : Machine) (w : ℕ) (i : Item) : Type 0 where

@@ -1,7 +1,7 @@
 // The rules of the marks that make, save and restore environments: those of Bind, DSeq, blocks and calls.
 ghost use mathlib.Core.Path.{_≡_};
 ghost use Prim.Native.Nat.{ℕ, _+_, _-_, _≤_};
-ghost use Rattle.rules.specs.States.{bind-mark, dseq-mark, first-mark, second-mark, call-mark, mark};
+ghost use Rattle.rules.specs.paper.States.{bind-mark, dseq-mark, extend-mark, leave-mark, call-mark, mark};
 ghost use Rattle.automaton.specs.Regions.{regions, Fits};
 ghost use Rattle.automaton.specs.Steps.{Applicable, Steps};
 ghost use Rattle.automaton.specs.Formals.{with-formals, CanBind, Binds, framed, with-frame};
@@ -46,9 +46,9 @@ pub(crate) fn dseq_mark(work: &mut [u64], mut m: Machine, word: u64) -> Stepped
 }
 
 // A block's first: the environment is saved, and the declared names are added to it.
-pub(crate) fn first_mark(work: &mut [u64], mut m: Machine, word: u64) -> Stepped
-    requires { ⌜ Applicable (now work) m word (mark first-mark) ⌝ }
-    ensures { λ r. ⌜ Steps (now (work .entry)) m word (mark first-mark) r (now (work .exit)) ⌝ }
+pub(crate) fn extend_mark(work: &mut [u64], mut m: Machine, word: u64) -> Stepped
+    requires { ⌜ Applicable (now work) m word (mark extend-mark) ⌝ }
+    ensures { λ r. ⌜ Steps (now (work .entry)) m word (mark extend-mark) r (now (work .exit)) ⌝ }
 {
     let outer = m.environment;
     m.environment = m.declared;
@@ -57,9 +57,9 @@ pub(crate) fn first_mark(work: &mut [u64], mut m: Machine, word: u64) -> Stepped
 }
 
 // A block's second, and a call's: what was saved is taken back, and the block's own cells are removed.
-pub(crate) fn second_mark(work: &mut [u64], mut m: Machine, word: u64) -> Stepped
-    requires { ⌜ ((p n : ℕ) × Applicable (now work) m word (mark (second-mark p n))) ⌝ }
-    ensures { λ r. ⌜ ((p n : ℕ) → Steps (now (work .entry)) m word (mark (second-mark p n)) r (now (work .exit))) ⌝ }
+pub(crate) fn leave_mark(work: &mut [u64], mut m: Machine, word: u64) -> Stepped
+    requires { ⌜ ((p n : ℕ) × Applicable (now work) m word (mark (leave-mark p n))) ⌝ }
+    ensures { λ r. ⌜ ((p n : ℕ) → Steps (now (work .entry)) m word (mark (leave-mark p n)) r (now (work .exit))) ⌝ }
 {
     let height = m.values;
     m.values = height - 2;

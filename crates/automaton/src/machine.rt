@@ -12,7 +12,7 @@ ghost use mathlib.Core.Option.{some};
 ghost use mathlib.Core.List.{List, _∷_};
 ghost use Prim.Native.Nat.{ℕ, _+_, _<_, _≤_};
 ghost use lib.ListN.{length, getD};
-ghost use Rattle.rules.specs.States.{Bindable, Environment, lookup};
+ghost use Rattle.rules.specs.paper.States.{Bindable, Environment, lookup};
 ghost use Rattle.automaton.specs.Regions.{slot, slots, regions, Fits, with-control, with-values, with-row, with-cells, raised-control, raised-values, raised-rows, raised-cells, set-slot};
 ghost use Rattle.automaton.specs.Represents.{SegmentAs};
 ghost use Rattle.automaton.specs.Rows.{RowOf};

@@ -1,11 +1,11 @@
 // The rules of the marks of Assign, Loop and Ref, and which rule a mark has.
-ghost use Rattle.rules.specs.States.{Mark, assign-mark, loop-mark, ref-mark, mark};
+ghost use Rattle.rules.specs.paper.States.{Mark, assign-mark, loop-mark, ref-mark, mark};
 ghost use Rattle.automaton.specs.Steps.{Applicable, Steps};
 use crate::frames::bind_mark;
 use crate::frames::call_mark;
 use crate::frames::dseq_mark;
-use crate::frames::first_mark;
-use crate::frames::second_mark;
+use crate::frames::extend_mark;
+use crate::frames::leave_mark;
 use crate::machine::Location;
 use crate::machine::Machine;
 use crate::machine::Stepped;
@@ -98,10 +98,10 @@ pub(crate) fn mark_rule(work: &mut [u64], m: Machine, word: u64) -> Stepped
         return loop_mark(work, m, word);
     }
     if kind == 22 {
-        return second_mark(work, m, word);
+        return leave_mark(work, m, word);
     }
     if kind == 23 {
-        return first_mark(work, m, word);
+        return extend_mark(work, m, word);
     }
     if kind == 24 {
         return call_mark(work, m, word);

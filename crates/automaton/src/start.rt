@@ -1,7 +1,7 @@
 // The state in which a run starts.
 ghost use Prim.Native.Nat.{_≤_};
 ghost use lib.ListN.{length};
-ghost use Rattle.rules.specs.Tree.{Root};
+ghost use Rattle.rules.specs.paper.Tree.{Root};
 ghost use Rattle.automaton.specs.Starts.{RootStands, StartsAt};
 use crate::machine::Machine;
 use crate::machine::put_cell;

@@ -1,11 +1,11 @@
--- A Call's actuals one after the other, and their codes against those of the Formals. Assumes nothing.
+-- A Call's actuals one after the other, and their codes against those of the Formals.
 use Prim.Native.Nat.{ℕ, _+_, _-_, _/_, _<_}
 use mathlib.Core.Path.{_≡_, refl, sym, ap, _∙_, subst}
 use mathlib.Core.List.{List, [], _∷_}
 use native.Mathlib.Omega.{arith}
 use lib.ListN.{length, getD}
-use Rattle.rules.specs.Tree.{Expression, Formal}
-use Rattle.rules.specs.Checker.{Scope, Judged, fault, fine, _>>=_, same-code, same-codes, expression-code, expression-codes}
+use Rattle.rules.specs.paper.Tree.{Expression, Formal}
+use Rattle.rules.specs.paper.Checker.{Scope, Judged, fault, fine, _>>=_, same-code, same-codes, expression-code, expression-codes}
 use Rattle.reader.specs.Pack.{packed-operand, packed-end}
 use Rattle.reader.specs.Stored.{StoredActuals, no-actuals, one-actual}
 use Rattle.checker.specs.Rows.{ScopeAt}

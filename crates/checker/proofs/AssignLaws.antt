@@ -1,4 +1,4 @@
--- Codes that are assigned, referred to and compared, and the whole of Assign. Assumes nothing.
+-- Codes that are assigned, referred to and compared, and the whole of Assign.
 use Prim.Native.Nat.{ℕ, zero, suc, _+_, _<_, _≤_}
 use mathlib.Core.Path.{_≡_, refl, sym, ap, _∙_, subst}
 use mathlib.Core.Bool.{cond}
@@ -6,11 +6,11 @@ use mathlib.Core.List.{List}
 use native.Mathlib.Omega.{arith}
 use lib.Dec.{T, eqb, eqb→eq, eqb-refl, ltb, ltb→lt}
 use lib.ListN.{length, getD}
-use Rattle.rules.specs.Basics.{true-test, false-test}
-use Rattle.rules.specs.Refusals.{refusal-number}
-use Rattle.rules.specs.Limits.{plain-codes}
-use Rattle.rules.specs.Tree.{Expression, Assign}
-use Rattle.rules.specs.Checker.{Meaning, code, function, Scope, Judged, fault, fine, _>>=_, Fine, meaning-of, bound-name, assignable, same-code, ref-code, expression-code, command-ok}
+use Rattle.rules.specs.proofs.Basics.{true-test, false-test}
+use Rattle.rules.specs.paper.Refusals.{refusal-number}
+use Rattle.rules.specs.paper.Limits.{plain-codes}
+use Rattle.rules.specs.paper.Tree.{Expression, Assign}
+use Rattle.rules.specs.paper.Checker.{Meaning, code, function, Scope, Judged, fault, fine, _>>=_, Fine, meaning-of, bound-name, assignable, same-code, ref-code, expression-code, command-ok}
 use Rattle.reader.specs.Pack.{packed-operand}
 use Rattle.reader.specs.Stored.{HasWord, operand-is}
 use Rattle.checker.specs.Rows.{meaning-number, ScopeAt}

@@ -1,12 +1,12 @@
--- Blocks: the declaration's names, then the command in the scope with them. Assumes nothing.
+-- Blocks: the declaration's names, then the command in the scope with them.
 use Prim.Native.Nat.{ℕ, suc, _+_, _<_, _≤_}
 use mathlib.Core.Path.{_≡_, refl, sym, ap, _∙_, subst}
 use mathlib.Core.List.{List, _++_}
 use native.Mathlib.Omega.{arith}
 use lib.ListN.{length, getD}
-use Rattle.rules.specs.Tree.{Command, Block, Blk, Declaration}
-use Rattle.rules.specs.Refusals.{Refusal, refusal-number}
-use Rattle.rules.specs.Checker.{Scope, Judged, fault, fine, _>>=_, Fine, command-ok, block-ok, declaration-gives}
+use Rattle.rules.specs.paper.Tree.{Command, Block, Blk, Declaration}
+use Rattle.rules.specs.paper.Refusals.{Refusal, refusal-number}
+use Rattle.rules.specs.paper.Checker.{Scope, Judged, fault, fine, _>>=_, Fine, command-ok, block-ok, declaration-gives}
 use Rattle.reader.specs.Pack.{packed-end}
 use Rattle.reader.specs.Stored.{HasWord, StoredCommand, StoredBlock, blk, StoredDeclaration}
 use Rattle.checker.specs.Rows.{Rows, ScopeAt}

@@ -1,13 +1,13 @@
 -- What a Bind's child means, by the kind of its node: an expression's code, a location's, or a function with its Formals and its block;
--- and that a meaning that was found fits into a row. Assumes nothing.
+-- and that a meaning that was found fits into a row.
 use Prim.Native.Nat.{ℕ, zero, suc, _+_, _<_, _≤_}
 use mathlib.Core.Path.{_≡_, refl, sym, _∙_, subst}
 use mathlib.Core.List.{List, [], _∷_, _++_}
 use native.Mathlib.Omega.{arith}
 use lib.ListN.{length, getD}
-use Rattle.rules.specs.Refusals.{Refusal, refusal-number}
-use Rattle.rules.specs.Tree.{Operator, arithmetic, Eq, order, logic, Expression, Num, Boo, Id, DeRef, ValRef, Binary, Not, Formal, Block, Bound, plain, Ref, Abs}
-use Rattle.rules.specs.Checker.{Meaning, code, function, Scope, Judged, fault, fine, _>>=_, Fine, meaning-of, bound-name, id-code, deref-code, valref-code, integers-give, truths-give, equals-give, operator-code, truth-only, expression-code, distinct, with-formals, ref-code, block-ok, bound-means}
+use Rattle.rules.specs.paper.Refusals.{Refusal, refusal-number}
+use Rattle.rules.specs.paper.Tree.{Operator, arithmetic, Eq, order, logic, Expression, Num, Boo, Id, DeRef, ValRef, Binary, Not, Formal, Block, Bound, plain, Ref, Abs}
+use Rattle.rules.specs.paper.Checker.{Meaning, code, function, Scope, Judged, fault, fine, _>>=_, Fine, meaning-of, bound-name, id-code, deref-code, valref-code, integers-give, truths-give, equals-give, operator-code, truth-only, expression-code, distinct, with-formals, ref-code, block-ok, bound-means}
 use Rattle.reader.specs.Pack.{packed-kind, packed-operand}
 use Rattle.reader.specs.Stored.{HasWord, kind-is, operand-is, StoredExpression, num, boo, id, deref, valref, binary, negation, StoredFormals, no-formals, one-formal, StoredBlock, blk, StoredBound, plain-of, ref, abs}
 use Rattle.checker.specs.Rows.{meaning-number, MeaningAt, code-at, function-at, Rows, no-rows, ScopeAt}

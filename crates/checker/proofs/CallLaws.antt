@@ -1,14 +1,14 @@
--- Call: the actuals, the name, that it is a function, how many Formals it has, and their codes. Assumes nothing.
+-- Call: the actuals, the name, that it is a function, how many Formals it has, and their codes.
 use Prim.Native.Nat.{ℕ, zero, suc, _+_, _*_, _/_, _%_, _<_, _≤_}
 use mathlib.Core.Path.{_≡_, refl, sym, ap, _∙_, subst}
 use mathlib.Core.List.{List, [], _∷_}
 use mathlib.Core.Option.{Option, none, some}
 use native.Mathlib.Omega.{arith}
 use lib.ListN.{length, getD}
-use Rattle.rules.specs.Limits.{names}
-use Rattle.rules.specs.Refusals.{Refusal, refusal-number, BadCall}
-use Rattle.rules.specs.Tree.{Expression, Formal, Call}
-use Rattle.rules.specs.Checker.{Meaning, code, function, Scope, Judged, fault, fine, _>>=_, Fine, ok, meaning-of, bound-name, called, same-count, same-codes, expression-code, expression-codes, command-ok}
+use Rattle.rules.specs.paper.Limits.{names}
+use Rattle.rules.specs.paper.Refusals.{Refusal, refusal-number, BadCall}
+use Rattle.rules.specs.paper.Tree.{Expression, Formal, Call}
+use Rattle.rules.specs.paper.Checker.{Meaning, code, function, Scope, Judged, fault, fine, _>>=_, Fine, ok, meaning-of, bound-name, called, same-count, same-codes, expression-code, expression-codes, command-ok}
 use Rattle.reader.specs.Pack.{packed-operand}
 use Rattle.reader.specs.Stored.{HasWord, operand-is, StoredFormals}
 use Rattle.checker.specs.Rows.{meaning-number, MeaningAt, code-at, function-at, ScopeAt}

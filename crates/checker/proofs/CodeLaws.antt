@@ -1,13 +1,13 @@
--- Names, operators and truth values by their codes: each small function's answer is the rule's. Assumes nothing.
+-- Names, operators and truth values by their codes: each small function's answer is the rule's.
 use Prim.Native.Nat.{ℕ, zero, suc, _-_, _<_, _≤_}
 use mathlib.Core.Path.{_≡_, refl, sym, ap, _∙_, subst}
 use mathlib.Core.List.{List}
 use mathlib.Core.Option.{Option, none, some}
 use native.Mathlib.Omega.{arith}
-use Rattle.rules.specs.Refusals.{refusal-number}
-use Rattle.rules.specs.Tree.{Operator, arithmetic, Sum, Sub, Mul, Div, Eq, order, Lt, Le, Gt, Ge, logic, And, Or}
-use Rattle.rules.specs.Listing.{operator-number}
-use Rattle.rules.specs.Checker.{Meaning, code, function, Scope, meaning-of, bound-name, id-code, deref-code, valref-code, integers-give, equals-give, truths-give, operator-code, truth-only}
+use Rattle.rules.specs.paper.Refusals.{refusal-number}
+use Rattle.rules.specs.paper.Tree.{Operator, arithmetic, Sum, Sub, Mul, Div, Eq, order, Lt, Le, Gt, Ge, logic, And, Or}
+use Rattle.rules.specs.claims.Listing.{operator-number}
+use Rattle.rules.specs.paper.Checker.{Meaning, code, function, Scope, meaning-of, bound-name, id-code, deref-code, valref-code, integers-give, equals-give, truths-give, operator-code, truth-only}
 use Rattle.checker.specs.Rows.{ScopeAt}
 use Rattle.checker.specs.Answers.{FoundAs, found-nothing, found-binding, found-register, answer, code-answer, meaning-answer, Numbered, numbered-code, numbered-function}
 use Rattle.checker.specs.declared.Found.{Found}

@@ -1,12 +1,12 @@
--- Commands by the kind of their node: which command stands there, and what it is judged from its parts. Assumes nothing.
+-- Commands by the kind of their node: which command stands there, and what it is judged from its parts.
 use Prim.Native.Nat.{ℕ, suc, _+_, _<_, _≤_}
 use mathlib.Core.Path.{_≡_, refl, sym, ap, _∙_, subst}
 use mathlib.Core.List.{List}
 use native.Mathlib.Omega.{arith}
 use lib.ListN.{length, getD}
-use Rattle.rules.specs.Limits.{names}
-use Rattle.rules.specs.Tree.{Expression, Command, Assign, Loop, CSeq, block, Call, Block}
-use Rattle.rules.specs.Checker.{Scope, Judged, _>>=_, Fine, ok, truth-only, expression-code, command-ok, block-ok}
+use Rattle.rules.specs.paper.Limits.{names}
+use Rattle.rules.specs.paper.Tree.{Expression, Command, Assign, Loop, CSeq, block, Call, Block}
+use Rattle.rules.specs.paper.Checker.{Scope, Judged, _>>=_, Fine, ok, truth-only, expression-code, command-ok, block-ok}
 use Rattle.reader.specs.Pack.{packed-kind, packed-end}
 use Rattle.reader.specs.Stored.{HasWord, kind-is, StoredExpression, StoredActuals, StoredCommand, StoredBlock}
 use Rattle.reader.specs.Stored as Stored

@@ -1,4 +1,4 @@
--- Expressions by the kind of their node: which expression stands there, and its code from its children's. Assumes nothing.
+-- Expressions by the kind of their node: which expression stands there, and its code from its children's.
 use Prim.Native.Nat.{ℕ, zero, suc, _+_, _<_, _≤_}
 use mathlib.Core.Path.{_≡_, refl, sym, ap, _∙_, subst}
 use mathlib.Core.Bool.{Bool}
@@ -6,9 +6,9 @@ use mathlib.Core.List.{List}
 use native.Mathlib.Omega.{arith}
 use lib.Dec.{T, eqb, eqb-refl}
 use lib.ListN.{length, getD}
-use Rattle.rules.specs.Tree.{Operator, arithmetic, Sum, Sub, Mul, Div, Eq, order, Lt, Le, Gt, Ge, logic, And, Or, Expression, Num, Boo, Id, DeRef, ValRef, Binary, Not}
-use Rattle.rules.specs.Listing.{operator-number}
-use Rattle.rules.specs.Checker.{Scope, _>>=_, operator-code, truth-only, expression-code}
+use Rattle.rules.specs.paper.Tree.{Operator, arithmetic, Sum, Sub, Mul, Div, Eq, order, Lt, Le, Gt, Ge, logic, And, Or, Expression, Num, Boo, Id, DeRef, ValRef, Binary, Not}
+use Rattle.rules.specs.claims.Listing.{operator-number}
+use Rattle.rules.specs.paper.Checker.{Scope, _>>=_, operator-code, truth-only, expression-code}
 use Rattle.reader.specs.Pack.{packed-kind, packed-end}
 use Rattle.reader.specs.Stored.{HasWord, kind-is, end-is, StoredExpression, num, boo, id, deref, valref, binary, negation}
 use Rattle.checker.specs.Rows.{ScopeAt}

@@ -1,14 +1,14 @@
--- Formals one after the other: each gets a row, linked to the one before it, unless its name is there already. Assumes nothing.
+-- Formals one after the other: each gets a row, linked to the one before it, unless its name is there already.
 use Prim.Native.Nat.{ℕ, suc, _+_, _*_, _-_, _/_, _%_, _<_, _≤_}
 use mathlib.Core.Path.{_≡_, refl, sym, ap, _∙_, subst}
 use mathlib.Core.Bool.{true, false}
 use mathlib.Core.List.{List, [], _∷_}
 use native.Mathlib.Omega.{arith}
 use lib.ListN.{length, getD, set}
-use Rattle.rules.specs.Refusals.{Repeated, refusal-number}
-use Rattle.rules.specs.Limits.{names, codes}
-use Rattle.rules.specs.Tree.{Formal}
-use Rattle.rules.specs.Checker.{code, Named, Scope, Judged, fault, fine, _>>=_, has-name, distinct, with-formals}
+use Rattle.rules.specs.paper.Refusals.{Repeated, refusal-number}
+use Rattle.rules.specs.paper.Limits.{names, codes}
+use Rattle.rules.specs.paper.Tree.{Formal}
+use Rattle.rules.specs.paper.Checker.{code, Named, Scope, Judged, fault, fine, _>>=_, has-name, distinct, with-formals}
 use Rattle.reader.specs.Pack.{packed-operand}
 use Rattle.reader.specs.Stored.{HasWord, StoredFormals, no-formals, one-formal, operand-is}
 use Rattle.checker.specs.Rows.{row-word, code-at, Rows, one-row, RowFound}

@@ -1,13 +1,12 @@
 -- What `Kept` leaves as it was: the nodes, the rows below a node, and what stands in them; writing one row keeps the rest; and rows that follow rows.
--- Assumes nothing.
 use Prim.Native.Nat.{ℕ, zero, suc, _+_, _<_, _≤_}
 use mathlib.Core.Path.{_≡_, refl, sym, ap, _∙_}
 use mathlib.Core.List.{List, [], _∷_, _++_}
 use native.Mathlib.Omega.{arith}
 use lib.ListN.{length, getD, set, length-set}
-use Rattle.rules.specs.Basics.{append-assoc}
-use Rattle.rules.specs.Tree.{Formal, Expression, Command, Block, Declaration, Bound}
-use Rattle.rules.specs.Checker.{Meaning, Scope, register-scope}
+use Rattle.rules.specs.proofs.Basics.{append-assoc}
+use Rattle.rules.specs.paper.Tree.{Formal, Expression, Command, Block, Declaration, Bound}
+use Rattle.rules.specs.paper.Checker.{Meaning, Scope, register-scope}
 use Rattle.reader.specs.Stored.{HasWord}
 use Rattle.reader.specs.StoredLaws.{SameNodes, same-expression, same-actuals, same-formals, same-command, same-block, same-declaration, same-bound}
 use Rattle.checker.specs.Rows.{MeaningAt, code-at, function-at, HasRow, Rows, no-rows, one-row, ScopeAt}

@@ -1,4 +1,4 @@
--- Places and packed operands: the node after a node, and the two parts of an operand that has a name and a number. Assumes nothing.
+-- Places and packed operands: the node after a node, and the two parts of an operand that has a name and a number.
 use Prim.Native.Nat.{ℕ, suc, _+_, _*_, _/_, _%_, _<_}
 use mathlib.Core.Path.{_≡_}
 use native.Mathlib.Omega.{arith}

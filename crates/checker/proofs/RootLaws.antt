@@ -1,12 +1,12 @@
--- The root: an expression or a command, with the registers in scope. Assumes nothing.
+-- The root: an expression or a command, with the registers in scope.
 use Prim.Native.Nat.{ℕ, suc, _+_, _<_, _≤_}
 use mathlib.Core.Path.{_≡_, refl, sym, ap, _∙_, subst}
 use mathlib.Core.List.{List, []}
 use native.Mathlib.Omega.{arith}
 use lib.ListN.{length, getD}
-use Rattle.rules.specs.Tree.{Root, Expression, Command, Block}
-use Rattle.rules.specs.Refusals.{refusal-number}
-use Rattle.rules.specs.Checker.{Scope, Judged, fault, fine, _>>=_, Fine, Passed, expression-of-code, a-command, register-scope, root-is, expression-code, command-ok}
+use Rattle.rules.specs.paper.Tree.{Root, Expression, Command, Block}
+use Rattle.rules.specs.paper.Refusals.{refusal-number}
+use Rattle.rules.specs.paper.Checker.{Scope, Judged, fault, fine, _>>=_, Fine, Passed, expression-of-code, a-command, register-scope, root-is, expression-code, command-ok}
 use Rattle.reader.specs.Pack.{packed-kind}
 use Rattle.reader.specs.Stored.{HasWord, kind-is, StoredExpression, StoredBlock, StoredCommand, StoredRoot, root-expression, root-command}
 use Rattle.reader.specs.Stored as Stored

@@ -1,10 +1,10 @@
--- Where commands, blocks, declarations and what they bind stand and end. Assumes nothing.
+-- Where commands, blocks, declarations and what they bind stand and end.
 use Prim.Native.Nat.{ℕ, suc, _+_, _<_, _≤_}
 use mathlib.Core.Path.{_≡_, ap, subst}
 use mathlib.Core.List.{List}
 use native.Mathlib.Omega.{arith}
 use lib.ListN.{length, getD}
-use Rattle.rules.specs.Tree.{Expression, Formal, Command, Block, Declaration, Bound}
+use Rattle.rules.specs.paper.Tree.{Expression, Formal, Command, Block, Declaration, Bound}
 use Rattle.reader.specs.Pack.{packed-end}
 use Rattle.reader.specs.Stored.{HasWord, end-is, StoredActuals, no-actuals, one-actual, StoredFormals, no-formals, one-formal, StoredCommand, assign, loop, cseq, block-of, call, StoredBlock, blk, StoredDeclaration, bind, dseq, StoredBound, plain-of, ref, abs}
 use Rattle.checker.specs.Commands.{Kept}

@@ -1,12 +1,12 @@
--- What the checker's functions answer, by the definitions of the rules. Assumes nothing.
+-- What the checker's functions answer, by the definitions of the rules.
 use Prim.Native.Nat.{ℕ, suc, _+_, _<_, _≤_}
 use mathlib.Core.Path.{_≡_}
 use mathlib.Core.List.{List}
 use mathlib.Core.Option.{Option, none, some}
-use Rattle.rules.specs.Refusals.{refusal-number}
-use Rattle.rules.specs.Limits.{names}
-use Rattle.rules.specs.Tree.{Formal, Expression, Id, DeRef, ValRef}
-use Rattle.rules.specs.Checker.{Meaning, code, function, Scope, Fine, Judged, fault, fine, expression-code}
+use Rattle.rules.specs.paper.Refusals.{refusal-number}
+use Rattle.rules.specs.paper.Limits.{names}
+use Rattle.rules.specs.paper.Tree.{Formal, Expression, Id, DeRef, ValRef}
+use Rattle.rules.specs.paper.Checker.{Meaning, code, function, Scope, Fine, Judged, fault, fine, expression-code}
 use Rattle.reader.specs.Stored.{HasWord, StoredExpression}
 use Rattle.checker.specs.Rows.{meaning-number, MeaningAt, ScopeAt}
 use Rattle.checker.specs.declared.Found.{Found}

@@ -1,13 +1,12 @@
 -- What the checker's functions answer about commands, declarations and what they bind, and which work words they leave alone.
--- Assumes nothing.
 use Prim.Native.Nat.{ℕ, suc, _+_, _*_, _<_, _≤_}
 use mathlib.Core.Path.{_≡_}
 use mathlib.Core.List.{List, []}
 use lib.ListN.{length, getD}
-use Rattle.rules.specs.Refusals.{Refusal, refusal-number}
-use Rattle.rules.specs.Limits.{names}
-use Rattle.rules.specs.Tree.{Formal, Expression, Command, Assign, Call, Block, Declaration, Bound, Root}
-use Rattle.rules.specs.Checker.{Meaning, Scope, Judged, fault, fine, Fine, ok, same-codes, distinct, with-formals, expression-codes, command-ok, block-ok, declaration-gives, bound-means, Passed, expression-of-code, a-command, register-scope, root-is}
+use Rattle.rules.specs.paper.Refusals.{Refusal, refusal-number}
+use Rattle.rules.specs.paper.Limits.{names}
+use Rattle.rules.specs.paper.Tree.{Formal, Expression, Command, Assign, Call, Block, Declaration, Bound, Root}
+use Rattle.rules.specs.paper.Checker.{Meaning, Scope, Judged, fault, fine, Fine, ok, same-codes, distinct, with-formals, expression-codes, command-ok, block-ok, declaration-gives, bound-means, Passed, expression-of-code, a-command, register-scope, root-is}
 use Rattle.reader.specs.Stored.{HasWord, StoredExpression, StoredActuals, StoredFormals, StoredCommand, StoredBlock, StoredDeclaration, StoredBound, StoredRoot}
 use Rattle.checker.specs.Rows.{Rows, ScopeAt}
 use Rattle.checker.specs.Answers.{answer, fine-answer, meaning-answer, ExpressionAt}

@@ -1,12 +1,12 @@
 -- The scope as the work words hold it: a row for each node that binds a name, from word 2,000 on, with a link to the row before it.
--- A row is found by a pointer, one more than its node; pointer 0 stands for the registers. Assumes nothing.
+-- A row is found by a pointer, one more than its node; pointer 0 stands for the registers.
 use Prim.Native.Nat.{ℕ, zero, suc, _+_, _*_, _<_, _≤_}
 use mathlib.Core.Path.{_≡_}
 use mathlib.Core.List.{List, [], _∷_, _++_}
 use mathlib.Core.Option.{Option, none, some}
 use lib.ListN.{length, getD}
-use Rattle.rules.specs.Tree.{Formal}
-use Rattle.rules.specs.Checker.{Meaning, code, function, Named, Scope, meaning-of, register-scope}
+use Rattle.rules.specs.paper.Tree.{Formal}
+use Rattle.rules.specs.paper.Checker.{Meaning, code, function, Named, Scope, meaning-of, register-scope}
 use Rattle.reader.specs.Stored.{HasWord, StoredFormals}
 
 -- name + 2^6 × meaning + 2^10 × link

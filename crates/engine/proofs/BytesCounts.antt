@@ -1,4 +1,4 @@
--- How many words are handed on: there is room for them, and there are bytes for them. Assumes nothing.
+-- How many words are handed on: there is room for them, and there are bytes for them.
 use Prim.Native.Nat.{ℕ, _*_, _/_, _%_, _<_, _≤_}
 use mathlib.Core.Path.{_≡_, refl, ap, _∙_}
 use mathlib.Core.Bool.{Bool, true, false, cond}
@@ -9,7 +9,7 @@ use lib.Dec.{eqb, leb, ltb, leb→le}
 use lib.ListN.{length, take, drop, length-append}
 use lib.Seq.{length-take-le, take-at}
 use borrow.Author.Tests.{ltb-false}
-use Rattle.rules.specs.Basics.{passed-test, and-right}
+use Rattle.rules.specs.proofs.Basics.{passed-test, and-right}
 use Rattle.engine.specs.Bytes.{numbers, whole, image-count, image-words}
 use Rattle.engine.specs.BytesKept.{numbers-length}
 

@@ -1,5 +1,4 @@
 -- Bytes to numbers and back, as the loops make them: what is still to be written, written over what stands there, is what was wanted.
--- Assumes nothing.
 use Prim.Native.Nat.{ℕ, zero, suc, _+_, _-_, _*_, _/_, _%_, _<_, _≤_}
 use mathlib.Core.Path.{_≡_, refl, sym, ap, _∙_}
 use mathlib.Core.List.{List, [], _∷_, _++_, append-nil}

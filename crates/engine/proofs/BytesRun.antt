@@ -1,4 +1,4 @@
--- From the run on words to the run on bytes: the registers by their length, and the refusals that touch nothing. Assumes nothing.
+-- From the run on words to the run on bytes: the registers by their length, and the refusals that touch nothing.
 use Prim.Native.Nat.{ℕ, _/_, _%_, _<_, _≤_}
 use mathlib.Core.Path.{_≡_, refl, sym, ap, _∙_, subst}
 use mathlib.Core.Bool.{Bool, true, false, _&&_}
@@ -7,9 +7,9 @@ use lib.Dec.{eqb, leb}
 use lib.IntN.{ℤ, pos}
 use lib.ListN.{length, replicate}
 use borrow.Author.Tests.{le-ltb, lt-ltb, le-leb, lt-leb, eq-eqb, ne-eqb}
-use Rattle.rules.specs.Refusals.{refusal-number}
-use Rattle.rules.specs.Refusals as Refusals
-use Rattle.rules.specs.Engine.{engine, refusing, Called}
+use Rattle.rules.specs.paper.Refusals.{refusal-number}
+use Rattle.rules.specs.paper.Refusals as Refusals
+use Rattle.rules.specs.paper.Engine.{engine, refusing, Called}
 use Rattle.integers.specs.Words.{integer-of, integers-of, words-of}
 use Rattle.engine.specs.Bytes.{numbers, bytes-of-words, whole, register-values, register-bytes}
 use Rattle.engine.specs.BytesKept.{AllBytes, values-whole, values-none, bytes-whole, bytes-none, registers-kept}

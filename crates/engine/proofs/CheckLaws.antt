@@ -1,4 +1,4 @@
--- The checker alone: 22 first, then the image; and its answer in three numbers. Assumes nothing.
+-- The checker alone: 22 first, then the image; and its answer in three numbers.
 use Prim.Native.Nat.{ℕ, _<_, _≤_}
 use mathlib.Core.Path.{_≡_, refl, sym, ap, _∙_, subst}
 use mathlib.Core.Bool.{cond}
@@ -6,12 +6,12 @@ use mathlib.Core.List.{List, _++_}
 use native.Mathlib.Omega.{arith}
 use lib.Dec.{T, ltb, ltb→lt, lt→ltb}
 use lib.ListN.{length, drop, replicate}
-use Rattle.rules.specs.Basics.{true-test, false-test}
-use Rattle.rules.specs.Refusals.{refusal-number}
-use Rattle.rules.specs.Limits.{work-words}
-use Rattle.rules.specs.Checker.{expression-of-code, a-command}
-use Rattle.rules.specs.Engine.{CheckAnswer, root-code, root-command, not-passed, checker, check-answer, check-image, cleared, turned-back, passed}
-use Rattle.rules.specs.Engine as Rules
+use Rattle.rules.specs.proofs.Basics.{true-test, false-test}
+use Rattle.rules.specs.paper.Refusals.{refusal-number}
+use Rattle.rules.specs.paper.Limits.{work-words}
+use Rattle.rules.specs.paper.Checker.{expression-of-code, a-command}
+use Rattle.rules.specs.paper.Engine.{CheckAnswer, root-code, root-command, not-passed, checker, check-answer, check-image, cleared, turned-back, passed}
+use Rattle.rules.specs.paper.Engine as Rules
 use Rattle.engine.specs.Answers.{check-reply, reply-refusal, reply-value, reply-place, Replies, Beyond}
 use Rattle.engine.specs.declared.CheckReply.{CheckReply}
 use Rattle.engine.specs.Examined.{ExamineAnswer}

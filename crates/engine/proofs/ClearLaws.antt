@@ -1,10 +1,10 @@
--- Words that become 0 from the first one on. Assumes nothing.
+-- Words that become 0 from the first one on.
 use Prim.Native.Nat.{ℕ, zero, suc, _+_, _<_, _≤_}
 use mathlib.Core.Path.{_≡_, refl, sym, ap, _∙_}
 use mathlib.Core.List.{List, [], _∷_, _++_}
 use native.Mathlib.Omega.{arith}
 use lib.ListN.{length, drop, set, replicate}
-use Rattle.rules.specs.Engine.{cleared}
+use Rattle.rules.specs.paper.Engine.{cleared}
 
 -- The first i words are 0.
 abbrev pub zeroed : ℕ → List ℕ → List ℕ

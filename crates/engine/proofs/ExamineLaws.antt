@@ -1,18 +1,18 @@
--- From the reader's and the checker's answers to the image's, and which work words they leave alone. Assumes nothing.
+-- From the reader's and the checker's answers to the image's, and which work words they leave alone.
 use Prim.Native.Nat.{ℕ, zero, suc, _+_, _<_, _≤_}
 use mathlib.Core.Path.{_≡_, refl, sym, ap, _∙_, subst}
 use mathlib.Core.List.{List, [], _∷_}
 use native.Mathlib.Omega.{arith}
 use native.Mathlib.Nat.{zero-add, suc-add}
 use lib.ListN.{length, getD, drop}
-use Rattle.rules.specs.Refusals.{Refusal, refusal-number}
-use Rattle.rules.specs.Limits.{most-depth, work-words}
-use Rattle.rules.specs.Tree.{Root}
-use Rattle.rules.specs.Reader.{Reading, bad, image, read}
-use Rattle.rules.specs.Listing.{root-nodes}
-use Rattle.rules.specs.ReaderExact.{IsImage, read-exact}
-use Rattle.rules.specs.Checker.{Judged, fault, fine, Passed, expression-of-code, a-command, register-scope, root-is}
-use Rattle.rules.specs.Engine.{check-image, check-reading, checked}
+use Rattle.rules.specs.paper.Refusals.{Refusal, refusal-number}
+use Rattle.rules.specs.paper.Limits.{most-depth, work-words}
+use Rattle.rules.specs.paper.Tree.{Root}
+use Rattle.rules.specs.paper.Reader.{Reading, bad, image, read}
+use Rattle.rules.specs.claims.Listing.{root-nodes}
+use Rattle.rules.specs.proofs.reading.ReaderExact.{IsImage, read-exact}
+use Rattle.rules.specs.paper.Checker.{Judged, fault, fine, Passed, expression-of-code, a-command, register-scope, root-is}
+use Rattle.rules.specs.paper.Engine.{check-image, check-reading, checked}
 use Rattle.reader.specs.Pack.{root-words}
 use Rattle.reader.specs.Put.{put, put-length, put-beyond}
 use Rattle.reader.specs.Answers.{ShapeAnswer, Shape-refused, Shape-read}

@@ -1,19 +1,19 @@
--- A run that starts from the registers ends as the rules' run does, and leaves in the registers what that leaves. Assumes nothing.
+-- A run that starts from the registers ends as the rules' run does, and leaves in the registers what that leaves.
 use Prim.Native.Nat.{ℕ, _<_, _≤_}
 use mathlib.Core.Path.{_≡_, refl, sym, ap, _∙_, subst}
 use mathlib.Core.List.{List}
 use lib.ListN.{length, getD}
-use Rattle.rules.specs.Tree.{Root}
-use Rattle.rules.specs.Checker.{Passed}
-use Rattle.rules.specs.States.{State, store-of}
-use Rattle.rules.specs.Run.{Ending, ended, stopped, lost, run}
-use Rattle.rules.specs.History.{History, first-history, Reach}
-use Rattle.rules.specs.Ends.{EndsWell, normally, withheld-for, RegisterHolds}
-use Rattle.rules.specs.Continuation.{Invariant}
-use Rattle.rules.specs.WholeRun.{start-invariant}
-use Rattle.rules.specs.RunEnds.{run-ends, state-facts}
-use Rattle.rules.specs.Engine.{check-image, passed, start, registers-from}
-use Rattle.rules.specs.ImageExact.{check-exact}
+use Rattle.rules.specs.paper.Tree.{Root}
+use Rattle.rules.specs.paper.Checker.{Passed}
+use Rattle.rules.specs.paper.States.{State, store-of}
+use Rattle.rules.specs.paper.Run.{Ending, ended, stopped, lost, run}
+use Rattle.rules.specs.claims.History.{History, first-history, Reach}
+use Rattle.rules.specs.claims.Ends.{EndsWell, normally, withheld-for, RegisterHolds}
+use Rattle.rules.specs.proofs.running.Continuation.{Invariant}
+use Rattle.rules.specs.proofs.running.WholeRun.{start-invariant}
+use Rattle.rules.specs.proofs.running.RunEnds.{run-ends, state-facts}
+use Rattle.rules.specs.paper.Engine.{check-image, passed, start, registers-from}
+use Rattle.rules.specs.proofs.checking.ImageExact.{check-exact}
 use Rattle.integers.specs.Words.{integers-of, words-of}
 use Rattle.integers.specs.WordLaws.{integers-length}
 use Rattle.automaton.specs.Steps.{Holds, Untouched}

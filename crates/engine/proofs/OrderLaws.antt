@@ -1,4 +1,4 @@
--- The tests before a run, in their order: 22, 21, the image, 20. Assumes nothing.
+-- The tests before a run, in their order: 22, 21, the image, 20.
 use Prim.Native.Nat.{ℕ, _<_, _≤_}
 use mathlib.Core.Path.{_≡_, refl, sym, ap, _∙_, subst}
 use mathlib.Core.Bool.{Bool, true, false, cond}
@@ -8,12 +8,12 @@ use borrow.Author.Tests.{le-ltb, lt-ltb, le-leb, lt-leb, eq-eqb, ne-eqb}
 use lib.Dec.{T, eqb, leb, ltb}
 use lib.IntN.{ℤ}
 use lib.ListN.{length, getD}
-use Rattle.rules.specs.Refusals.{Refusal, refusal-number}
-use Rattle.rules.specs.Refusals as Refusals
-use Rattle.rules.specs.Tree.{Root}
-use Rattle.rules.specs.Checker.{Passed, expression-of-code, a-command}
-use Rattle.rules.specs.Engine.{Checked, turned-back, passed, check-image, run-checked, refusing, Called, engine, cleared, finish, start}
-use Rattle.rules.specs.Run.{Ending, ended, stopped, lost, run}
+use Rattle.rules.specs.paper.Refusals.{Refusal, refusal-number}
+use Rattle.rules.specs.paper.Refusals as Refusals
+use Rattle.rules.specs.paper.Tree.{Root}
+use Rattle.rules.specs.paper.Checker.{Passed, expression-of-code, a-command}
+use Rattle.rules.specs.paper.Engine.{Checked, turned-back, passed, check-image, run-checked, refusing, Called, engine, cleared, finish, start}
+use Rattle.rules.specs.paper.Run.{Ending, ended, stopped, lost, run}
 use Rattle.integers.specs.Words.{integers-of, words-of}
 use Rattle.integers.specs.WordLaws.{integers-length, words-back}
 use Rattle.automaton.specs.Starts.{RootStands}

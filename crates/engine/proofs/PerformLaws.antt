@@ -1,20 +1,20 @@
--- From the run of a tree to the call's answer: the outcome by the root's code, the reasons, and the tests before the run. Assumes nothing.
+-- From the run of a tree to the call's answer: the outcome by the root's code, the reasons, and the tests before the run.
 use Prim.Native.Nat.{ℕ, zero, suc, _<_, _≤_}
 use mathlib.Core.Path.{_≡_, refl, sym, ap, _∙_, subst}
 use mathlib.Core.List.{List, [], _∷_}
 use mathlib.Core.Option.{Option, none, some, Option·some-injective, Option·map}
 use native.Mathlib.Omega.{arith}
 use lib.ListN.{length, getD}
-use Rattle.rules.specs.Basics.{missing}
-use Rattle.rules.specs.Refusals.{Reason, reason-number, refusal-number}
-use Rattle.rules.specs.Tree.{Root}
-use Rattle.rules.specs.Listing.{truth-word}
-use Rattle.rules.specs.Checker.{Passed, expression-of-code, a-command}
-use Rattle.rules.specs.States.{Value, integer, truth, location, Environment, Store, Entry, val, Item, State, state, values-of, store-of}
-use Rattle.rules.specs.History.{Made, made-with, type-of}
-use Rattle.rules.specs.Run.{Ending, ended, stopped, lost, run}
-use Rattle.rules.specs.Ends.{EndsWell, normally, withheld-for}
-use Rattle.rules.specs.Engine.{check-image, passed, start, registers-from, outcome, outcome-of, outcome-of-value, finish}
+use Rattle.rules.specs.proofs.Basics.{missing}
+use Rattle.rules.specs.paper.Refusals.{Reason, reason-number, refusal-number}
+use Rattle.rules.specs.paper.Tree.{Root}
+use Rattle.rules.specs.claims.Listing.{truth-word}
+use Rattle.rules.specs.paper.Checker.{Passed, expression-of-code, a-command}
+use Rattle.rules.specs.paper.States.{Value, integer, truth, location, Environment, Store, Entry, val, Item, State, state, values-of, store-of}
+use Rattle.rules.specs.claims.History.{Made, made-with, type-of}
+use Rattle.rules.specs.paper.Run.{Ending, ended, stopped, lost, run}
+use Rattle.rules.specs.claims.Ends.{EndsWell, normally, withheld-for}
+use Rattle.rules.specs.paper.Engine.{check-image, passed, start, registers-from, outcome, outcome-of, outcome-of-value, finish}
 use Rattle.integers.specs.Words.{integers-of, words-of}
 use Rattle.automaton.specs.Steps.{Stands, Holds}
 use Rattle.automaton.specs.Starts.{value-word}

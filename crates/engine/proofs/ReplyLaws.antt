@@ -1,7 +1,7 @@
--- A run's answer in five numbers. Assumes nothing.
+-- A run's answer in five numbers.
 use Prim.Native.Nat.{ℕ}
 use mathlib.Core.Path.{_≡_, refl, sym, _∙_, subst}
-use Rattle.rules.specs.Engine.{number, truth-of, cell, nothing, Answer, outcome, refused, Reply}
+use Rattle.rules.specs.paper.Engine.{number, truth-of, cell, nothing, Answer, outcome, refused, Reply}
 use Rattle.engine.specs.Runs.{ran, run-reply, RunReplies}
 use Rattle.engine.specs.declared.Ran.{Ran}
 use Rattle.engine.specs.declared.Ran.the-variants.{Number, Truth, Location, Nothing, Refused}

@@ -1,11 +1,11 @@
--- What the engine's calls answer, by the definitions of the rules: for each case the paper's number and values. Assumes nothing.
+-- What the engine's calls answer, by the definitions of the rules: for each case the paper's number and values.
 use Prim.Native.Nat.{ℕ}
 use mathlib.Core.Path.{_≡_}
 use mathlib.Core.List.{List}
 use lib.ListN.{length, drop}
-use Rattle.rules.specs.Refusals.{refusal-number}
-use Rattle.rules.specs.Limits.{work-words}
-use Rattle.rules.specs.Engine.{CheckAnswer, root-code, root-command, not-passed}
+use Rattle.rules.specs.paper.Refusals.{refusal-number}
+use Rattle.rules.specs.paper.Limits.{work-words}
+use Rattle.rules.specs.paper.Engine.{CheckAnswer, root-code, root-command, not-passed}
 use Rattle.engine.specs.declared.Checked.{Checked}
 use Rattle.engine.specs.declared.Checked.the-variants.{Code, Command, Refused}
 use Rattle.engine.specs.declared.CheckReply.{CheckReply}

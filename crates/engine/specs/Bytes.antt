@@ -1,6 +1,6 @@
 -- Bytes in place of words: the image's words and the registers' values that some bytes stand for, and the bytes of values. Words are
 -- little-endian of 4 bytes, registers two's complement of 8 bytes, least byte first. `BytesRead` shows what an image of bytes comes to, in the
--- paper's order, and `BytesKept` that values and bytes are one another's inverse. Assumes nothing.
+-- paper's order, and `BytesKept` that values and bytes are one another's inverse.
 use Prim.Native.Nat.{ℕ, zero, suc, _+_, _*_, _/_, _%_}
 use mathlib.Core.Bool.{Bool, cond, _&&_}
 use mathlib.Core.List.{List, [], _∷_, _++_}

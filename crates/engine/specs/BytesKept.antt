@@ -1,4 +1,4 @@
--- Bytes are those of the numbers that they hold, so registers that keep their values keep their bytes. Assumes nothing.
+-- Bytes are those of the numbers that they hold, so registers that keep their values keep their bytes.
 use Prim.Native.Nat.{ℕ, zero, suc, _+_, _*_, _/_, _%_, _^_, _<_, _≤_}
 use mathlib.Core.Path.{_≡_, refl, sym, ap, _∙_, subst}
 use mathlib.Core.Bool.{Bool, true, false, cond}
@@ -9,7 +9,7 @@ use lib.Dec.{eqb, leb, eqb→eq}
 use lib.IntN.{ℤ, pos}
 use lib.ListN.{length, getD, take, drop, replicate, length-drop, take-append-drop}
 use lib.Seq.{getD-drop}
-use Rattle.rules.specs.Basics.{passed-test, and-left}
+use Rattle.rules.specs.proofs.Basics.{passed-test, and-left}
 use Rattle.integers.specs.Words.{integers-of, words-of}
 use Rattle.integers.specs.WordLaws.{words-back}
 use Rattle.engine.specs.Bytes.{little-endian, numbers, bytes-of, bytes-of-words, whole, register-values, register-bytes}

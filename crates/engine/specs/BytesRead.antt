@@ -1,6 +1,6 @@
 -- What an image and registers of bytes come to, in the paper's order. Fewer than 8 bytes are refusal 1; then n or r out of range is 2; then a
 -- length other than 8 + 8 n is 1; and 8 + 8 n bytes are read as their 2 + 2 n little-endian words. Registers of 8 r bytes are their r values; any
--- other length is 20 where the image passes. Assumes nothing.
+-- other length is 20 where the image passes.
 use Prim.Native.Nat.{ℕ, suc, _+_, _-_, _*_, _/_, _%_, _<_, _≤_}
 use mathlib.Core.Path.{_≡_, refl, sym, ap, _∙_, subst}
 use mathlib.Core.Bool.{Bool, true, false, cond, _&&_}
@@ -10,14 +10,14 @@ use native.Mathlib.Nat.{mul-mod-right, div-eq-of-eq-mul-right}
 use lib.Dec.{leb, ltb, leb→le, ltb→lt}
 use lib.ListN.{length, take, drop}
 use borrow.Author.Tests.{le-ltb, lt-ltb, le-leb, eq-eqb, ne-eqb}
-use Rattle.rules.specs.Basics.{passed-test, and-left, and-right}
-use Rattle.rules.specs.Refusals as Refusals
-use Rattle.rules.specs.Limits.{most-nodes, most-registers}
-use Rattle.rules.specs.Tree.{Root}
-use Rattle.rules.specs.Checker.{Passed}
-use Rattle.rules.specs.Reader.{read, bad, size-fits}
-use Rattle.rules.specs.Engine.{check-image, passed, run-checked, refusing}
-use Rattle.rules.specs.ImageExact.{check-exact}
+use Rattle.rules.specs.proofs.Basics.{passed-test, and-left, and-right}
+use Rattle.rules.specs.paper.Refusals as Refusals
+use Rattle.rules.specs.paper.Limits.{most-nodes, most-registers}
+use Rattle.rules.specs.paper.Tree.{Root}
+use Rattle.rules.specs.paper.Checker.{Passed}
+use Rattle.rules.specs.paper.Reader.{read, bad, size-fits}
+use Rattle.rules.specs.paper.Engine.{check-image, passed, run-checked, refusing}
+use Rattle.rules.specs.proofs.checking.ImageExact.{check-exact}
 use Rattle.integers.specs.Words.{integers-of}
 use Rattle.integers.specs.WordLaws.{integers-length}
 use Rattle.engine.specs.Bytes.{little-endian, numbers, whole, image-count, image-words, register-values}

@@ -1,5 +1,5 @@
 -- Demand 3 for what `run` runs: which reached state its reply and its registers are taken from, with the whole-run claim about every
--- state that the run reaches. Assumes nothing.
+-- state that the run reaches.
 use Prim.Native.Nat.{ℕ, zero, suc, _<_, _≤_}
 use mathlib.Core.Path.{_≡_, refl, sym, ap, _∙_, subst}
 use mathlib.Core.Bool.{true, false, cond}
@@ -8,19 +8,19 @@ use native.Mathlib.Omega.{arith}
 use borrow.Author.Tests.{le-ltb, le-leb, eq-eqb}
 use lib.IntN.{ℤ}
 use lib.ListN.{length, getD}
-use Rattle.rules.specs.Tree.{Root}
-use Rattle.rules.specs.Refusals.{Reason, Withheld}
-use Rattle.rules.specs.Limits.{most-budget, work-words}
-use Rattle.rules.specs.Checker.{Passed}
-use Rattle.rules.specs.States.{State, control-of, values-of, store-of}
-use Rattle.rules.specs.Rules.{Rule, Effect, Applies}
-use Rattle.rules.specs.Run.{Ending, ended, stopped, run}
-use Rattle.rules.specs.Engine.{check-image, passed, start, Answer, outcome, refused, outcome-of, registers-from, Called, cleared, finish, run-checked, engine}
-use Rattle.rules.specs.History.{History, Reach}
-use Rattle.rules.specs.Claim.{StateClaim, StepWithheld, AllInRange}
-use Rattle.rules.specs.Ends.{FinalValues, EndsWell, normally, withheld-for}
-use Rattle.rules.specs.WholeRun.{whole-run}
-use Rattle.rules.specs.RunEnds.{run-ends}
+use Rattle.rules.specs.paper.Tree.{Root}
+use Rattle.rules.specs.paper.Refusals.{Reason, Withheld}
+use Rattle.rules.specs.paper.Limits.{most-budget, work-words}
+use Rattle.rules.specs.paper.Checker.{Passed}
+use Rattle.rules.specs.paper.States.{State, control-of, values-of, store-of}
+use Rattle.rules.specs.paper.Rules.{Rule, Effect, Applies}
+use Rattle.rules.specs.paper.Run.{Ending, ended, stopped, run}
+use Rattle.rules.specs.paper.Engine.{check-image, passed, start, Answer, outcome, refused, outcome-of, registers-from, Called, cleared, finish, run-checked, engine}
+use Rattle.rules.specs.claims.History.{History, Reach}
+use Rattle.rules.specs.claims.Claim.{StateClaim, StepWithheld, AllInRange}
+use Rattle.rules.specs.claims.Ends.{FinalValues, EndsWell, normally, withheld-for}
+use Rattle.rules.specs.proofs.running.WholeRun.{whole-run}
+use Rattle.rules.specs.proofs.running.RunEnds.{run-ends}
 use Rattle.integers.specs.Words.{integers-of, words-of}
 use Rattle.integers.specs.WordLaws.{integer-in-range, integers-length}
 use Rattle.engine.specs.Runs.{ran, run-reply}

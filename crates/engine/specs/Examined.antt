@@ -1,11 +1,11 @@
--- What examining an image leaves: the answer, and the tree in the work words. Assumes nothing.
+-- What examining an image leaves: the answer, and the tree in the work words.
 use Prim.Native.Nat.{ℕ}
 use mathlib.Core.Path.{_≡_}
 use mathlib.Core.List.{List}
-use Rattle.rules.specs.Refusals.{Refusal, refusal-number}
-use Rattle.rules.specs.Tree.{Root}
-use Rattle.rules.specs.Checker.{expression-of-code, a-command}
-use Rattle.rules.specs.Engine.{Checked, turned-back, passed}
+use Rattle.rules.specs.paper.Refusals.{Refusal, refusal-number}
+use Rattle.rules.specs.paper.Tree.{Root}
+use Rattle.rules.specs.paper.Checker.{expression-of-code, a-command}
+use Rattle.rules.specs.paper.Engine.{Checked, turned-back, passed}
 use Rattle.automaton.specs.Starts.{RootStands}
 use Rattle.engine.specs.Answers.{Beyond}
 use Rattle.engine.specs.declared.Examined.{Examined}

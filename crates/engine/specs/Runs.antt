@@ -1,14 +1,14 @@
--- What a run answers, by the definitions of the rules: for each case the paper's number and values. Assumes nothing.
+-- What a run answers, by the definitions of the rules: for each case the paper's number and values.
 use Prim.Native.Nat.{ℕ, _≤_}
 use mathlib.Core.Path.{_≡_}
 use mathlib.Core.List.{List, [], _∷_}
 use lib.ListN.{length}
-use Rattle.rules.specs.Refusals.{Reason, reason-number, refusal-number}
-use Rattle.rules.specs.Listing.{truth-word}
-use Rattle.rules.specs.Tree.{Root}
-use Rattle.rules.specs.States.{Value, integer, truth, location, Environment, Store, val, Item, State, store-of}
-use Rattle.rules.specs.Run.{Ending, ended, stopped, lost, run}
-use Rattle.rules.specs.Engine.{Outcome, number, truth-of, cell, nothing, Answer, outcome, refused, Reply, registers-from, Called, finish, start}
+use Rattle.rules.specs.paper.Refusals.{Reason, reason-number, refusal-number}
+use Rattle.rules.specs.claims.Listing.{truth-word}
+use Rattle.rules.specs.paper.Tree.{Root}
+use Rattle.rules.specs.paper.States.{Value, integer, truth, location, Environment, Store, val, Item, State, store-of}
+use Rattle.rules.specs.paper.Run.{Ending, ended, stopped, lost, run}
+use Rattle.rules.specs.paper.Engine.{Outcome, number, truth-of, cell, nothing, Answer, outcome, refused, Reply, registers-from, Called, finish, start}
 use Rattle.integers.specs.Words.{word-of, integers-of, words-of}
 use Rattle.automaton.specs.Steps.{Stands, Holds}
 use Rattle.automaton.specs.declared.machine.Machine.{Machine}

@@ -4,7 +4,7 @@ ghost use mathlib.Core.Path.{_≡_};
 ghost use Prim.Native.Nat.{_+_, _*_, _≤_};
 ghost use lib.ListN.{length, take, drop};
 ghost use lib.Seq.{sets};
-ghost use Rattle.rules.specs.Engine.{checker, engine};
+ghost use Rattle.rules.specs.paper.Engine.{checker, engine};
 ghost use Rattle.integers.specs.Words.{integers-of, words-of};
 ghost use Rattle.engine.specs.Answers.{Replies};
 ghost use Rattle.engine.specs.Runs.{RunReplies};

@@ -5,7 +5,7 @@ mod perform;
 ghost use mathlib.Core.Path.{_≡_};
 ghost use Prim.Native.Nat.{_<_, _≤_};
 ghost use lib.ListN.{length};
-ghost use Rattle.rules.specs.Engine.{checker, cleared, check-image, engine};
+ghost use Rattle.rules.specs.paper.Engine.{checker, cleared, check-image, engine};
 ghost use Rattle.integers.specs.Words.{integers-of, words-of};
 ghost use Rattle.engine.specs.Answers.{check-reply, Replies};
 ghost use Rattle.engine.specs.Examined.{ExamineAnswer};

@@ -1,11 +1,11 @@
 -- The difference: the words' difference modulo 2^64 is its word where that is above the first word, as integers, exactly if the
--- second is negative; elsewhere the difference is out of range. Assumes nothing.
+-- second is negative; elsewhere the difference is out of range.
 use mathlib.Core.Path.{_≡_, ap, _∙_}
 use Prim.Native.Nat.{ℕ, zero, suc, _+_, _-_, _%_, _^_, _≤_, _<_}
 use native.Mathlib.Omega.{arith}
 use lib.IntN.{pos, negsuc, _-ℤ_, +ℤ-idr}
-use Rattle.rules.specs.Tree.{Sub}
-use Rattle.rules.specs.Integers.{compute, ranged}
+use Rattle.rules.specs.paper.Tree.{Sub}
+use Rattle.rules.specs.paper.Integers.{compute, ranged}
 use Rattle.integers.specs.Words.{integer-of, computed}
 use Rattle.integers.specs.WordLaws.{integer-low, integer-high, by-sign}
 use Rattle.integers.specs.declared.Computed.the-variants.{Number}

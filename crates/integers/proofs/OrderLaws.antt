@@ -1,4 +1,4 @@
--- With 2^63 added, modulo 2^64, words are in the order of their integers. Assumes nothing.
+-- With 2^63 added, modulo 2^64, words are in the order of their integers.
 use mathlib.Core.Path.{_≡_}
 use Prim.Native.Nat.{ℕ, _+_, _-_, _%_, _^_, _≤_, _<_}
 use native.Mathlib.Omega.{arith}

@@ -1,5 +1,5 @@
 -- The product is that of the magnitudes, negative where the signs differ; and the tests that keep the magnitudes' product within
--- 64 bits. Assumes nothing.
+-- 64 bits.
 use mathlib.Core.Path.{_≡_, refl, sym, ap, _∙_}
 use mathlib.Core.Bool.{Bool, true, false}
 use Prim.Native.Nat.{ℕ, _-_, _*_, _/_, _^_, _≤_, _<_}
@@ -7,8 +7,8 @@ use native.Mathlib.Omega.{arith}
 use native.Mathlib.Nat.{mul-le-mul, le-div-iff-mul-le, div-lt-iff-lt-mul, mul-comm, zero-mul}
 use lib.Bits.{bitOr, or-add-and, and-le-l, and-le-r}
 use lib.IntN.{ℤ, pos, negsuc, natAbs, _*ℤ_}
-use Rattle.rules.specs.Tree.{Mul}
-use Rattle.rules.specs.Integers.{ranged, compute}
+use Rattle.rules.specs.paper.Tree.{Mul}
+use Rattle.rules.specs.paper.Integers.{ranged, compute}
 use Rattle.integers.specs.Words.{integer-of, computed, opposite, signed}
 use Rattle.integers.specs.declared.Computed.{Computed}
 use Rattle.integers.specs.declared.Computed.the-variants.{Number}

@@ -1,12 +1,12 @@
--- The quotient is that of the magnitudes, negative where the signs differ. Assumes nothing.
+-- The quotient is that of the magnitudes, negative where the signs differ.
 use mathlib.Core.Path.{_≡_, refl, sym, ap, _∙_}
 use mathlib.Core.Bool.{Bool}
 use Prim.Native.Nat.{ℕ, zero, suc, _/_, _<_}
 use native.Mathlib.Omega.{arith}
 use lib.IntN.{ℤ, pos, negsuc, natAbs}
-use Rattle.rules.specs.Refusals.{reason-number}
-use Rattle.rules.specs.Tree.{Div}
-use Rattle.rules.specs.Integers.{ranged, divide, compute}
+use Rattle.rules.specs.paper.Refusals.{reason-number}
+use Rattle.rules.specs.paper.Tree.{Div}
+use Rattle.rules.specs.paper.Integers.{ranged, divide, compute}
 use Rattle.integers.specs.Words.{integer-of, computed, opposite, signed}
 use Rattle.integers.specs.declared.Computed.{Computed}
 use Rattle.integers.specs.declared.Computed.the-variants.{Failed}

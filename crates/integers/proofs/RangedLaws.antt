@@ -1,10 +1,10 @@
--- What an integer comes to in words: its word where it is of the range, 32 where it is not; by the integer's form. Assumes nothing.
+-- What an integer comes to in words: its word where it is of the range, 32 where it is not; by the integer's form.
 use mathlib.Core.Path.{_≡_, sym, ap}
 use Prim.Native.Nat.{ℕ, suc, _-_, _^_, _≤_, _<_}
 use lib.IntN.{pos, negsuc, subℕ}
 use borrow.Author.Tests.{lt-ltb, le-ltb}
-use Rattle.rules.specs.Refusals.{reason-number}
-use Rattle.rules.specs.Integers.{ranged}
+use Rattle.rules.specs.paper.Refusals.{reason-number}
+use Rattle.rules.specs.paper.Integers.{ranged}
 use Rattle.integers.specs.Words.{word-of, computed}
 use Rattle.integers.specs.WordLaws.{by-order}
 use Rattle.integers.specs.declared.Computed.the-variants.{Number, Failed}

@@ -1,5 +1,5 @@
 -- The test of a sum or a difference: whether one integer is below another must be whether a third is negative; and what is
--- answered by it. Assumes nothing.
+-- answered by it.
 use mathlib.Core.Path.{_≡_, refl, sym, _∙_}
 use mathlib.Core.Bool.{Bool, true, false, cond, Bool·beq}
 use Prim.Native.Nat.{ℕ, _+_, _%_, _^_, _≤_, _<_}

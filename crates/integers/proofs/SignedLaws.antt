@@ -1,4 +1,4 @@
--- An integer by its sign and its magnitude: how a word has them, and what they come to in words. Assumes nothing.
+-- An integer by its sign and its magnitude: how a word has them, and what they come to in words.
 use mathlib.Core.Path.{_≡_, refl, sym}
 use mathlib.Core.Bool.{Bool, true, false, not, Bool·beq}
 use Prim.Native.Nat.{ℕ, zero, suc, _+_, _-_, _%_, _^_, _≤_, _<_}
@@ -7,7 +7,7 @@ use lib.Dec.{ltb}
 use lib.IntN.{natAbs}
 use lib.Signed.{nonNeg}
 use borrow.Author.Tests.{lt-ltb, le-ltb}
-use Rattle.rules.specs.Integers.{ranged}
+use Rattle.rules.specs.paper.Integers.{ranged}
 use Rattle.integers.specs.Words.{integer-of, computed, opposite, signed}
 use Rattle.integers.specs.WordLaws.{integer-low, integer-high, by-sign}
 use Rattle.integers.specs.declared.Computed.the-variants.{Number, Failed}

@@ -1,10 +1,10 @@
 -- The sum: the words' sum modulo 2^64 is its word where that is below the first word, as integers, exactly if the second is
--- negative; elsewhere the sum is out of range. Assumes nothing.
+-- negative; elsewhere the sum is out of range.
 use mathlib.Core.Path.{_≡_}
 use Prim.Native.Nat.{ℕ, suc, _+_, _-_, _%_, _^_, _≤_, _<_}
 use native.Mathlib.Omega.{arith}
-use Rattle.rules.specs.Tree.{Sum}
-use Rattle.rules.specs.Integers.{compute}
+use Rattle.rules.specs.paper.Tree.{Sum}
+use Rattle.rules.specs.paper.Integers.{compute}
 use Rattle.integers.specs.Words.{integer-of, computed}
 use Rattle.integers.specs.WordLaws.{integer-low, integer-high, by-sign}
 use Rattle.integers.proofs.RangedLaws.{kept-pos, out-pos, kept-negsuc, out-negsuc, kept-sub}

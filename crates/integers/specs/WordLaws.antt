@@ -1,6 +1,6 @@
 -- Laws of the words that hold integers: word and integer are one another's inverse within the range, words are equal where
 -- their integers are, every integer that the rules compute is of the range, what a computed word or number of a reason says of the
--- rules' result, and the four orders from `ltZ`. Assumes nothing.
+-- rules' result, and the four orders from `ltZ`.
 use mathlib.Core.Path.{_≡_, refl, sym, ap, _∙_, subst}
 use mathlib.Core.Bool.{Bool, true, false, cond, not}
 use mathlib.Core.List.{List, [], _∷_}
@@ -12,9 +12,9 @@ use lib.IntN.{ℤ, pos, negsuc, _+ℤ_, _-ℤ_, _*ℤ_}
 use lib.ListN.{length, getD}
 use lib.Signed.{ltZ, leZ, quotZ}
 use borrow.Author.Tests.{lt-ltb, le-ltb, le-leb, lt-leb, eqb-true, eq-eqb}
-use Rattle.rules.specs.Refusals.{Reason, OutOfRange, reason-number}
-use Rattle.rules.specs.Tree.{Arithmetic, Sum, Sub, Mul, Div, Lt, Le, Gt, Ge}
-use Rattle.rules.specs.Integers.{Result, in-range, ranged, divide, compute, number, failed, equal-integers, compare}
+use Rattle.rules.specs.paper.Refusals.{Reason, OutOfRange, reason-number}
+use Rattle.rules.specs.paper.Tree.{Arithmetic, Sum, Sub, Mul, Div, Lt, Le, Gt, Ge}
+use Rattle.rules.specs.paper.Integers.{Result, in-range, ranged, divide, compute, number, failed, equal-integers, compare}
 use Rattle.integers.specs.Words.{integer-of, word-of, computed, integers-of, words-of}
 use Rattle.integers.specs.declared.Computed.the-variants.{Number, Failed}
 

@@ -1,12 +1,12 @@
--- Integers held as words, by two's complement in 64 bits, and what an arithmetic mark comes to in words. Assumes nothing.
+-- Integers held as words, by two's complement in 64 bits, and what an arithmetic mark comes to in words.
 use Prim.Native.Nat.{ℕ, _-_, _^_}
 use mathlib.Core.Bool.{Bool, true, false, cond, not, Bool·beq}
 use mathlib.Core.List.{List, [], _∷_}
 use lib.Dec.{ltb}
 use lib.IntN.{ℤ, pos, negsuc, negℤ}
 use lib.Signed.{nonNeg}
-use Rattle.rules.specs.Integers.{Result, number, failed}
-use Rattle.rules.specs.Refusals.{reason-number}
+use Rattle.rules.specs.paper.Integers.{Result, number, failed}
+use Rattle.rules.specs.paper.Refusals.{reason-number}
 use Rattle.integers.specs.declared.Computed.{Computed}
 use Rattle.integers.specs.declared.Computed.the-variants.{Number, Failed}
 

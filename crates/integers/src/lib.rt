@@ -2,8 +2,8 @@
 ghost use mathlib.Core.Path.{_≡_};
 ghost use lib.IntN.{natAbs};
 ghost use lib.Signed.{ltZ};
-ghost use Rattle.rules.specs.Tree.{Sum, Sub, Mul, Div};
-ghost use Rattle.rules.specs.Integers.{compute, ranged};
+ghost use Rattle.rules.specs.paper.Tree.{Sum, Sub, Mul, Div};
+ghost use Rattle.rules.specs.paper.Integers.{compute, ranged};
 ghost use Rattle.integers.specs.Words.{integer-of, computed, opposite, signed};
 
 // 2^63: the words from here on hold the negative integers, and it is the magnitude of the least of them.

@@ -1,4 +1,4 @@
--- An answer of reading is a next place or a refusal, and one only; words that nothing writes are kept. Assumes nothing.
+-- An answer of reading is a next place or a refusal, and one only; words that nothing writes are kept.
 use Prim.Native.Nat.{ℕ}
 use mathlib.Core.Path.{_≡_, refl, sym, ap, _∙_}
 use mathlib.Core.List.{List}

@@ -1,4 +1,4 @@
--- How many children a node has and what is wanted of them, by the code's tables. Assumes nothing.
+-- How many children a node has and what is wanted of them, by the code's tables.
 use Prim.Native.Nat.{ℕ, zero, suc, _+_, _-_, _/_, _<_}
 use mathlib.Core.Path.{_≡_, refl, sym, ap, _∙_, subst}
 use mathlib.Core.List.{List, [], _∷_, _++_}
@@ -8,10 +8,10 @@ use native.Mathlib.Nat.{not-suc-le-zero}
 use native.Mathlib.Numerals.{add-one}
 use lib.Dec.{T, ltb, ltb→lt}
 use lib.ListN.{length, getD, replicate, length-replicate, length-append}
-use Rattle.rules.specs.Basics.{missing}
-use Rattle.rules.specs.Kinds.{Kind, kind-of, operand-bound, operand-fits, num, boo, id, deref, valref, binary, negation, assign, loop, cseq, blk, call, bind, dseq, expression-kind, command-kind, declaration-kind, ref, abs, formal}
-use Rattle.rules.specs.Reader.{upper-part}
-use Rattle.rules.specs.ReaderNodes.{number-of}
+use Rattle.rules.specs.proofs.Basics.{missing}
+use Rattle.rules.specs.paper.Kinds.{Kind, kind-of, operand-bound, operand-fits, num, boo, id, deref, valref, binary, negation, assign, loop, cseq, blk, call, bind, dseq, expression-kind, command-kind, declaration-kind, ref, abs, formal}
+use Rattle.rules.specs.paper.Reader.{upper-part}
+use Rattle.rules.specs.proofs.reading.ReaderNodes.{number-of}
 use Rattle.reader.specs.Scan.{Want, an-expression, a-formal, a-block, child-wants}
 use Rattle.reader.specs.Tables.{want-of, wants-by, wants-at, rest-wants, rest-wants-by, rest-wants-at, WantedAt}
 use Rattle.reader.specs.Answers.{Passing}

@@ -1,4 +1,4 @@
--- What `read_image` has to show at each return, over plain variables. Assumes nothing.
+-- What `read_image` has to show at each return, over plain variables.
 use Prim.Native.Nat.{ℕ, zero, suc, _+_, _-_, _*_, _<_, _≤_}
 use mathlib.Core.Path.{_≡_, refl, sym, ap, _∙_, subst}
 use mathlib.Core.Bool.{true, _&&_}
@@ -8,12 +8,12 @@ use native.Mathlib.Nat.{zero-add, suc-add, not-suc-le-zero, le-of-suc-le-suc}
 use lib.Seq.{drop-nil}
 use lib.Dec.{T, eqb, leb, ltb, eqb→eq, eqb-refl, leb→le, le→leb, ltb→lt, lt→ltb}
 use lib.ListN.{length, getD, drop}
-use Rattle.rules.specs.Basics.{true-test, false-test, and-both, and-left, and-right}
-use Rattle.rules.specs.Tree.{Root}
-use Rattle.rules.specs.Refusals.{refusal-number}
-use Rattle.rules.specs.Reader.{Node, Got, refused, got, image, whole, size-fits, read-root, read}
-use Rattle.rules.specs.Listing.{root-nodes, image-words}
-use Rattle.rules.specs.ReaderExact.{read-exact}
+use Rattle.rules.specs.proofs.Basics.{true-test, false-test, and-both, and-left, and-right}
+use Rattle.rules.specs.paper.Tree.{Root}
+use Rattle.rules.specs.paper.Refusals.{refusal-number}
+use Rattle.rules.specs.paper.Reader.{Node, Got, refused, got, image, whole, size-fits, read-root, read}
+use Rattle.rules.specs.claims.Listing.{root-nodes, image-words}
+use Rattle.rules.specs.proofs.reading.ReaderExact.{read-exact}
 use Rattle.reader.specs.Pack.{root-words}
 use Rattle.reader.specs.Put.{put-length, put-beyond}
 use Rattle.reader.specs.Answers.{nodes-at, Kept, Read-on, Outcome, ShapeAnswer}

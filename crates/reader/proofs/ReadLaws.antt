@@ -1,4 +1,4 @@
--- What the code that reads a node and its children has to show at each return, over plain variables. Assumes nothing.
+-- What the code that reads a node and its children has to show at each return, over plain variables.
 use Prim.Native.Nat.{ℕ, zero, suc, _+_, _-_, _*_, _<_, _≤_}
 use mathlib.Core.Path.{_≡_, refl, sym, ap, _∙_, subst}
 use mathlib.Core.Bool.{Bool, true, false, cond}
@@ -10,13 +10,13 @@ use native.Mathlib.Nat.{add-assoc, not-suc-le-zero}
 use lib.Dec.{T}
 use lib.ListN.{length, getD, take, drop, set, length-take, length-drop, drop-of-length-le}
 use lib.Seq.{getD-take, getD-drop}
-use Rattle.rules.specs.Basics.{passed-test}
-use Rattle.rules.specs.Refusals.{Refusal, refusal-number}
-use Rattle.rules.specs.Refusals as Refusals
-use Rattle.rules.specs.Kinds.{Kind, kind-of, operand-fits}
-use Rattle.rules.specs.Reader.{Node, Got, refused, got, Read, then, give, Header, or-refuse, node, nodes-of}
-use Rattle.rules.specs.Listing.{a-node}
-use Rattle.rules.specs.ReaderNodes.{number-of}
+use Rattle.rules.specs.proofs.Basics.{passed-test}
+use Rattle.rules.specs.paper.Refusals.{Refusal, refusal-number}
+use Rattle.rules.specs.paper.Refusals as Refusals
+use Rattle.rules.specs.paper.Kinds.{Kind, kind-of, operand-fits}
+use Rattle.rules.specs.paper.Reader.{Node, Got, refused, got, Read, then, give, Header, or-refuse, node, nodes-of}
+use Rattle.rules.specs.claims.Listing.{a-node}
+use Rattle.rules.specs.proofs.reading.ReaderNodes.{number-of}
 use Rattle.reader.specs.Pack.{pack, node-words}
 use Rattle.reader.specs.Put.{put, set-put}
 use Rattle.reader.specs.Scan.{Want, accepts, accepting, child-wants, scan-list, scan}

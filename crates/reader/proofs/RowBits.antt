@@ -1,11 +1,11 @@
--- The masks of the code have the bits of the rows, each proved at all rows by one test that is computed. Assumes nothing.
+-- The masks of the code have the bits of the rows, each proved at all rows by one test that is computed.
 use Prim.Native.Nat.{ℕ, _+_, _*_, _<_}
 use mathlib.Core.Path.{_≡_, refl, sym, ap, _∙_, subst}
 use mathlib.Core.Bool.{Bool, true, false, _||_}
 use native.Mathlib.Omega.{arith}
 use lib.Dec.{T, eqb, eqb→eq}
 use lib.ListN.{getD}
-use Rattle.rules.specs.Basics.{or-cases}
+use Rattle.rules.specs.proofs.Basics.{or-cases}
 use Rattle.reader.specs.KindRows.{bounds, accepted, counts, firsts, lasts, bit-at}
 use Rattle.reader.proofs.Rows.{all-below, at-each}
 

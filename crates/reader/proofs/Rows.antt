@@ -1,4 +1,4 @@
--- The code's tables hold what the table of kinds says, proved at all rows by one test that is computed. Assumes nothing.
+-- The code's tables hold what the table of kinds says, proved at all rows by one test that is computed.
 use Prim.Native.Nat.{ℕ, zero, suc, _+_, _*_, _<_}
 use mathlib.Core.Path.{_≡_, refl, sym, ap, _∙_, subst}
 use mathlib.Core.Bool.{Bool, true, false, not, _&&_}
@@ -8,8 +8,8 @@ use native.Mathlib.Omega.{arith}
 use native.Mathlib.Nat.{not-suc-le-zero}
 use lib.Dec.{T, eqb, eqb→eq, eqb-refl}
 use lib.ListN.{getD}
-use Rattle.rules.specs.Basics.{and-left, and-right}
-use Rattle.rules.specs.Kinds.{Kind, kind-of, operand-bound, num, boo, id, deref, valref, binary, negation, assign, loop, cseq, blk, call, bind, dseq, expression-kind, command-kind, declaration-kind, ref, abs, formal}
+use Rattle.rules.specs.proofs.Basics.{and-left, and-right}
+use Rattle.rules.specs.paper.Kinds.{Kind, kind-of, operand-bound, num, boo, id, deref, valref, binary, negation, assign, loop, cseq, blk, call, bind, dseq, expression-kind, command-kind, declaration-kind, ref, abs, formal}
 use Rattle.reader.specs.Scan.{Want, an-expression, a-command, a-declaration, a-bound, a-formal, a-block, a-root, accepts}
 use Rattle.reader.specs.KindRows.{bounds, accepted, counts, firsts, lasts}
 use Rattle.reader.specs.Tables.{want-of, first-want, last-want}

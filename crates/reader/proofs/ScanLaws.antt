@@ -1,5 +1,5 @@
 -- Laws of reading that hold for every sort of node: two readers whose answers agree, a node's own checks, its children by the list of
--- what is wanted of them, and a node with its children. Assumes nothing.
+-- what is wanted of them, and a node with its children.
 use Prim.Native.Nat.{ℕ, zero, suc}
 use mathlib.Core.Path.{_≡_, refl, sym, ap, _∙_, subst}
 use mathlib.Core.Bool.{Bool, true, false, cond}
@@ -7,12 +7,12 @@ use mathlib.Core.List.{List, [], _∷_, _++_}
 use mathlib.Core.Option.{Option, none, some, Option·some-injective, Option·some-ne-none, Option·none-ne-some}
 use lib.Dec.{T}
 use lib.ListN.{length, replicate}
-use Rattle.rules.specs.Basics.{append-nothing, append-assoc, passed-test}
-use Rattle.rules.specs.Refusals.{Refusal}
-use Rattle.rules.specs.Refusals as Refusals
-use Rattle.rules.specs.Kinds.{Kind, kind-of, operand-fits}
-use Rattle.rules.specs.Reader.{Node, Got, refused, got, Read, then, _>>=_, give, refuse, Header, or-refuse, node, read-many}
-use Rattle.rules.specs.ReaderComplete.{kind-number}
+use Rattle.rules.specs.proofs.Basics.{append-nothing, append-assoc, passed-test}
+use Rattle.rules.specs.paper.Refusals.{Refusal}
+use Rattle.rules.specs.paper.Refusals as Refusals
+use Rattle.rules.specs.paper.Kinds.{Kind, kind-of, operand-fits}
+use Rattle.rules.specs.paper.Reader.{Node, Got, refused, got, Read, then, _>>=_, give, refuse, Header, or-refuse, node, read-many}
+use Rattle.rules.specs.proofs.reading.ReaderComplete.{kind-number}
 use Rattle.reader.specs.Pack.{node-words, all-words}
 use Rattle.reader.specs.Scan.{Want, accepts, accepting, child-wants, scan-list, scan}
 

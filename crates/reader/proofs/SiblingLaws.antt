@@ -1,4 +1,4 @@
--- Reading a node's children one after the other: what the code has to show of one child, and of those read so far. Assumes nothing.
+-- Reading a node's children one after the other: what the code has to show of one child, and of those read so far.
 use Prim.Native.Nat.{ℕ, _+_, _-_}
 use mathlib.Core.Path.{_≡_, refl, sym, ap, _∙_, subst}
 use mathlib.Core.List.{List, [], _++_}
@@ -6,9 +6,9 @@ use mathlib.Core.Option.{Option, none, some}
 use native.Mathlib.Omega.{arith}
 use native.Mathlib.Nat.{add-zero}
 use lib.ListN.{length, drop, length-append}
-use Rattle.rules.specs.Refusals.{refusal-number}
-use Rattle.rules.specs.Kinds.{Kind, kind-of}
-use Rattle.rules.specs.Reader.{Node, Got, refused, got, then, _>>=_, give}
+use Rattle.rules.specs.paper.Refusals.{refusal-number}
+use Rattle.rules.specs.paper.Kinds.{Kind, kind-of}
+use Rattle.rules.specs.paper.Reader.{Node, Got, refused, got, then, _>>=_, give}
 use Rattle.reader.specs.Put.{put, put-length, put-none, put-append, put-beyond}
 use Rattle.reader.specs.Scan.{scan-list, scan}
 use Rattle.reader.specs.Tables.{want-of, rest-wants-by, rest-wants-at, WantedAt}

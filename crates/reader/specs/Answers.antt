@@ -1,14 +1,14 @@
--- What the reader's functions answer, by the definitions of the rules. Assumes nothing.
+-- What the reader's functions answer, by the definitions of the rules.
 use Prim.Native.Nat.{ℕ, _+_, _*_, _≤_}
 use mathlib.Core.Path.{_≡_}
 use mathlib.Core.List.{List}
 use mathlib.Core.Option.{some}
 use lib.Dec.{T}
 use lib.ListN.{length, take, drop}
-use Rattle.rules.specs.Refusals.{Refusal, refusal-number}
-use Rattle.rules.specs.Kinds.{Kind, kind-of, operand-fits}
-use Rattle.rules.specs.Reader.{Node, Got, refused, got, nodes-of, Reading, bad, image}
-use Rattle.rules.specs.Listing.{root-nodes}
+use Rattle.rules.specs.paper.Refusals.{Refusal, refusal-number}
+use Rattle.rules.specs.paper.Kinds.{Kind, kind-of, operand-fits}
+use Rattle.rules.specs.paper.Reader.{Node, Got, refused, got, nodes-of, Reading, bad, image}
+use Rattle.rules.specs.claims.Listing.{root-nodes}
 use Rattle.reader.specs.Pack.{root-words}
 use Rattle.reader.specs.Put.{put}
 use Rattle.reader.specs.declared.Scanned.{Scanned}

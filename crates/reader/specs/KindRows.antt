@@ -1,5 +1,5 @@
 -- The table of kinds by numbers, row by row: what the small functions of the code answer. Rows.antt, among the proofs, shows that it is the
--- table of kinds. Assumes nothing.
+-- table of kinds.
 use Prim.Native.Nat.{ℕ, _/_, _%_, _^_}
 use mathlib.Core.List.{List, [], _∷_}
 

@@ -1,4 +1,4 @@
--- A run of words written over others from a place on. Assumes nothing.
+-- A run of words written over others from a place on.
 use Prim.Native.Nat.{ℕ, zero, suc, _+_, _≤_, _<_}
 use mathlib.Core.Path.{_≡_, refl, sym, ap, _∙_}
 use mathlib.Core.List.{List, [], _∷_, _++_}

@@ -1,15 +1,14 @@
 -- Reading, as the code does it: one reader for all sorts of nodes, which goes by what is wanted where a node stands and by the table
 -- of kinds, and answers the work words of what it read. proofs/ScanExact.antt shows that it reads what the rules' reader reads.
--- Assumes nothing.
 use Prim.Native.Nat.{ℕ, zero, suc}
 use mathlib.Core.Bool.{Bool, true, false, cond}
 use mathlib.Core.List.{List, [], _∷_, _++_}
 use mathlib.Core.Option.{Option, none, some}
 use lib.ListN.{replicate}
-use Rattle.rules.specs.Refusals as Refusals
-use Rattle.rules.specs.Kinds.{Kind, num, boo, id, deref, valref, binary, negation, assign, loop, cseq, blk, call, bind, dseq, expression-kind, command-kind, declaration-kind, ref, abs, formal}
-use Rattle.rules.specs.Reader.{Read, _>>=_, give, refuse, node, upper-part}
-use Rattle.rules.specs.ReaderComplete.{kind-number}
+use Rattle.rules.specs.paper.Refusals as Refusals
+use Rattle.rules.specs.paper.Kinds.{Kind, num, boo, id, deref, valref, binary, negation, assign, loop, cseq, blk, call, bind, dseq, expression-kind, command-kind, declaration-kind, ref, abs, formal}
+use Rattle.rules.specs.paper.Reader.{Read, _>>=_, give, refuse, node, upper-part}
+use Rattle.rules.specs.proofs.reading.ReaderComplete.{kind-number}
 use Rattle.reader.specs.Pack.{node-words}
 
 -- What is wanted where a node stands.

@@ -1,14 +1,14 @@
 -- Which tree the work words hold (the reader's promise): `Stored.. words d i j t` says that the node at place i is the root of t,
--- that t's nodes end before j and t is at most d deep, and that each of its nodes has its word. Assumes nothing.
+-- that t's nodes end before j and t is at most d deep, and that each of its nodes has its word.
 use Prim.Native.Nat.{ℕ, zero, suc, _+_, _*_, _%_, _/_, _<_, _≤_}
 use mathlib.Core.Path.{_≡_, ap, _∙_}
 use mathlib.Core.Bool.{Bool}
 use mathlib.Core.List.{List, [], _∷_}
 use native.Mathlib.Omega.{arith}
 use lib.ListN.{length, getD}
-use Rattle.rules.specs.Tree.{Operator, Expression, Num, Boo, Id, DeRef, ValRef, Binary, Not, Formal, Command, Assign, Loop, CSeq, block, Call, Block, Blk, Declaration, Bind, DSeq, Bound, plain, Ref, Abs, Root, expression, command}
-use Rattle.rules.specs.Limits.{names, codes, most-parameters}
-use Rattle.rules.specs.Listing.{operator-number, truth-word}
+use Rattle.rules.specs.paper.Tree.{Operator, Expression, Num, Boo, Id, DeRef, ValRef, Binary, Not, Formal, Command, Assign, Loop, CSeq, block, Call, Block, Blk, Declaration, Bind, DSeq, Bound, plain, Ref, Abs, Root, expression, command}
+use Rattle.rules.specs.paper.Limits.{names, codes, most-parameters}
+use Rattle.rules.specs.claims.Listing.{operator-number, truth-word}
 use Rattle.reader.specs.Pack.{pack, packed-kind, packed-end, packed-operand}
 
 -- The word of a node: its kind, its operand, and the first node after its descendants.

@@ -1,4 +1,4 @@
--- The words that the reader writes store the tree it read; and what other words leave alone stays stored. Assumes nothing.
+-- The words that the reader writes store the tree it read; and what other words leave alone stays stored.
 use Prim.Native.Nat.{ℕ, zero, suc, _+_, _*_, _<_, _≤_}
 use mathlib.Core.Path.{_≡_, refl, sym, ap, _∙_, subst}
 use mathlib.Core.Bool.{Bool, true, false}
@@ -6,11 +6,11 @@ use mathlib.Core.List.{List, [], _∷_, _++_}
 use native.Mathlib.Omega.{arith}
 use native.Mathlib.Nat.{add-zero, add-suc, suc-add, zero-add}
 use lib.ListN.{length, getD, length-append}
-use Rattle.rules.specs.Tree.{Operator, Expression, Num, Boo, Id, DeRef, ValRef, Binary, Not, Formal, Command, Assign, Loop, CSeq, block, Call, Block, Blk, Declaration, Bind, DSeq, Bound, plain, Ref, Abs, Root, expression, command}
-use Rattle.rules.specs.Limits.{names, codes, most-parameters, most-depth}
-use Rattle.rules.specs.Listing.{operator-number, truth-word}
-use Rattle.rules.specs.Shape.{ShapedExpression, ShapedFormal, Many, none-left, one-more, ShapedCommand, ShapedBlock, ShapedDeclaration, ShapedBound, ShapedRoot}
-use Rattle.rules.specs.Shape as Shape
+use Rattle.rules.specs.paper.Tree.{Operator, Expression, Num, Boo, Id, DeRef, ValRef, Binary, Not, Formal, Command, Assign, Loop, CSeq, block, Call, Block, Blk, Declaration, Bind, DSeq, Bound, plain, Ref, Abs, Root, expression, command}
+use Rattle.rules.specs.paper.Limits.{names, codes, most-parameters, most-depth}
+use Rattle.rules.specs.claims.Listing.{operator-number, truth-word}
+use Rattle.rules.specs.claims.Shape.{ShapedExpression, ShapedFormal, Many, none-left, one-more, ShapedCommand, ShapedBlock, ShapedDeclaration, ShapedBound, ShapedRoot}
+use Rattle.rules.specs.claims.Shape as Shape
 use Rattle.reader.specs.Pack.{pack, node-words, expression-words, formal-words, all-words, command-words, block-words, declaration-words, bound-words, root-words}
 use Rattle.reader.specs.Put.{put, put-at}
 use Rattle.reader.specs.Stored.{HasWord, StoredExpression, StoredActuals, no-actuals, one-actual, StoredFormals, no-formals, one-formal, StoredCommand, StoredBlock, StoredDeclaration, StoredBound, StoredRoot}

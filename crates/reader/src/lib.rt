@@ -4,7 +4,7 @@ mod tables;
 ghost use mathlib.Core.Path.{_≡_};
 ghost use Prim.Native.Nat.{_<_, _≤_};
 ghost use lib.ListN.{length, drop, getD};
-ghost use Rattle.rules.specs.Reader.{read};
+ghost use Rattle.rules.specs.paper.Reader.{read};
 ghost use Rattle.reader.specs.Scan.{scan};
 ghost use Rattle.reader.specs.Tables.{want-of};
 ghost use Rattle.reader.specs.Pack.{pack, packed-kind, packed-operand, packed-end};

@@ -1,4 +1,4 @@
--- answer: the input is counted, and answered or refused. Assumes nothing.
+-- answer: the input is counted, and answered or refused.
 use Rattle.answer.proofs.InputLaws.{fitting, refusing-it}
 use Rattle.answer.proofs.PutLaws.{whole}
 use borrow.Author.Needs.{needs}

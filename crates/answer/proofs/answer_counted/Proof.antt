@@ -1,4 +1,4 @@
--- answer_counted: the room for the run. Assumes nothing.
+-- answer_counted: the room for the run.
 use mathlib.Core.Path.{sym}
 use native.Mathlib.Omega.{arith}
 use denote.Ref.{now}

@@ -1,4 +1,4 @@
--- perform: the numbers of the input, the run and the page. Assumes nothing.
+-- perform: the numbers of the input, the run and the page.
 use Rattle.answer.proofs.PageLaws.{performed}
 use borrow.Author.Needs.{needs}
 use Rattle.answer.proofs.perform.Statement.{statement}

@@ -1,14 +1,14 @@
--- run: each time round the machine holds a state of the run by the rules. Assumes nothing.
+-- run: each time round the machine holds a state of the run by the rules.
 use Prim.Native.Nat.{ℕ, _-_, _<_, _≤_}
 use mathlib.Core.Path.{_≡_, refl, sym, ap, _∙_}
 use mathlib.Core.List.{List}
 use native.Mathlib.Omega.{arith}
 use denote.Ref.{now}
 use borrow.Author.Needs.{needs}
-use Rattle.rules.specs.Checker.{Passed}
-use Rattle.rules.specs.States.{State}
-use Rattle.rules.specs.History.{History}
-use Rattle.rules.specs.Continuation.{Invariant}
+use Rattle.rules.specs.paper.Checker.{Passed}
+use Rattle.rules.specs.paper.States.{State}
+use Rattle.rules.specs.claims.History.{History}
+use Rattle.rules.specs.proofs.running.Continuation.{Invariant}
 use Rattle.automaton.specs.Steps.{Holds}
 use Rattle.automaton.specs.declared.machine.Machine.{Machine}
 use Rattle.automaton.proofs.RunLaws.{Reached, at-start, enabled-here, ends-here, spent-here, goes-round, stops-here}

@@ -1,12 +1,12 @@
--- step: the item on top of control goes to its rule's function. Assumes nothing.
+-- step: the item on top of control goes to its rule's function.
 use Prim.Native.Nat.{ℕ, _+_, _-_, _<_, _≤_}
 use mathlib.Core.Path.{_≡_, refl, sym, ap, _∙_}
 use mathlib.Core.List.{List}
 use native.Mathlib.Omega.{arith}
 use denote.Ref.{now}
 use lib.ListN.{getD}
-use Rattle.rules.specs.Tree.{Expression, Formal, Command, Block, Declaration}
-use Rattle.rules.specs.States.{Mark, expression, command, declaration, reference, abstraction, mark}
+use Rattle.rules.specs.paper.Tree.{Expression, Formal, Command, Block, Declaration}
+use Rattle.rules.specs.paper.States.{Mark, expression, command, declaration, reference, abstraction, mark}
 use Rattle.automaton.specs.Steps.{Applicable, Steps}
 use Rattle.automaton.proofs.StepLaws.{lowered, some-control}
 use Rattle.automaton.proofs.DispatchLaws.{select-mark, select-expression, select-command, select-declaration, select-reference, select-abstraction, applicable, answered}
@@ -23,34 +23,27 @@ use Rattle.automaton.proofs.declarations.make_cell.Reads as make-cell-r
 use Rattle.automaton.proofs.marks.mark_rule.Reads as mark-rule-reads
 use Rattle.reader.proofs.kind.Reads as kind-reads
 
--- src/lib.rt:40:21
 add-word : tie.Need-add-word
 add-word c = search needs
 
--- src/lib.rt:40:16
 mul-word : tie.Need-mul-word
 mul-word c = search needs
 
--- src/lib.rt:40:16
 slice-read-word : tie.Need-slice-read-word
 slice-read-word c = search needs
 
--- src/lib.rt:41:17
 sub-m : tie.Need-sub-m
 sub-m c = let start = c .before .before in some-control _ _ (start .pre .enabled .stands .models)
 
--- src/lib.rt:43:9
 mark-rule-requires : tie.Need-mark-rule-requires
 mark-rule-requires c κs =
     let start = c .before .before .before .before in
     let held = applicable (now (start .args .work)) (start .args .m) (getD (now (start .args .work)) (2047 + start .args .m .control) 0) refl (start .pre) in
     select-mark (now (start .args .work)) (getD (now (start .args .work)) (2047 + start .args .m .control) 0) (λ i. Applicable (now (start .args .work)) (lowered (start .args .m)) (getD (now (start .args .work)) (2047 + start .args .m .control) 0) i → (k : Mark) × Applicable (now (start .args .work)) (lowered (start .args .m)) (getD (now (start .args .work)) (2047 + start .args .m .control) 0) (mark k)) (held .0) (c .before .if1 .taken) (λ k a. (k, a)) (held .1)
 
--- src/lib.rt:43:9
 same-length : tie.Need-same-length
 same-length c = search needs
 
--- src/lib.rt:43:9
 returns : tie.Need-returns
 returns c =
     let start = c .before .before .before .before .before .before .before in
@@ -58,11 +51,9 @@ returns c =
     answered (now (start .args .work)) (start .args .m) (getD (now (start .args .work)) (2047 + start .args .m .control) 0) refl (done .result) (done .last .0)
     (λ i s. select-mark (now (start .args .work)) (getD (now (start .args .work)) (2047 + start .args .m .control) 0) (λ j. Steps (now (start .args .work)) (lowered (start .args .m)) (getD (now (start .args .work)) (2047 + start .args .m .control) 0) j (done .result) (done .last .0)) s (c .before .before .before .before .if1 .taken) (done .ensures))
 
--- src/lib.rt:46:9
 kind-requires : tie.Need-kind-requires
 kind-requires c κs = search needs
 
--- src/lib.rt:48:9
 expression-rule-requires : tie.Need-expression-rule-requires
 expression-rule-requires c κs =
     let start = c .before .before .before .before .before .before .before in
@@ -70,11 +61,9 @@ expression-rule-requires c κs =
     let kind-is = c .before .before .kind .ensures in
     (kind-is, select-expression (now (start .args .work)) (getD (now (start .args .work)) (2047 + start .args .m .control) 0) (λ i. Applicable (now (start .args .work)) (lowered (start .args .m)) (getD (now (start .args .work)) (2047 + start .args .m .control) 0) i → (e : Expression) × Applicable (now (start .args .work)) (lowered (start .args .m)) (getD (now (start .args .work)) (2047 + start .args .m .control) 0) (expression e)) (held .0) (c .before .before .before .before .if1 .left) (omega (arith, kind-is, c .before .if2 .taken)) (λ e a. (e, a)) (held .1))
 
--- src/lib.rt:48:9
 same-length-2 : tie.Need-same-length-2
 same-length-2 c = search needs
 
--- src/lib.rt:48:9
 returns-2 : tie.Need-returns-2
 returns-2 c =
     let start = c .before .before .before .before .before .before .before .before .before .before in
@@ -83,7 +72,6 @@ returns-2 c =
     answered (now (start .args .work)) (start .args .m) (getD (now (start .args .work)) (2047 + start .args .m .control) 0) refl (done .result) (done .last .0)
     (λ i s. select-expression (now (start .args .work)) (getD (now (start .args .work)) (2047 + start .args .m .control) 0) (λ j. Steps (now (start .args .work)) (lowered (start .args .m)) (getD (now (start .args .work)) (2047 + start .args .m .control) 0) j (done .result) (done .last .0)) s (c .before .before .before .before .before .before .before .if1 .left) (omega (arith, kind-is, c .before .before .before .before .if2 .taken)) (done .ensures))
 
--- src/lib.rt:51:9
 command-rule-requires : tie.Need-command-rule-requires
 command-rule-requires c κs =
     let start = c .before .before .before .before .before .before .before .before in
@@ -91,11 +79,9 @@ command-rule-requires c κs =
     let kind-is = c .before .before .before .kind .ensures in
     (kind-is, select-command (now (start .args .work)) (getD (now (start .args .work)) (2047 + start .args .m .control) 0) (λ i. Applicable (now (start .args .work)) (lowered (start .args .m)) (getD (now (start .args .work)) (2047 + start .args .m .control) 0) i → (d : Command) × Applicable (now (start .args .work)) (lowered (start .args .m)) (getD (now (start .args .work)) (2047 + start .args .m .control) 0) (command d)) (held .0) (c .before .before .before .before .before .if1 .left) (omega (arith, kind-is, c .before .before .if2 .left)) (omega (arith, kind-is, c .before .if3 .taken)) (λ d a. (d, a)) (held .1))
 
--- src/lib.rt:51:9
 same-length-3 : tie.Need-same-length-3
 same-length-3 c = search needs
 
--- src/lib.rt:51:9
 returns-3 : tie.Need-returns-3
 returns-3 c =
     let start = c .before .before .before .before .before .before .before .before .before .before .before in
@@ -104,7 +90,6 @@ returns-3 c =
     answered (now (start .args .work)) (start .args .m) (getD (now (start .args .work)) (2047 + start .args .m .control) 0) refl (done .result) (done .last .0)
     (λ i s. select-command (now (start .args .work)) (getD (now (start .args .work)) (2047 + start .args .m .control) 0) (λ j. Steps (now (start .args .work)) (lowered (start .args .m)) (getD (now (start .args .work)) (2047 + start .args .m .control) 0) j (done .result) (done .last .0)) s (c .before .before .before .before .before .before .before .before .if1 .left) (omega (arith, kind-is, c .before .before .before .before .before .if2 .left)) (omega (arith, kind-is, c .before .before .before .before .if3 .taken)) (done .ensures))
 
--- src/lib.rt:54:9
 declaration-rule-requires : tie.Need-declaration-rule-requires
 declaration-rule-requires c κs =
     let start = c .before .before .before .before .before .before .before .before .before in
@@ -112,11 +97,9 @@ declaration-rule-requires c κs =
     let kind-is = c .before .before .before .before .kind .ensures in
     (kind-is, select-declaration (now (start .args .work)) (getD (now (start .args .work)) (2047 + start .args .m .control) 0) (λ i. Applicable (now (start .args .work)) (lowered (start .args .m)) (getD (now (start .args .work)) (2047 + start .args .m .control) 0) i → (d : Declaration) × Applicable (now (start .args .work)) (lowered (start .args .m)) (getD (now (start .args .work)) (2047 + start .args .m .control) 0) (declaration d)) (held .0) (c .before .before .before .before .before .before .if1 .left) (omega (arith, kind-is, c .before .before .if3 .left)) (omega (arith, kind-is, c .before .if4 .taken)) (λ d a. (d, a)) (held .1))
 
--- src/lib.rt:54:9
 same-length-4 : tie.Need-same-length-4
 same-length-4 c = search needs
 
--- src/lib.rt:54:9
 returns-4 : tie.Need-returns-4
 returns-4 c =
     let start = c .before .before .before .before .before .before .before .before .before .before .before .before in
@@ -125,7 +108,6 @@ returns-4 c =
     answered (now (start .args .work)) (start .args .m) (getD (now (start .args .work)) (2047 + start .args .m .control) 0) refl (done .result) (done .last .0)
     (λ i s. select-declaration (now (start .args .work)) (getD (now (start .args .work)) (2047 + start .args .m .control) 0) (λ j. Steps (now (start .args .work)) (lowered (start .args .m)) (getD (now (start .args .work)) (2047 + start .args .m .control) 0) j (done .result) (done .last .0)) s (c .before .before .before .before .before .before .before .before .before .if1 .left) (omega (arith, kind-is, c .before .before .before .before .before .if3 .left)) (omega (arith, kind-is, c .before .before .before .before .if4 .taken)) (done .ensures))
 
--- src/lib.rt:57:9
 make-cell-requires : tie.Need-make-cell-requires
 make-cell-requires c κs =
     let start = c .before .before .before .before .before .before .before .before .before .before in
@@ -133,11 +115,9 @@ make-cell-requires c κs =
     let kind-is = c .before .before .before .before .before .kind .ensures in
     select-reference (now (start .args .work)) (getD (now (start .args .work)) (2047 + start .args .m .control) 0) (λ i. Applicable (now (start .args .work)) (lowered (start .args .m)) (getD (now (start .args .work)) (2047 + start .args .m .control) 0) i → (p : ℕ) × (e : Expression) × Applicable (now (start .args .work)) (lowered (start .args .m)) (getD (now (start .args .work)) (2047 + start .args .m .control) 0) (reference p e)) (held .0) (c .before .before .before .before .before .before .before .if1 .left) (sym kind-is ∙ c .before .if5 .taken) (λ p e a. (p, e, a)) (held .1)
 
--- src/lib.rt:57:9
 same-length-5 : tie.Need-same-length-5
 same-length-5 c = search needs
 
--- src/lib.rt:57:9
 returns-5 : tie.Need-returns-5
 returns-5 c =
     let start = c .before .before .before .before .before .before .before .before .before .before .before .before .before in
@@ -146,7 +126,6 @@ returns-5 c =
     answered (now (start .args .work)) (start .args .m) (getD (now (start .args .work)) (2047 + start .args .m .control) 0) refl (done .result) (done .last .0)
     (λ i s. select-reference (now (start .args .work)) (getD (now (start .args .work)) (2047 + start .args .m .control) 0) (λ j. Steps (now (start .args .work)) (lowered (start .args .m)) (getD (now (start .args .work)) (2047 + start .args .m .control) 0) j (done .result) (done .last .0)) s (c .before .before .before .before .before .before .before .before .before .before .if1 .left) (sym kind-is ∙ c .before .before .before .before .if5 .taken) (done .ensures))
 
--- src/lib.rt:59:5
 close-requires : tie.Need-close-requires
 close-requires c κs =
     let start = c .before .before .before .before .before .before .before .before .before .before in
@@ -154,11 +133,9 @@ close-requires c κs =
     let kind-is = c .before .before .before .before .before .kind .ensures in
     select-abstraction (now (start .args .work)) (getD (now (start .args .work)) (2047 + start .args .m .control) 0) (λ i. Applicable (now (start .args .work)) (lowered (start .args .m)) (getD (now (start .args .work)) (2047 + start .args .m .control) 0) i → (p : ℕ) × (fs : List Formal) × (d : Block) × Applicable (now (start .args .work)) (lowered (start .args .m)) (getD (now (start .args .work)) (2047 + start .args .m .control) 0) (abstraction p fs d)) (held .0) (c .before .before .before .before .before .before .before .if1 .left) (omega (arith, kind-is, c .before .before .if4 .left)) (λ q. c .before .if5 .left (kind-is ∙ q)) (λ p fs d a. (p, fs, d, a)) (held .1)
 
--- src/lib.rt:35:1
 same-length-6 : tie.Need-same-length-6
 same-length-6 c = search needs
 
--- src/lib.rt:35:1
 returns-6 : tie.Need-returns-6
 returns-6 c =
     let start = c .before .before .before .before .before .before .before .before .before .before .before .before .before in

@@ -1,5 +1,5 @@
 -- The proof of `expression`, which calls itself: the node's kind says which expression stands there, and its code follows from its
--- children's. The measure is the number of nodes from this one on. Assumes nothing.
+-- children's. The measure is the number of nodes from this one on.
 use Prim.Native.Nat.{_+_, _-_, _≤_}
 use mathlib.Core.Path.{sym, _∙_, subst}
 use native.Mathlib.Omega.{arith}

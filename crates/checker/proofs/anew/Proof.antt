@@ -1,4 +1,4 @@
--- An answer made anew is the same. Assumes nothing.
+-- An answer made anew is the same.
 use mathlib.Core.Path.{sym}
 use borrow.Author.Needs.{needs}
 use Rattle.checker.proofs.anew.Statement.{statement}

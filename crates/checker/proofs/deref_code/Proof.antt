@@ -1,19 +1,16 @@
--- DeRef's code by the number of the name's meaning. Assumes nothing.
+-- DeRef's code by the number of the name's meaning.
 use Rattle.checker.proofs.CodeLaws.{deref-plain, deref-location, deref-function}
 use Rattle.checker.proofs.deref_code.Statement.{statement}
 use Rattle.checker.proofs.deref_code.Tie as tie
 use Rattle.checker.proofs.deref_code.Reads as reads
 use Rattle.checker.proofs.deref_code.Lts as lts
 
--- src/lib.rt:107:9
 returns : tie.Need-returns
 returns c = deref-plain _ _ (c .if1 .taken)
 
--- src/lib.rt:110:9
 returns-2 : tie.Need-returns-2
 returns-2 c = deref-location _ _ (c .before .if1 .left) (c .if2 .taken)
 
--- src/lib.rt:103:1
 returns-3 : tie.Need-returns-3
 returns-3 c = deref-function _ _ (c .if2 .left)
 

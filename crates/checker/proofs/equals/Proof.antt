@@ -1,19 +1,16 @@
--- Two integers or two truth values. Assumes nothing.
+-- Two integers or two truth values.
 use Rattle.checker.proofs.CodeLaws.{equals-high, equals-apart, equals-same}
 use Rattle.checker.proofs.equals.Statement.{statement}
 use Rattle.checker.proofs.equals.Tie as tie
 use Rattle.checker.proofs.equals.Reads as reads
 use Rattle.checker.proofs.equals.Lts as lts
 
--- src/lib.rt:181:9
 returns : tie.Need-returns
 returns c = equals-high _ _ _ (c .if1 .taken)
 
--- src/lib.rt:184:9
 returns-2 : tie.Need-returns-2
 returns-2 c = equals-apart _ _ _ (c .before .if1 .left) (c .if2 .taken)
 
--- src/lib.rt:177:1
 returns-3 : tie.Need-returns-3
 returns-3 c = equals-same _ _ _ (c .before .if1 .left) (c .if2 .left)
 

@@ -14,35 +14,27 @@ Inv-loop work from to name at₀ at = Walked work from to name at
 abbrev μ-loop : tie.MeasureT-loop
 μ-loop work from to name at₀ at = at
 
--- src/lib.rt:28:5
 loop-holds : tie.Need-loop-holds Inv-loop μ-loop
 loop-holds c = walk-start _ _ _ _
 
--- src/lib.rt:29:24
 add-row : tie.Need-add-row Inv-loop μ-loop
 add-row c = record { fits = omega (arith, walk-low _ _ _ _ _ (c .before .before .pre .1) (c .before .loop .inv) (c .loop-test .taken)) }
 
--- src/lib.rt:29:19
 mul-row : tie.Need-mul-row Inv-loop μ-loop
 mul-row c = record { fits = omega (arith, walk-low _ _ _ _ _ (c .before .before .pre .1) (c .before .loop .inv) (c .loop-test .taken)) }
 
--- src/lib.rt:29:19
 shared-slice-read-row : tie.Need-shared-slice-read-row Inv-loop μ-loop
 shared-slice-read-row c = omega (arith, walk-low _ _ _ _ _ (c .before .before .before .pre .1) (c .before .before .loop .inv) (c .before .loop-test .taken), c .before .before .before .pre .0)
 
--- src/lib.rt:31:13
 returns : tie.Need-returns Inv-loop μ-loop
 returns c = walk-found _ _ _ _ _ (c .before .before .before .loop .inv) (c .before .before .loop-test .taken) (c .if1 .taken)
 
--- src/lib.rt:28:5
 loop-less : tie.Need-loop-less Inv-loop μ-loop
 loop-less c = walk-less _ _ _ _ _ (c .before .before .before .before .pre .1) (c .before .before .before .loop .inv) (c .before .before .loop-test .taken)
 
--- src/lib.rt:28:5
 loop-again : tie.Need-loop-again Inv-loop μ-loop
 loop-again c = walk-on _ _ _ _ _ (c .before .before .before .loop .inv) (c .before .before .loop-test .taken) (c .if1 .left)
 
--- src/lib.rt:22:1
 returns-2 : tie.Need-returns-2 Inv-loop μ-loop
 returns-2 c = walk-absent _ _ _ _ _ (c .before .loop .inv) (c .loop-test .left)
 

@@ -1,19 +1,16 @@
--- Id's code by the number of the name's meaning. Assumes nothing.
+-- Id's code by the number of the name's meaning.
 use Rattle.checker.proofs.CodeLaws.{id-plain, id-location, id-function}
 use Rattle.checker.proofs.id_code.Statement.{statement}
 use Rattle.checker.proofs.id_code.Tie as tie
 use Rattle.checker.proofs.id_code.Reads as reads
 use Rattle.checker.proofs.id_code.Lts as lts
 
--- src/lib.rt:94:9
 returns : tie.Need-returns
 returns c = id-plain _ _ (c .if1 .taken)
 
--- src/lib.rt:97:9
 returns-2 : tie.Need-returns-2
 returns-2 c = id-location _ _ (c .before .if1 .left) (c .if2 .taken)
 
--- src/lib.rt:90:1
 returns-3 : tie.Need-returns-3
 returns-3 c = id-function _ _ (c .if2 .left)
 

@@ -1,19 +1,16 @@
--- Two integers. Assumes nothing.
+-- Two integers.
 use Rattle.checker.proofs.CodeLaws.{integers-first, integers-second, integers-both}
 use Rattle.checker.proofs.integers.Statement.{statement}
 use Rattle.checker.proofs.integers.Tie as tie
 use Rattle.checker.proofs.integers.Reads as reads
 use Rattle.checker.proofs.integers.Lts as lts
 
--- src/lib.rt:155:9
 returns : tie.Need-returns
 returns c = integers-first _ _ _ _ (c .if1 .taken)
 
--- src/lib.rt:158:9
 returns-2 : tie.Need-returns-2
 returns-2 c = integers-second _ _ _ _ (c .before .if1 .left) (c .if2 .taken)
 
--- src/lib.rt:151:1
 returns-3 : tie.Need-returns-3
 returns-3 c = integers-both _ _ _ _ (c .before .if1 .left) (c .if2 .left)
 

@@ -10,31 +10,24 @@ use Rattle.checker.proofs.lookup.Reads as reads
 use Rattle.checker.proofs.lookup.Lts as lts
 use Rattle.checker.proofs.find_row.Reads as find-row-reads
 
--- src/lib.rt:44:9
 find-row-requires : tie.Need-find-row-requires
 find-row-requires c κs = (c .before .pre .0, (c .before .pre .1 .1 .own, c .before .pre .1 .1 .rows))
 
--- src/lib.rt:47:13
 returns : tie.Need-returns
 returns c = lookup-register _ _ _ _ _ (c .before .before .find-row .ensures) (c .before .if1 .taken) (c .if2 .taken)
 
--- src/lib.rt:49:9
 returns-2 : tie.Need-returns-2
 returns-2 c = lookup-nothing _ _ _ _ _ (c .before .before .find-row .ensures) (c .before .if1 .taken) (c .if2 .left)
 
--- src/lib.rt:51:20
 add-row : tie.Need-add-row
 add-row c = record { fits = omega (arith, found-low _ _ _ _ _ (c .before .before .before .pre .1) (c .before .find-row .ensures)) }
 
--- src/lib.rt:51:15
 mul-row : tie.Need-mul-row
 mul-row c = record { fits = omega (arith, found-low _ _ _ _ _ (c .before .before .before .pre .1) (c .before .find-row .ensures)) }
 
--- src/lib.rt:51:15
 shared-slice-read-row : tie.Need-shared-slice-read-row
 shared-slice-read-row c = omega (arith, found-low _ _ _ _ _ (c .before .before .before .before .pre .1) (c .before .before .find-row .ensures), c .before .before .before .before .pre .0)
 
--- src/lib.rt:39:1
 returns-3 : tie.Need-returns-3
 returns-3 c = lookup-row _ _ _ _ _ (c .before .before .find-row .ensures) (c .before .if1 .left)
 

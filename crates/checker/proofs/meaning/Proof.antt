@@ -1,4 +1,4 @@
--- A name's meaning, or 10. Assumes nothing.
+-- A name's meaning, or 10.
 use Rattle.checker.proofs.CodeLaws.{meaning-absent, meaning-present}
 use borrow.Author.Needs.{needs}
 use Rattle.checker.proofs.meaning.Statement.{statement}
@@ -7,23 +7,18 @@ use Rattle.checker.proofs.meaning.Reads as reads
 use Rattle.checker.proofs.meaning.Lts as lts
 use Rattle.checker.proofs.lookup.Reads as lookup-reads
 
--- src/lib.rt:83:41
 lookup-requires : tie.Need-lookup-requires
 lookup-requires c κs = search needs
 
--- src/lib.rt:83:22
 enum-known-number : tie.Need-enum-known-number
 enum-known-number c = search needs
 
--- src/lib.rt:84:9
 enum-told : tie.Need-enum-told
 enum-told c = search needs
 
--- src/lib.rt:84:9
 returns : tie.Need-returns
 returns c = λ Γ s. meaning-absent _ _ (c .before .before .lookup .ensures Γ s) (c .enum-told .given .1)
 
--- src/lib.rt:78:1
 returns-2 : tie.Need-returns-2
 returns-2 c = λ Γ s. meaning-present _ _ _ _ (c .before .before .before .lookup .ensures Γ s) (c .before .number .given .1)
 

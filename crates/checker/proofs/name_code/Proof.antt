@@ -14,57 +14,45 @@ use Rattle.checker.proofs.valref_code.Reads as valref-code-reads
 use Rattle.reader.proofs.kind.Reads as kind-reads
 use Rattle.reader.proofs.operand.Reads as operand-reads
 
--- src/lib.rt:135:9
 kind-requires : tie.Need-kind-requires
 kind-requires c κs = omega (arith, name-place (c .before .pre .1 .1 .1), c .before .pre .0)
 
--- src/lib.rt:136:9
 operand-requires : tie.Need-operand-requires
 operand-requires c κs = omega (arith, name-place (c .before .before .pre .1 .1 .1), c .before .before .pre .0)
 
--- src/lib.rt:137:9
 meaning-requires : tie.Need-meaning-requires
 meaning-requires c κs = search needs
 
--- src/lib.rt:138:20
 enum-known-bound : tie.Need-enum-known-bound
 enum-known-bound c = search needs
 
--- src/lib.rt:139:9
 enum-told : tie.Need-enum-told
 enum-told c = search needs
 
--- src/lib.rt:139:9
 returns : tie.Need-returns
 returns c =
     let found = c .before .before in
     name-fault _ _ _ _ _ _ _ (found .before .before .kind .ensures) (found .before .operand .ensures) (found .meaning .ensures) _ _ (c .enum-told .given .1)
 
--- src/lib.rt:142:9
 id-code-requires : tie.Need-id-code-requires
 id-code-requires c κs = search needs
 
--- src/lib.rt:142:9
 returns-2 : tie.Need-returns-2
 returns-2 c =
     let found = c .before .before .before .before .before in
     name-id _ _ _ _ _ _ _ (found .before .before .kind .ensures) (found .before .operand .ensures) (found .meaning .ensures) _ _ (c .before .before .before .bound .given .1) (c .before .if1 .taken) (c .id-code .ensures)
 
--- src/lib.rt:145:9
 deref-code-requires : tie.Need-deref-code-requires
 deref-code-requires c κs = search needs
 
--- src/lib.rt:145:9
 returns-3 : tie.Need-returns-3
 returns-3 c =
     let found = c .before .before .before .before .before .before in
     name-deref _ _ _ _ _ _ _ (found .before .before .kind .ensures) (found .before .operand .ensures) (found .meaning .ensures) _ _ (c .before .before .before .before .bound .given .1) (c .before .if2 .taken) (c .deref-code .ensures)
 
--- src/lib.rt:147:5
 valref-code-requires : tie.Need-valref-code-requires
 valref-code-requires c κs = search needs
 
--- src/lib.rt:129:1
 returns-4 : tie.Need-returns-4
 returns-4 c =
     let found = c .before .before .before .before .before .before in

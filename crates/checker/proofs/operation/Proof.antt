@@ -1,4 +1,4 @@
--- An operator by its number. Assumes nothing.
+-- An operator by its number.
 use Rattle.checker.proofs.CodeLaws.{operation-arithmetic, operation-equals, operation-order, operation-logic}
 use borrow.Author.Needs.{needs}
 use Rattle.checker.proofs.operation.Statement.{statement}
@@ -9,35 +9,27 @@ use Rattle.checker.proofs.equals.Reads as equals-reads
 use Rattle.checker.proofs.integers.Reads as integers-reads
 use Rattle.checker.proofs.truths.Reads as truths-reads
 
--- src/lib.rt:194:9
 integers-requires : tie.Need-integers-requires
 integers-requires c κs = search needs
 
--- src/lib.rt:194:9
 returns : tie.Need-returns
 returns c = operation-arithmetic _ _ _ _ _ (c .integers .ensures) (c .before .if1 .taken)
 
--- src/lib.rt:197:9
 equals-requires : tie.Need-equals-requires
 equals-requires c κs = search needs
 
--- src/lib.rt:197:9
 returns-2 : tie.Need-returns-2
 returns-2 c = operation-equals _ _ _ _ _ (c .equals .ensures) (c .before .if2 .taken)
 
--- src/lib.rt:200:9
 integers-requires-2 : tie.Need-integers-requires-2
 integers-requires-2 c κs = search needs
 
--- src/lib.rt:200:9
 returns-3 : tie.Need-returns-3
 returns-3 c = operation-order _ _ _ _ _ (c .integers2 .ensures) (c .before .before .before .if1 .left) (c .before .before .if2 .left) (c .before .if3 .taken)
 
--- src/lib.rt:202:5
 truths-requires : tie.Need-truths-requires
 truths-requires c κs = search needs
 
--- src/lib.rt:190:1
 returns-4 : tie.Need-returns-4
 returns-4 c = operation-logic _ _ _ _ _ (c .truths .ensures) (c .before .if3 .left)
 

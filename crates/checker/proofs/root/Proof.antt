@@ -1,4 +1,4 @@
--- The root: its kind says whether it is an expression or a command. Assumes nothing.
+-- The root: its kind says whether it is an expression or a command.
 use Prim.Native.Nat.{ℕ, _<_, _≤_}
 use native.Mathlib.Omega.{arith}
 use Rattle.checker.proofs.KeptLaws.{kept-nothing}

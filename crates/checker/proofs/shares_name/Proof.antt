@@ -15,39 +15,30 @@ Inv-loop work from middle to at₀ at = Compared work from middle to at
 abbrev μ-loop : tie.MeasureT-loop
 μ-loop work from middle to at₀ at = at
 
--- src/lib.rt:63:5
 loop-holds : tie.Need-loop-holds Inv-loop μ-loop
 loop-holds c = compare-start _ _ _ _
 
--- src/lib.rt:64:24
 add-row : tie.Need-add-row Inv-loop μ-loop
 add-row c = record { fits = omega (arith, compare-low _ _ _ _ _ (c .before .before .before .pre .1 .0) (c .before .before .before .pre .1 .1) (c .before .loop .inv) (c .loop-test .taken)) }
 
--- src/lib.rt:64:19
 mul-row : tie.Need-mul-row Inv-loop μ-loop
 mul-row c = record { fits = omega (arith, compare-low _ _ _ _ _ (c .before .before .before .pre .1 .0) (c .before .before .before .pre .1 .1) (c .before .loop .inv) (c .loop-test .taken)) }
 
--- src/lib.rt:64:19
 shared-slice-read-row : tie.Need-shared-slice-read-row Inv-loop μ-loop
 shared-slice-read-row c = omega (arith, compare-low _ _ _ _ _ (c .before .before .before .before .pre .1 .0) (c .before .before .before .before .pre .1 .1) (c .before .before .loop .inv) (c .before .loop-test .taken), c .before .before .before .before .pre .0)
 
--- src/lib.rt:65:12
 find-row-requires : tie.Need-find-row-requires Inv-loop μ-loop
 find-row-requires c κs = (c .before .before .before .before .pre .0, c .before .before .before .before .pre .1 .0)
 
--- src/lib.rt:66:13
 returns : tie.Need-returns Inv-loop μ-loop
 returns c = compare-shared _ _ _ _ _ _ (c .before .before .before .before .loop .inv) (c .before .before .before .loop-test .taken) (c .before .find-row .ensures) (c .if1 .taken)
 
--- src/lib.rt:63:5
 loop-less : tie.Need-loop-less Inv-loop μ-loop
 loop-less c = compare-less _ _ _ _ _ (c .before .before .before .before .before .before .pre .1 .0) (c .before .before .before .before .before .before .pre .1 .1) (c .before .before .before .before .loop .inv) (c .before .before .before .loop-test .taken)
 
--- src/lib.rt:63:5
 loop-again : tie.Need-loop-again Inv-loop μ-loop
 loop-again c = compare-on _ _ _ _ _ _ (c .before .before .before .before .loop .inv) (c .before .before .before .loop-test .taken) (c .before .find-row .ensures) (c .if1 .left)
 
--- src/lib.rt:56:1
 returns-2 : tie.Need-returns-2 Inv-loop μ-loop
 returns-2 c = compare-none _ _ _ _ _ (c .before .loop .inv) (c .loop-test .left)
 

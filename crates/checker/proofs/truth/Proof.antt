@@ -1,15 +1,13 @@
--- A truth value alone. Assumes nothing.
+-- A truth value alone.
 use Rattle.checker.proofs.CodeLaws.{truth-not, truth-is}
 use Rattle.checker.proofs.truth.Statement.{statement}
 use Rattle.checker.proofs.truth.Tie as tie
 use Rattle.checker.proofs.truth.Reads as reads
 use Rattle.checker.proofs.truth.Lts as lts
 
--- src/lib.rt:210:9
 returns : tie.Need-returns
 returns c = truth-not _ _ _ (c .if1 .taken)
 
--- src/lib.rt:206:1
 returns-2 : tie.Need-returns-2
 returns-2 c = truth-is _ _ _ (c .if1 .left)
 

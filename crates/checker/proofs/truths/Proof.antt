@@ -1,4 +1,4 @@
--- Two truth values. Assumes nothing.
+-- Two truth values.
 use Rattle.checker.proofs.CodeLaws.{truths-first, truths-second, truths-both}
 use borrow.Author.Needs.{needs}
 use Rattle.checker.proofs.truths.Statement.{statement}
@@ -6,15 +6,12 @@ use Rattle.checker.proofs.truths.Tie as tie
 use Rattle.checker.proofs.truths.Reads as reads
 use Rattle.checker.proofs.truths.Lts as lts
 
--- src/lib.rt:168:9
 returns : tie.Need-returns
 returns c = truths-first _ _ _ (c .if1 .taken)
 
--- src/lib.rt:171:9
 returns-2 : tie.Need-returns-2
 returns-2 c = truths-second _ _ _ (c .before .if1 .left) (c .if2 .taken)
 
--- src/lib.rt:164:1
 returns-3 : tie.Need-returns-3
 returns-3 c = truths-both _ _ _ (c .before .if1 .left) (c .if2 .left)
 

@@ -1,19 +1,16 @@
--- ValRef's code by the number of the name's meaning. Assumes nothing.
+-- ValRef's code by the number of the name's meaning.
 use Rattle.checker.proofs.CodeLaws.{valref-low, valref-location, valref-function}
 use Rattle.checker.proofs.valref_code.Statement.{statement}
 use Rattle.checker.proofs.valref_code.Tie as tie
 use Rattle.checker.proofs.valref_code.Reads as reads
 use Rattle.checker.proofs.valref_code.Lts as lts
 
--- src/lib.rt:120:9
 returns : tie.Need-returns
 returns c = valref-low _ _ (c .if1 .taken)
 
--- src/lib.rt:123:9
 returns-2 : tie.Need-returns-2
 returns-2 c = valref-location _ _ (c .before .if1 .left) (c .if2 .taken)
 
--- src/lib.rt:116:1
 returns-3 : tie.Need-returns-3
 returns-3 c = valref-function _ _ (c .if2 .left)
 

@@ -1,4 +1,4 @@
--- 22 first; then the image, and the work words cleared. Assumes nothing.
+-- 22 first; then the image, and the work words cleared.
 use Rattle.engine.proofs.CheckLaws.{little-room, code-answered, command-answered, refusal-answered}
 use borrow.Author.Needs.{needs}
 use Rattle.engine.proofs.check.Statement.{statement}

@@ -1,4 +1,4 @@
--- The first work words become 0 one by one. Assumes nothing.
+-- The first work words become 0 one by one.
 use Prim.Native.Nat.{ℕ, suc, _+_, _-_, _*_, _<_, _≤_}
 use mathlib.Core.Path.{_≡_, refl, ap, _∙_}
 use native.Mathlib.Omega.{arith}

@@ -1,4 +1,4 @@
--- The shape first, then scope and types of the tree that was read. Assumes nothing.
+-- The shape first, then scope and types of the tree that was read.
 use Prim.Native.Nat.{ℕ, _≤_}
 use native.Mathlib.Omega.{arith}
 use Rattle.engine.proofs.ExamineLaws.{shape-refused, tree-read, code-passes, command-passes, fault-refused}

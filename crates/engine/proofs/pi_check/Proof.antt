@@ -1,4 +1,4 @@
--- The answer of `check` in three numbers. Assumes nothing.
+-- The answer of `check` in three numbers.
 use Rattle.engine.proofs.CheckLaws.{replies-code, replies-command, replies-refused}
 use borrow.Author.Needs.{needs}
 use Rattle.engine.proofs.pi_check.Statement.{statement}

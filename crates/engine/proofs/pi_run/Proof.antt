@@ -1,4 +1,4 @@
--- The answer of `run` in five numbers. Assumes nothing.
+-- The answer of `run` in five numbers.
 use Rattle.engine.proofs.ReplyLaws.{replied}
 use Rattle.engine.specs.declared.Ran.the-variants.{Number, Truth, Location, Nothing, Refused}
 use borrow.Author.Needs.{needs}

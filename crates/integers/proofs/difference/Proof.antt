@@ -1,4 +1,4 @@
--- `difference` answers what the rules compute. Assumes nothing.
+-- `difference` answers what the rules compute.
 use Rattle.integers.proofs.SignTest.{passed, refused}
 use Rattle.integers.proofs.DifferenceLaws.{difference-answered}
 use borrow.Author.Needs.{needs}

@@ -1,4 +1,4 @@
--- `less` answers the order of the integers. Assumes nothing.
+-- `less` answers the order of the integers.
 use Rattle.integers.proofs.OrderLaws.{order-by-place}
 use borrow.Author.Needs.{needs}
 use Rattle.integers.proofs.less.Statement.{statement}

@@ -1,4 +1,4 @@
--- `magnitude` answers how far an integer is from zero. Assumes nothing.
+-- `magnitude` answers how far an integer is from zero.
 use Rattle.integers.proofs.SignedLaws.{magnitude-low, magnitude-high}
 use borrow.Author.Needs.{needs}
 use Rattle.integers.proofs.magnitude.Statement.{statement}

@@ -1,4 +1,4 @@
--- `opposite` answers whether one of two integers is negative and the other is not. Assumes nothing.
+-- `opposite` answers whether one of two integers is negative and the other is not.
 use Rattle.integers.proofs.SignedLaws.{opposite-words}
 use Rattle.integers.proofs.opposite.Statement.{statement}
 use Rattle.integers.proofs.opposite.Tie as tie

@@ -1,8 +1,8 @@
--- `product` answers what the rules compute. Assumes nothing.
+-- `product` answers what the rules compute.
 use mathlib.Core.Path.{_≡_}
 use Prim.Native.Nat.{ℕ, _*_}
-use Rattle.rules.specs.Tree.{Mul}
-use Rattle.rules.specs.Integers.{compute, ranged}
+use Rattle.rules.specs.paper.Tree.{Mul}
+use Rattle.rules.specs.paper.Integers.{compute, ranged}
 use Rattle.integers.specs.Words.{integer-of, computed, signed}
 use Rattle.integers.specs.declared.Computed.{Computed}
 use Rattle.integers.proofs.SignedLaws.{signed-out}

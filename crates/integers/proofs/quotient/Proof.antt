@@ -1,4 +1,4 @@
--- `quotient` answers what the rules compute. Assumes nothing.
+-- `quotient` answers what the rules compute.
 use Rattle.integers.proofs.SignedLaws.{magnitude-positive}
 use Rattle.integers.proofs.QuotientLaws.{quotient-answered, quotient-by-zero}
 use borrow.Author.Needs.{needs}

@@ -1,4 +1,4 @@
--- `sum` answers what the rules compute. Assumes nothing.
+-- `sum` answers what the rules compute.
 use Rattle.integers.proofs.SignTest.{passed, refused}
 use Rattle.integers.proofs.SumLaws.{sum-answered}
 use borrow.Author.Needs.{needs}

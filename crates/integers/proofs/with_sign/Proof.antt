@@ -1,4 +1,4 @@
--- `with_sign` answers what the integer of a sign and a magnitude comes to. Assumes nothing.
+-- `with_sign` answers what the integer of a sign and a magnitude comes to.
 use Rattle.integers.proofs.SignedLaws.{negative-kept, negative-out, other-kept, other-out}
 use borrow.Author.Needs.{needs}
 use Rattle.integers.proofs.with_sign.Statement.{statement}

@@ -1,7 +1,7 @@
 -- The proof of `read_node`: it answers what the reader of Scan.antt reads. The measure is the levels that are left. The loop over the
 -- children keeps what was read so far (SiblingLaws.antt), and its measure is how many are left.
 -- In a need's answer, `start` is where the function begins, `test` its first test; `fault`, `count`, `want` and `child` are where the calls of
--- node_fault, child_count, child_want and read_node have returned, `loop` where the loop's test is reached. Assumes nothing.
+-- node_fault, child_count, child_want and read_node have returned, `loop` where the loop's test is reached.
 use Prim.Native.Nat.{ℕ, _+_, _-_, _<_}
 use native.Mathlib.Omega.{arith}
 use mathlib.Core.Path.{refl, sym, _∙_, subst}

@@ -1,5 +1,5 @@
 -- `read_image` answers what the rules' reader reads of the image. In a need's answer, `start` is where the function begins, `long` the test
--- for two words, `size` the test of the image's length, `root` the call of read_node, `arm` the arm of the match. Assumes nothing.
+-- for two words, `size` the test of the image's length, `root` the call of read_node, `arm` the arm of the match.
 use native.Mathlib.Omega.{arith}
 use denote.Ref.{now}
 use Rattle.reader.proofs.ImageLaws.{short, refuse-empty, refuse-nodes, refuse-registers, refuse-length, whole-image, left-over, refused-image}

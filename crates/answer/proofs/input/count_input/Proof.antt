@@ -1,4 +1,4 @@
--- count_input: the tests in their order. Assumes nothing.
+-- count_input: the tests in their order.
 use denote.Ref.{now}
 use Rattle.answer.proofs.InputLaws.{too-short, no-nodes, many-nodes, many-registers, miscounted, counted}
 use borrow.Author.Needs.{needs}

@@ -1,4 +1,4 @@
--- unpack_values: the numbers one by one. Assumes nothing.
+-- unpack_values: the numbers one by one.
 use Prim.Native.Nat.{ℕ, _+_, _-_, _*_, _<_, _≤_}
 use mathlib.Core.Path.{_≡_, sym, ap, _∙_}
 use mathlib.Core.List.{List}

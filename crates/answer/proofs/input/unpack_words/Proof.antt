@@ -1,4 +1,4 @@
--- unpack_words: the numbers one by one. Assumes nothing.
+-- unpack_words: the numbers one by one.
 use Prim.Native.Nat.{_-_, _<_, _≤_}
 use mathlib.Core.Path.{_≡_}
 use native.Mathlib.Omega.{arith}

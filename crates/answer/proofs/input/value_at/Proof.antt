@@ -1,4 +1,4 @@
--- value_at: two words of four bytes. Assumes nothing.
+-- value_at: two words of four bytes.
 use Rattle.answer.proofs.NumberLaws.{eight-bytes}
 use borrow.Author.Needs.{needs}
 use Rattle.answer.proofs.input.value_at.Statement.{statement}

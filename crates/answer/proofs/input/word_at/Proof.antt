@@ -1,4 +1,4 @@
--- word_at: four bytes. Assumes nothing.
+-- word_at: four bytes.
 use Prim.Native.Nat.{_+_}
 use native.Mathlib.Omega.{arith}
 use denote.Ref.{now}

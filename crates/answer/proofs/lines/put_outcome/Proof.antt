@@ -1,4 +1,4 @@
--- put_outcome: a text for each outcome. Assumes nothing.
+-- put_outcome: a text for each outcome.
 use Rattle.answer.proofs.LineLaws.{number-text, truth-text, cell-text, none-text, refused-text}
 use borrow.Author.Needs.{needs}
 use Rattle.answer.proofs.lines.put_outcome.Statement.{statement}

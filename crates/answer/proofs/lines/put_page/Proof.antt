@@ -1,4 +1,4 @@
--- put_page: the outcome, the steps and the registers. Assumes nothing.
+-- put_page: the outcome, the steps and the registers.
 use mathlib.Core.Path.{sym, _∙_}
 use Rattle.answer.proofs.LineLaws.{page-with-registers, page-without}
 use borrow.Author.Needs.{needs}

@@ -1,4 +1,4 @@
--- put_refusal: two lines. Assumes nothing.
+-- put_refusal: two lines.
 use Rattle.answer.proofs.LineLaws.{refused-page}
 use borrow.Author.Needs.{needs}
 use Rattle.answer.proofs.lines.put_refusal.Statement.{statement}

@@ -1,4 +1,4 @@
--- put_register: a register's number and its integer. Assumes nothing.
+-- put_register: a register's number and its integer.
 use Rattle.answer.proofs.LineLaws.{register-line}
 use borrow.Author.Needs.{needs}
 use Rattle.answer.proofs.lines.put_register.Statement.{statement}

@@ -1,4 +1,4 @@
--- put_registers: a line for each register. Assumes nothing.
+-- put_registers: a line for each register.
 use Prim.Native.Nat.{_-_}
 use native.Mathlib.Omega.{arith}
 use lib.ListN.{length}

@@ -1,4 +1,4 @@
--- put_steps: the end of a line, and the steps. Assumes nothing.
+-- put_steps: the end of a line, and the steps.
 use Rattle.answer.proofs.LineLaws.{steps-lines}
 use borrow.Author.Needs.{needs}
 use Rattle.answer.proofs.lines.put_steps.Statement.{statement}

@@ -1,4 +1,4 @@
--- shows_registers: by the cases of an answer. Assumes nothing.
+-- shows_registers: by the cases of an answer.
 use mathlib.Core.Path.{sym, ap}
 use Rattle.answer.specs.Writing.{ran-shows}
 use borrow.Author.Needs.{needs}

@@ -1,4 +1,4 @@
--- put: the text byte by byte. Assumes nothing.
+-- put: the text byte by byte.
 use Prim.Native.Nat.{_-_, _≤_}
 use mathlib.Core.Path.{_≡_}
 use native.Mathlib.Omega.{arith}

@@ -1,4 +1,4 @@
--- put_integer: the digits, behind a minus where the integer is negative. Assumes nothing.
+-- put_integer: the digits, behind a minus where the integer is negative.
 use Rattle.answer.proofs.DecimalLaws.{integer-put, minus-put}
 use borrow.Author.Needs.{needs}
 use Rattle.answer.proofs.text.put_integer.Statement.{statement}

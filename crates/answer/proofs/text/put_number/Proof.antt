@@ -1,4 +1,4 @@
--- put_number: the digits of a number. Assumes nothing.
+-- put_number: the digits of a number.
 use native.Mathlib.Omega.{arith}
 use Rattle.answer.proofs.DecimalLaws.{few-digits, number-put}
 use borrow.Author.Needs.{needs}

@@ -1,4 +1,4 @@
--- assign: the name, the value, the mark. Assumes nothing.
+-- assign: the name, the value, the mark.
 use native.Mathlib.Omega.{arith}
 use Rattle.automaton.proofs.CommandLaws.{command-low, assign-steps}
 use borrow.Author.Needs.{needs}
@@ -9,23 +9,18 @@ use Rattle.automaton.proofs.commands.assign.Lts as lts
 use Rattle.automaton.proofs.shared.enter.Reads as enter-reads
 use Rattle.reader.proofs.operand.Reads as operand-reads
 
--- src/commands.rt:24:9
 operand-requires : tie.Need-operand-requires
 operand-requires c κs = let start = c .before .before in omega (arith, command-low _ _ _ _ (start .pre .2), start .pre .2 .ready .fits .room)
 
--- src/commands.rt:25:39
 add-enter : tie.Need-add-enter
 add-enter c = let start = c .before .before .before .before in record { fits = omega (arith, command-low _ _ _ _ (start .pre .2)) }
 
--- src/commands.rt:25:5
 enter-requires : tie.Need-enter-requires
 enter-requires c κs = search needs
 
--- src/commands.rt:20:1
 same-length : tie.Need-same-length
 same-length c = search needs
 
--- src/commands.rt:20:1
 returns : tie.Need-returns
 returns c = assign-steps _ _ _ _ _ _ (c .before .before .before .before .operand .ensures) (c .before .before .enter .ensures)
 

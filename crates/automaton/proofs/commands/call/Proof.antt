@@ -1,4 +1,4 @@
--- call: the mark, then one actual after the other. Assumes nothing.
+-- call: the mark, then one actual after the other.
 use mathlib.Core.Path.{_∙_}
 use native.Mathlib.Omega.{arith}
 use borrow.Author.Needs.{needs}
@@ -19,49 +19,38 @@ Inv-loop work₀ node word count machine₀ left₀ at₀ work machine left at =
 abbrev μ-loop : tie.MeasureT-loop
 μ-loop work₀ node word count machine₀ left₀ at₀ work machine left at = left
 
--- src/commands.rt:78:9
 operand-requires : tie.Need-operand-requires Inv-loop μ-loop
 operand-requires c κs = let start = c .before .before in omega (arith, command-low _ _ _ _ (start .pre .2), start .pre .2 .ready .fits .room)
 
--- src/commands.rt:80:14
 add-if1 : tie.Need-add-if1 Inv-loop μ-loop
 add-if1 c = record { fits = omega (arith, operand-low _ _ _ _ (c .before .operand .ensures) _ _ (c .before .before .before .before .pre .2), c .before .before .before .before .pre .2 .ready .fits .few-control) }
 
--- src/commands.rt:81:9
 same-length : tie.Need-same-length Inv-loop μ-loop
 same-length c = search needs
 
--- src/commands.rt:81:9
 returns : tie.Need-returns Inv-loop μ-loop
 returns c = call-withheld _ _ _ _ (c .before .before .operand .ensures) (c .if1 .taken)
 
--- src/commands.rt:83:51
 mul-put-control : tie.Need-mul-put-control Inv-loop μ-loop
 mul-put-control c = record { fits = omega (arith, operand-low _ _ _ _ (c .before .before .before .operand .ensures) _ _ (c .before .before .before .before .before .before .pre .2)) }
 
--- src/commands.rt:83:44
 add-put-control : tie.Need-add-put-control Inv-loop μ-loop
 add-put-control c = record { fits = omega (arith, operand-low _ _ _ _ (c .before .before .before .operand .ensures) _ _ (c .before .before .before .before .before .before .pre .2)) }
 
--- src/commands.rt:83:9
 put-control-requires : tie.Need-put-control-requires Inv-loop μ-loop
 put-control-requires c κs = let start = c .before .before .before .before .before .before in (start .pre .2 .ready .fits, omega (arith, c .before .if1 .left))
 
--- src/commands.rt:85:18
 add-at : tie.Need-add-at Inv-loop μ-loop
 add-at c = record { fits = omega (arith, command-low _ _ _ _ (c .before .before .before .before .before .before .before .before .before .pre .2)) }
 
--- src/commands.rt:86:5
 loop-holds : tie.Need-loop-holds Inv-loop μ-loop
 loop-holds c =
     let start = c .before .before .before .before .before .before .before .before .before in
     goes-first (first-room _ _ _ _ (c .before .before .before .before .before .before .operand .ensures) _ _ (was-put (c .before .before .put-control .ensures)) (start .pre .2 .ready .fits) (omega (arith, c .before .before .before .before .if1 .left)))
 
--- src/commands.rt:87:9
 put-control-requires-2 : tie.Need-put-control-requires-2 Inv-loop μ-loop
 put-control-requires-2 c κs = room-for _ (room-left (c .before .before .loop .inv) (c .before .loop-test .taken))
 
--- src/commands.rt:88:9
 end-requires : tie.Need-end-requires Inv-loop μ-loop
 end-requires c κs =
     let start = c .before .before .before .before .before .before .before .before .before .before .before .before .before .before .before .before in
@@ -69,23 +58,18 @@ end-requires c κs =
     let low = actual-low g (c .before .before .before .before .before .loop-test .taken) (begun _ _ _ _ (c .before .before .before .before .before .before .before .before .before .before .before .before .before .operand .ensures) _ _ (was-put (c .before .before .before .before .before .before .before .before .before .put-control .ensures)) _ _ (start .pre .2 .ready)) in
     omega (arith, low, g .room .fits .room, c .before .before .before .put-control2 .kept .0)
 
--- src/commands.rt:89:16
 sub-left : tie.Need-sub-left Inv-loop μ-loop
 sub-left c = c .before .before .before .before .before .before .loop-test .taken
 
--- src/commands.rt:86:5
 loop-less : tie.Need-loop-less Inv-loop μ-loop
 loop-less c = omega (arith, c .before .before .before .before .before .before .loop-test .taken)
 
--- src/commands.rt:86:5
 loop-again : tie.Need-loop-again Inv-loop μ-loop
 loop-again c = goes-again (c .before .before .before .before .before .before .before .loop .inv) _ _ _ (c .before .before .before .before .before .before .loop-test .taken) (was-put (c .before .before .before .before .put-control2 .ensures)) (c .end .ensures)
 
--- src/commands.rt:74:1
 same-length-2 : tie.Need-same-length-2 Inv-loop μ-loop
 same-length-2 c = same-size (c .before .loop .inv) ∙ c .before .before .before .before .put-control .kept .0
 
--- src/commands.rt:74:1
 returns-2 : tie.Need-returns-2 Inv-loop μ-loop
 returns-2 c = call-made _ _ _ _ (c .before .before .before .before .before .before .before .before .operand .ensures) _ _ (was-put (c .before .before .before .before .put-control .ensures)) _ _ _ _ (omega (arith, c .loop-test .left)) (c .before .loop .inv)
 

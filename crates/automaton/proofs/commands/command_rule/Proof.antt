@@ -1,6 +1,6 @@
--- command_rule: the rule by the kind. Assumes nothing.
-use Rattle.rules.specs.Tree.{Assign, Loop, CSeq, block, Blk, Call}
-use Rattle.rules.specs.States.{command}
+-- command_rule: the rule by the kind.
+use Rattle.rules.specs.paper.Tree.{Assign, Loop, CSeq, block, Blk, Call}
+use Rattle.rules.specs.paper.States.{command}
 use Rattle.automaton.proofs.KindLaws.{asked, arm, assign-there, loop-there, sequence-there, block-there, call-there}
 use borrow.Author.Needs.{needs}
 use Rattle.automaton.proofs.commands.command_rule.Statement.{statement}
@@ -13,66 +13,51 @@ use Rattle.automaton.proofs.commands.enter_block.Reads as enter-block-r
 use Rattle.automaton.proofs.commands.repeat.Reads as repeat-reads
 use Rattle.automaton.proofs.commands.sequence.Reads as sequence-reads
 
--- src/commands.rt:101:15
 assign-requires : tie.Need-assign-requires
 assign-requires c κs = let start = c .before .before .before in asked command _ _ _ (Assign _) (λ d a. assign-there _ _ _ _ (start .pre .0) d a (c .before .match .keys1)) (start .pre .1)
 
--- src/commands.rt:102:15
 repeat-requires : tie.Need-repeat-requires
 repeat-requires c κs = let start = c .before .before .before in asked command _ _ _ (Loop _) (λ d a. loop-there _ _ _ _ (start .pre .0) d a (c .before .match .keys2)) (start .pre .1)
 
--- src/commands.rt:103:15
 sequence-requires : tie.Need-sequence-requires
 sequence-requires c κs = let start = c .before .before .before in asked command _ _ _ (CSeq _) (λ d a. sequence-there _ _ _ _ (start .pre .0) d a (c .before .match .keys3)) (start .pre .1)
 
--- src/commands.rt:104:15
 enter-block-requires : tie.Need-enter-block-requires
 enter-block-requires c κs = let start = c .before .before .before in asked command _ _ _ (λ d b. block (Blk _ d b)) (λ d a. block-there _ _ _ _ (start .pre .0) d a (c .before .match .keys4)) (start .pre .1)
 
--- src/commands.rt:105:14
 call-requires : tie.Need-call-requires
 call-requires c κs =
     let start = c .before .before .before in
     let none = c .before .match .rest in
     asked command _ _ _ (Call _) (λ d a. call-there _ _ _ _ (start .pre .0) d a (none .0 .0 .0 .1) (none .0 .0 .1) (none .0 .1) (none .1)) (start .pre .1)
 
--- src/commands.rt:95:1
 same-length : tie.Need-same-length
 same-length c = search needs
 
--- src/commands.rt:95:1
 returns : tie.Need-returns
 returns c = let start = c .before .before .before .before .before .before in arm command _ _ _ (Assign _) (λ d a. assign-there _ _ _ _ (start .pre .0) d a (c .before .before .before .before .match .keys1)) _ _ (c .before .before .assign .ensures)
 
--- src/commands.rt:95:1
 same-length-2 : tie.Need-same-length-2
 same-length-2 c = search needs
 
--- src/commands.rt:95:1
 returns-2 : tie.Need-returns-2
 returns-2 c = let start = c .before .before .before .before .before .before in arm command _ _ _ (Loop _) (λ d a. loop-there _ _ _ _ (start .pre .0) d a (c .before .before .before .before .match .keys2)) _ _ (c .before .before .repeat .ensures)
 
--- src/commands.rt:95:1
 same-length-3 : tie.Need-same-length-3
 same-length-3 c = search needs
 
--- src/commands.rt:95:1
 returns-3 : tie.Need-returns-3
 returns-3 c = let start = c .before .before .before .before .before .before in arm command _ _ _ (CSeq _) (λ d a. sequence-there _ _ _ _ (start .pre .0) d a (c .before .before .before .before .match .keys3)) _ _ (c .before .before .sequence .ensures)
 
--- src/commands.rt:95:1
 same-length-4 : tie.Need-same-length-4
 same-length-4 c = search needs
 
--- src/commands.rt:95:1
 returns-4 : tie.Need-returns-4
 returns-4 c = let start = c .before .before .before .before .before .before in arm command _ _ _ (λ d b. block (Blk _ d b)) (λ d a. block-there _ _ _ _ (start .pre .0) d a (c .before .before .before .before .match .keys4)) _ _ (c .before .before .enter-block .ensures)
 
--- src/commands.rt:95:1
 same-length-5 : tie.Need-same-length-5
 same-length-5 c = search needs
 
--- src/commands.rt:95:1
 returns-5 : tie.Need-returns-5
 returns-5 c =
     let start = c .before .before .before .before .before .before in

@@ -1,4 +1,4 @@
--- enter_block: the location set on the value stack, and four entries on control. Assumes nothing.
+-- enter_block: the location set on the value stack, and four entries on control.
 use mathlib.Core.Path.{_∙_}
 use native.Mathlib.Omega.{arith}
 use Rattle.automaton.proofs.RoomLaws.{Room, room-for, room-after, was-put}
@@ -32,58 +32,45 @@ second-room c = room-after 2 (first-room (c .before .before .before .before)) (w
 third-room : (c : lts.After-put-control3 claims reads.Pre reads.Post) → Room 1 (c .put-control3 .last .0) (c .put-control3 .result)
 third-room c = room-after 1 (second-room (c .before .before .before .before)) (was-put (c .put-control3 .ensures))
 
--- src/commands.rt:51:9
 returns : tie.Need-returns
 returns c = block-values-withheld _ _ _ (c .if1 .taken)
 
--- src/commands.rt:54:9
 returns-2 : tie.Need-returns-2
 returns-2 c = block-control-withheld _ _ _ (c .before .before .if1 .left) (c .if2 .taken)
 
--- src/commands.rt:56:26
 add-end : tie.Need-add-end
 add-end c = record { fits = omega (arith, command-low _ _ _ _ (c .before .before .before .before .before .before .pre .2)) }
 
--- src/commands.rt:56:9
 end-requires : tie.Need-end-requires
 end-requires c κs = let start = c .before .before .before .before .before .before in omega (arith, block-low _ _ _ _ _ (start .pre .2), start .pre .2 .ready .fits .room)
 
--- src/commands.rt:57:9
 put-value-requires : tie.Need-put-value-requires
 put-value-requires c κs = search needs
 
--- src/commands.rt:67:50
 mul-put-control : tie.Need-mul-put-control
 mul-put-control c = record { fits = omega (arith, room (c .before .before .before) .fits .few-bindings) }
 
--- src/commands.rt:67:43
 add-put-control : tie.Need-add-put-control
 add-put-control c = record { fits = omega (arith, room (c .before .before .before) .fits .few-bindings) }
 
--- src/commands.rt:67:9
 put-control-requires : tie.Need-put-control-requires
 put-control-requires c κs = room-for 3 (room (c .before .before .before))
 
--- src/commands.rt:68:9
 put-control-requires-2 : tie.Need-put-control-requires-2
 put-control-requires-2 c κs = room-for 2 (first-room (c .before .before .before))
 
--- src/commands.rt:69:9
 put-control-requires-3 : tie.Need-put-control-requires-3
 put-control-requires-3 c κs = room-for 1 (second-room (c .before .before .before))
 
--- src/commands.rt:70:44
 add-put-control-2 : tie.Need-add-put-control-2
 add-put-control-2 c =
     let saved = c .before .before .before .before .before .before .before .before .before .before .before .before .before .before .before in
     let start = saved .before .before .before .before .before .before .before .before .before in
     record { fits = omega (arith, command-low _ _ _ _ (start .pre .2)) }
 
--- src/commands.rt:70:19
 put-control-requires-4 : tie.Need-put-control-requires-4
 put-control-requires-4 c κs = room-for 0 (third-room (c .before .before .before))
 
--- src/commands.rt:46:1
 same-length : tie.Need-same-length
 same-length c =
     let fourth = c .before .before in
@@ -92,7 +79,6 @@ same-length c =
     let first = second .before .before .before .before in
     fourth .put-control4 .kept .0 ∙ third .put-control3 .kept .0 ∙ second .put-control2 .kept .0 ∙ first .put-control .kept .0 ∙ first .before .before .before .before .put-value .kept .0
 
--- src/commands.rt:46:1
 returns-3 : tie.Need-returns-3
 returns-3 c =
     let fourth = c .before .before in

@@ -1,4 +1,4 @@
--- sequence: both commands. Assumes nothing.
+-- sequence: both commands.
 use native.Mathlib.Omega.{arith}
 use Rattle.automaton.proofs.CommandLaws.{command-low, sequence-low, sequence-steps}
 use borrow.Author.Needs.{needs}
@@ -9,27 +9,21 @@ use Rattle.automaton.proofs.commands.sequence.Lts as lts
 use Rattle.automaton.proofs.shared.put_two.Reads as put-two-reads
 use Rattle.reader.proofs.end.Reads as end-reads
 
--- src/commands.rt:41:28
 add-end : tie.Need-add-end
 add-end c = record { fits = omega (arith, command-low _ _ _ _ (c .before .before .pre .2)) }
 
--- src/commands.rt:41:9
 end-requires : tie.Need-end-requires
 end-requires c κs = let start = c .before .before in omega (arith, sequence-low _ _ _ _ _ (start .pre .2), start .pre .2 .ready .fits .room)
 
--- src/commands.rt:42:37
 add-put-two : tie.Need-add-put-two
 add-put-two c = record { fits = omega (arith, command-low _ _ _ _ (c .before .before .before .before .pre .2)) }
 
--- src/commands.rt:42:5
 put-two-requires : tie.Need-put-two-requires
 put-two-requires c κs = search needs
 
--- src/commands.rt:37:1
 same-length : tie.Need-same-length
 same-length c = search needs
 
--- src/commands.rt:37:1
 returns : tie.Need-returns
 returns c = sequence-steps _ _ _ _ _ _ (c .before .before .before .before .end .ensures) (c .before .before .put-two .ensures)
 

@@ -1,4 +1,4 @@
--- bind: the name, what it is bound to, the mark. Assumes nothing.
+-- bind: the name, what it is bound to, the mark.
 use native.Mathlib.Omega.{arith}
 use Rattle.automaton.proofs.DeclarationLaws.{declaration-low, bind-steps}
 use borrow.Author.Needs.{needs}
@@ -9,23 +9,18 @@ use Rattle.automaton.proofs.declarations.bind.Lts as lts
 use Rattle.automaton.proofs.shared.enter.Reads as enter-reads
 use Rattle.reader.proofs.operand.Reads as operand-reads
 
--- src/declarations.rt:24:9
 operand-requires : tie.Need-operand-requires
 operand-requires c κs = let start = c .before .before in omega (arith, declaration-low _ _ _ _ (start .pre .2), start .pre .2 .ready .fits .room)
 
--- src/declarations.rt:25:39
 add-enter : tie.Need-add-enter
 add-enter c = let start = c .before .before .before .before in record { fits = omega (arith, declaration-low _ _ _ _ (start .pre .2)) }
 
--- src/declarations.rt:25:5
 enter-requires : tie.Need-enter-requires
 enter-requires c κs = search needs
 
--- src/declarations.rt:20:1
 same-length : tie.Need-same-length
 same-length c = search needs
 
--- src/declarations.rt:20:1
 returns : tie.Need-returns
 returns c = bind-steps _ _ _ _ _ _ (c .before .before .before .before .operand .ensures) (c .before .before .enter .ensures)
 

@@ -1,4 +1,4 @@
--- close: the closure of the function and the environment. Assumes nothing.
+-- close: the closure of the function and the environment.
 use native.Mathlib.Omega.{arith}
 use Rattle.automaton.proofs.DeclarationLaws.{abstraction-low, environment-low, abstraction-steps}
 use borrow.Author.Needs.{needs}
@@ -8,23 +8,18 @@ use Rattle.automaton.proofs.declarations.close.Reads as reads
 use Rattle.automaton.proofs.declarations.close.Lts as lts
 use Rattle.automaton.proofs.shared.push.Reads as push-reads
 
--- src/declarations.rt:50:36
 mul-push : tie.Need-mul-push
 mul-push c = let a = c .before .before .pre .3 in record { fits = omega (arith, environment-low _ _ _ _ _ _ a) }
 
--- src/declarations.rt:50:22
 add-push : tie.Need-add-push
 add-push c = let a = c .before .before .pre .3 in record { fits = omega (arith, environment-low _ _ _ _ _ _ a, abstraction-low _ _ _ _ _ _ a) }
 
--- src/declarations.rt:50:5
 push-requires : tie.Need-push-requires
 push-requires c κs = search needs
 
--- src/declarations.rt:46:1
 same-length : tie.Need-same-length
 same-length c = search needs
 
--- src/declarations.rt:46:1
 returns : tie.Need-returns
 returns c = abstraction-steps _ _ _ _ _ (c .before .before .push .ensures)
 

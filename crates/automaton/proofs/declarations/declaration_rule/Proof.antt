@@ -1,6 +1,6 @@
--- declaration_rule: the rule by the kind. Assumes nothing.
-use Rattle.rules.specs.Tree.{Bind, DSeq}
-use Rattle.rules.specs.States.{declaration}
+-- declaration_rule: the rule by the kind.
+use Rattle.rules.specs.paper.Tree.{Bind, DSeq}
+use Rattle.rules.specs.paper.States.{declaration}
 use Rattle.automaton.proofs.KindLaws.{asked, arm, bind-there, join-there}
 use borrow.Author.Needs.{needs}
 use Rattle.automaton.proofs.declarations.declaration_rule.Statement.{statement}
@@ -10,30 +10,24 @@ use Rattle.automaton.proofs.declarations.declaration_rule.Lts as lts
 use Rattle.automaton.proofs.declarations.bind.Reads as bind-reads
 use Rattle.automaton.proofs.declarations.join.Reads as join-reads
 
--- src/declarations.rt:60:9
 bind-requires : tie.Need-bind-requires
 bind-requires c κs =
     let start = c .before .before .before in asked declaration _ _ _ (Bind _) (λ d a. bind-there _ _ _ _ (start .pre .0) d a (c .before .if1 .taken)) (start .pre .1)
 
--- src/declarations.rt:60:9
 same-length : tie.Need-same-length
 same-length c = search needs
 
--- src/declarations.rt:60:9
 returns : tie.Need-returns
 returns c =
     let start = c .before .before .before .before .before .before in arm declaration _ _ _ (Bind _) (λ d a. bind-there _ _ _ _ (start .pre .0) d a (c .before .before .before .before .if1 .taken)) _ _ (c .before .before .bind .ensures)
 
--- src/declarations.rt:62:5
 join-requires : tie.Need-join-requires
 join-requires c κs =
     let start = c .before .before .before in asked declaration _ _ _ (DSeq _) (λ d a. join-there _ _ _ _ (start .pre .0) d a (c .before .if1 .left)) (start .pre .1)
 
--- src/declarations.rt:54:1
 same-length-2 : tie.Need-same-length-2
 same-length-2 c = search needs
 
--- src/declarations.rt:54:1
 returns-2 : tie.Need-returns-2
 returns-2 c =
     let start = c .before .before .before .before .before .before in arm declaration _ _ _ (DSeq _) (λ d a. join-there _ _ _ _ (start .pre .0) d a (c .before .before .before .before .if1 .left)) _ _ (c .before .before .join .ensures)

@@ -1,4 +1,4 @@
--- join: both declarations, the mark. Assumes nothing.
+-- join: both declarations, the mark.
 use native.Mathlib.Omega.{arith}
 use Rattle.automaton.proofs.DeclarationLaws.{declaration-low, join-low, join-steps}
 use borrow.Author.Needs.{needs}
@@ -9,27 +9,21 @@ use Rattle.automaton.proofs.declarations.join.Lts as lts
 use Rattle.automaton.proofs.shared.put_three.Reads as put-three-reads
 use Rattle.reader.proofs.end.Reads as end-reads
 
--- src/declarations.rt:33:28
 add-end : tie.Need-add-end
 add-end c = record { fits = omega (arith, declaration-low _ _ _ _ (c .before .before .pre .2)) }
 
--- src/declarations.rt:33:9
 end-requires : tie.Need-end-requires
 end-requires c κs = let start = c .before .before in omega (arith, join-low _ _ _ _ _ (start .pre .2), start .pre .2 .ready .fits .room)
 
--- src/declarations.rt:34:45
 add-put-three : tie.Need-add-put-three
 add-put-three c = record { fits = omega (arith, declaration-low _ _ _ _ (c .before .before .before .before .pre .2)) }
 
--- src/declarations.rt:34:5
 put-three-requires : tie.Need-put-three-requires
 put-three-requires c κs = search needs
 
--- src/declarations.rt:29:1
 same-length : tie.Need-same-length
 same-length c = search needs
 
--- src/declarations.rt:29:1
 returns : tie.Need-returns
 returns c = join-steps _ _ _ _ _ _ (c .before .before .before .before .end .ensures) (c .before .before .put-three .ensures)
 

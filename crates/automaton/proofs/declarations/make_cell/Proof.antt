@@ -1,4 +1,4 @@
--- make_cell: the contents, the mark. Assumes nothing.
+-- make_cell: the contents, the mark.
 use native.Mathlib.Omega.{arith}
 use Rattle.automaton.proofs.DeclarationLaws.{reference-low, reference-steps}
 use borrow.Author.Needs.{needs}
@@ -8,19 +8,15 @@ use Rattle.automaton.proofs.declarations.make_cell.Reads as reads
 use Rattle.automaton.proofs.declarations.make_cell.Lts as lts
 use Rattle.automaton.proofs.shared.put_two.Reads as put-two-reads
 
--- src/declarations.rt:42:28
 add-put-two : tie.Need-add-put-two
 add-put-two c = record { fits = omega (arith, reference-low _ _ _ _ _ (c .before .before .pre .2)) }
 
--- src/declarations.rt:42:5
 put-two-requires : tie.Need-put-two-requires
 put-two-requires c κs = search needs
 
--- src/declarations.rt:38:1
 same-length : tie.Need-same-length
 same-length c = search needs
 
--- src/declarations.rt:38:1
 returns : tie.Need-returns
 returns c = reference-steps _ _ _ _ _ (c .before .before .put-two .ensures)
 

@@ -1,4 +1,4 @@
--- take_registers: the contents of the first cells, one by one. Assumes nothing.
+-- take_registers: the contents of the first cells, one by one.
 use Prim.Native.Nat.{ℕ, _+_, _-_, _*_, _<_, _≤_}
 use mathlib.Core.Path.{_≡_, refl, sym, ap, _∙_}
 use mathlib.Core.List.{List}

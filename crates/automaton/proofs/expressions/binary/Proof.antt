@@ -1,4 +1,4 @@
--- binary: the second operand stands where the first ends. Assumes nothing.
+-- binary: the second operand stands where the first ends.
 use native.Mathlib.Omega.{arith}
 use Rattle.automaton.proofs.ExpressionLaws.{operator-below, applicable-low, operand-within, binary-steps}
 use borrow.Author.Needs.{needs}
@@ -9,31 +9,24 @@ use Rattle.automaton.proofs.expressions.binary.Lts as lts
 use Rattle.automaton.proofs.shared.put_three.Reads as put-three-reads
 use Rattle.reader.proofs.end.Reads as end-reads
 
--- src/expressions.rt:87:28
 add-end : tie.Need-add-end
 add-end c = record { fits = omega (arith, applicable-low _ _ _ _ (c .before .before .pre .4)) }
 
--- src/expressions.rt:87:9
 end-requires : tie.Need-end-requires
 end-requires c κs = operand-within _ _ _ _ _ _ (c .before .before .pre .4)
 
--- src/expressions.rt:88:24
 add-put-three : tie.Need-add-put-three
 add-put-three c = let start = c .before .before .before .before in record { fits = omega (arith, operator-below (start .pre .0), start .pre .3) }
 
--- src/expressions.rt:88:60
 add-put-three-2 : tie.Need-add-put-three-2
 add-put-three-2 c = record { fits = omega (arith, applicable-low _ _ _ _ (c .before .before .before .before .pre .4)) }
 
--- src/expressions.rt:88:5
 put-three-requires : tie.Need-put-three-requires
 put-three-requires c κs = search needs
 
--- src/expressions.rt:83:1
 same-length : tie.Need-same-length
 same-length c = search needs
 
--- src/expressions.rt:83:1
 returns : tie.Need-returns
 returns c = binary-steps _ _ _ _ _ _ _ (c .before .before .before .before .end .ensures) (c .before .before .put-three .ensures)
 

@@ -1,4 +1,4 @@
--- deref: the payload of the name's row is the location. Assumes nothing.
+-- deref: the payload of the name's row is the location.
 use native.Mathlib.Omega.{arith}
 use Rattle.automaton.proofs.ExpressionLaws.{applicable-within}
 use Rattle.automaton.proofs.NameLaws.{by-deref, name-bound, name-row-low, deref-steps}
@@ -11,31 +11,26 @@ use Rattle.automaton.proofs.machine.row_of.Reads as row-of-reads
 use Rattle.automaton.proofs.shared.push.Reads as push-reads
 use Rattle.reader.proofs.operand.Reads as operand-reads
 
--- src/expressions.rt:62:9
 operand-requires : tie.Need-operand-requires
 operand-requires c κs = applicable-within _ _ _ _ (c .before .before .pre .1)
 
--- src/expressions.rt:63:9
 row-of-requires : tie.Need-row-of-requires
 row-of-requires c κs =
     let start = c .before .before .before .before in
     (start .pre .1 .ready .fits, name-bound _ _ _ _ (c .before .operand .ensures) _ _ by-deref (start .pre .1))
 
--- src/expressions.rt:64:22
 add-bound : tie.Need-add-bound
 add-bound c =
     let read = c .before .before in
     let start = read .before .before .before in
     record { fits = omega (arith, name-row-low _ _ _ _ (read .operand .ensures) _ (c .row-of .ensures) _ _ by-deref (start .pre .1)) }
 
--- src/expressions.rt:64:17
 mul-bound : tie.Need-mul-bound
 mul-bound c =
     let read = c .before .before in
     let start = read .before .before .before in
     record { fits = omega (arith, name-row-low _ _ _ _ (read .operand .ensures) _ (c .row-of .ensures) _ _ by-deref (start .pre .1)) }
 
--- src/expressions.rt:64:17
 slice-read-bound : tie.Need-slice-read-bound
 slice-read-bound c =
     let row = c .before in
@@ -43,15 +38,12 @@ slice-read-bound c =
     let start = read .before .before .before in
     omega (arith, name-row-low _ _ _ _ (read .operand .ensures) _ (row .row-of .ensures) _ _ by-deref (start .pre .1), start .pre .1 .ready .fits .room)
 
--- src/expressions.rt:65:5
 push-requires : tie.Need-push-requires
 push-requires c κs = search needs
 
--- src/expressions.rt:58:1
 same-length : tie.Need-same-length
 same-length c = search needs
 
--- src/expressions.rt:58:1
 returns : tie.Need-returns
 returns c =
     let pushed = c .before .before in

@@ -1,4 +1,4 @@
--- expression_rule: the kind says which expression stands at the node. Assumes nothing.
+-- expression_rule: the kind says which expression stands at the node.
 use Rattle.automaton.proofs.ExpressionKindLaws.{some-number, some-truth, some-id, some-negation, some-deref, some-valref, some-binary, all-number, all-truth, all-id, all-negation, all-deref, all-valref, all-binary}
 use borrow.Author.Needs.{needs}
 use Rattle.automaton.proofs.expressions.expression_rule.Statement.{statement}
@@ -13,105 +13,84 @@ use Rattle.automaton.proofs.expressions.number.Reads as number-reads
 use Rattle.automaton.proofs.expressions.truth.Reads as truth-reads
 use Rattle.automaton.proofs.expressions.valref.Reads as valref-reads
 
--- src/expressions.rt:106:14
 number-requires : tie.Need-number-requires
 number-requires c κs = let start = c .before .before .before in some-number _ _ _ _ (start .pre .0) (c .before .match .keys1) (start .pre .1)
 
--- src/expressions.rt:107:14
 truth-requires : tie.Need-truth-requires
 truth-requires c κs = let start = c .before .before .before in some-truth _ _ _ _ (start .pre .0) (c .before .match .keys2) (start .pre .1)
 
--- src/expressions.rt:108:14
 id-requires : tie.Need-id-requires
 id-requires c κs = let start = c .before .before .before in some-id _ _ _ _ (start .pre .0) (c .before .match .keys3) (start .pre .1)
 
--- src/expressions.rt:109:15
 negation-requires : tie.Need-negation-requires
 negation-requires c κs = let start = c .before .before .before in some-negation _ _ _ _ (start .pre .0) (c .before .match .keys4) (start .pre .1)
 
--- src/expressions.rt:110:15
 deref-requires : tie.Need-deref-requires
 deref-requires c κs = let start = c .before .before .before in some-deref _ _ _ _ (start .pre .0) (c .before .match .keys5) (start .pre .1)
 
--- src/expressions.rt:111:15
 valref-requires : tie.Need-valref-requires
 valref-requires c κs = let start = c .before .before .before in some-valref _ _ _ _ (start .pre .0) (c .before .match .keys6) (start .pre .1)
 
--- src/expressions.rt:112:14
 binary-requires : tie.Need-binary-requires
 binary-requires c κs = let start = c .before .before .before in some-binary _ _ _ _ (start .pre .0) (c .before .match .rest) (start .pre .1)
 
--- src/expressions.rt:100:1
 same-length : tie.Need-same-length
 same-length c = search needs
 
--- src/expressions.rt:100:1
 returns : tie.Need-returns
 returns c =
     let called = c .before .before in
     let chosen = called .before .before in
     all-number _ _ _ _ (chosen .before .before .pre .0) _ _ (chosen .match .keys1) (called .number .ensures)
 
--- src/expressions.rt:100:1
 same-length-2 : tie.Need-same-length-2
 same-length-2 c = search needs
 
--- src/expressions.rt:100:1
 returns-2 : tie.Need-returns-2
 returns-2 c =
     let called = c .before .before in
     let chosen = called .before .before in
     all-truth _ _ _ _ (chosen .before .before .pre .0) _ _ (chosen .match .keys2) (called .truth .ensures)
 
--- src/expressions.rt:100:1
 same-length-3 : tie.Need-same-length-3
 same-length-3 c = search needs
 
--- src/expressions.rt:100:1
 returns-3 : tie.Need-returns-3
 returns-3 c =
     let called = c .before .before in
     let chosen = called .before .before in
     all-id _ _ _ _ (chosen .before .before .pre .0) _ _ (chosen .match .keys3) (called .id .ensures)
 
--- src/expressions.rt:100:1
 same-length-4 : tie.Need-same-length-4
 same-length-4 c = search needs
 
--- src/expressions.rt:100:1
 returns-4 : tie.Need-returns-4
 returns-4 c =
     let called = c .before .before in
     let chosen = called .before .before in
     all-negation _ _ _ _ (chosen .before .before .pre .0) _ _ (chosen .match .keys4) (called .negation .ensures)
 
--- src/expressions.rt:100:1
 same-length-5 : tie.Need-same-length-5
 same-length-5 c = search needs
 
--- src/expressions.rt:100:1
 returns-5 : tie.Need-returns-5
 returns-5 c =
     let called = c .before .before in
     let chosen = called .before .before in
     all-deref _ _ _ _ (chosen .before .before .pre .0) _ _ (chosen .match .keys5) (called .deref .ensures)
 
--- src/expressions.rt:100:1
 same-length-6 : tie.Need-same-length-6
 same-length-6 c = search needs
 
--- src/expressions.rt:100:1
 returns-6 : tie.Need-returns-6
 returns-6 c =
     let called = c .before .before in
     let chosen = called .before .before in
     all-valref _ _ _ _ (chosen .before .before .pre .0) _ _ (chosen .match .keys6) (called .valref .ensures)
 
--- src/expressions.rt:100:1
 same-length-7 : tie.Need-same-length-7
 same-length-7 c = search needs
 
--- src/expressions.rt:100:1
 returns-7 : tie.Need-returns-7
 returns-7 c =
     let called = c .before .before in

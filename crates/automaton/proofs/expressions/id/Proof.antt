@@ -1,4 +1,4 @@
--- id: the name's row has a plain value, or the location of the cell that is read. Assumes nothing.
+-- id: the name's row has a plain value, or the location of the cell that is read.
 use native.Mathlib.Omega.{arith}
 use Rattle.automaton.proofs.ExpressionLaws.{applicable-within}
 use Rattle.automaton.proofs.NameLaws.{by-id, name-bound, name-row-low, id-cell-low, id-plain-steps, id-cell-steps}
@@ -13,31 +13,26 @@ use Rattle.automaton.proofs.machine.row_of.Reads as row-of-reads
 use Rattle.automaton.proofs.shared.push.Reads as push-reads
 use Rattle.reader.proofs.operand.Reads as operand-reads
 
--- src/expressions.rt:46:9
 operand-requires : tie.Need-operand-requires
 operand-requires c κs = applicable-within _ _ _ _ (c .before .before .pre .1)
 
--- src/expressions.rt:47:9
 row-of-requires : tie.Need-row-of-requires
 row-of-requires c κs =
     let start = c .before .before .before .before in
     (start .pre .1 .ready .fits, name-bound _ _ _ _ (c .before .operand .ensures) _ _ by-id (start .pre .1))
 
--- src/expressions.rt:48:22
 add-bound : tie.Need-add-bound
 add-bound c =
     let read = c .before .before in
     let start = read .before .before .before in
     record { fits = omega (arith, name-row-low _ _ _ _ (read .operand .ensures) _ (c .row-of .ensures) _ _ by-id (start .pre .1)) }
 
--- src/expressions.rt:48:17
 mul-bound : tie.Need-mul-bound
 mul-bound c =
     let read = c .before .before in
     let start = read .before .before .before in
     record { fits = omega (arith, name-row-low _ _ _ _ (read .operand .ensures) _ (c .row-of .ensures) _ _ by-id (start .pre .1)) }
 
--- src/expressions.rt:48:17
 slice-read-bound : tie.Need-slice-read-bound
 slice-read-bound c =
     let row = c .before in
@@ -45,7 +40,6 @@ slice-read-bound c =
     let start = read .before .before .before in
     omega (arith, name-row-low _ _ _ _ (read .operand .ensures) _ (row .row-of .ensures) _ _ by-id (start .pre .1), start .pre .1 .ready .fits .room)
 
--- src/expressions.rt:49:13
 add-if1 : tie.Need-add-if1
 add-if1 c =
     let row = c .before in
@@ -53,7 +47,6 @@ add-if1 c =
     let start = read .before .before .before in
     record { fits = omega (arith, name-row-low _ _ _ _ (read .operand .ensures) _ (row .row-of .ensures) _ _ by-id (start .pre .1)) }
 
--- src/expressions.rt:49:8
 mul-if1 : tie.Need-mul-if1
 mul-if1 c =
     let row = c .before in
@@ -61,7 +54,6 @@ mul-if1 c =
     let start = read .before .before .before in
     record { fits = omega (arith, name-row-low _ _ _ _ (read .operand .ensures) _ (row .row-of .ensures) _ _ by-id (start .pre .1)) }
 
--- src/expressions.rt:49:8
 slice-read-if1 : tie.Need-slice-read-if1
 slice-read-if1 c =
     let row = c .before .before in
@@ -69,15 +61,12 @@ slice-read-if1 c =
     let start = read .before .before .before in
     omega (arith, name-row-low _ _ _ _ (read .operand .ensures) _ (row .row-of .ensures) _ _ by-id (start .pre .1), start .pre .1 .ready .fits .room)
 
--- src/expressions.rt:50:9
 push-requires : tie.Need-push-requires
 push-requires c κs = search needs
 
--- src/expressions.rt:50:9
 same-length : tie.Need-same-length
 same-length c = search needs
 
--- src/expressions.rt:50:9
 returns : tie.Need-returns
 returns c =
     let pushed = c .before .before in
@@ -86,7 +75,6 @@ returns c =
     let read = row .before .before in
     id-plain-steps _ _ _ _ (read .operand .ensures) _ (row .row-of .ensures) _ _ (test .if1 .taken) (pushed .push .ensures)
 
--- src/expressions.rt:52:9
 cell-label-requires : tie.Need-cell-label-requires
 cell-label-requires c κs =
     let test = c .before in
@@ -95,7 +83,6 @@ cell-label-requires c κs =
     let start = read .before .before .before in
     (start .pre .1 .ready .fits .room, id-cell-low _ _ _ _ (read .operand .ensures) _ (row .row-of .ensures) _ (start .pre .1) (test .if1 .left))
 
--- src/expressions.rt:53:9
 cell-payload-requires : tie.Need-cell-payload-requires
 cell-payload-requires c κs =
     let test = c .before .before .before in
@@ -104,15 +91,12 @@ cell-payload-requires c κs =
     let start = read .before .before .before in
     (start .pre .1 .ready .fits .room, id-cell-low _ _ _ _ (read .operand .ensures) _ (row .row-of .ensures) _ (start .pre .1) (test .if1 .left))
 
--- src/expressions.rt:54:5
 push-requires-2 : tie.Need-push-requires-2
 push-requires-2 c κs = search needs
 
--- src/expressions.rt:42:1
 same-length-2 : tie.Need-same-length-2
 same-length-2 c = search needs
 
--- src/expressions.rt:42:1
 returns-2 : tie.Need-returns-2
 returns-2 c =
     let pushed = c .before .before in

@@ -1,4 +1,4 @@
--- negation: the operand stands after its node. Assumes nothing.
+-- negation: the operand stands after its node.
 use native.Mathlib.Omega.{arith}
 use Rattle.automaton.proofs.ExpressionLaws.{applicable-low, negation-steps}
 use borrow.Author.Needs.{needs}
@@ -8,19 +8,15 @@ use Rattle.automaton.proofs.expressions.negation.Reads as reads
 use Rattle.automaton.proofs.expressions.negation.Lts as lts
 use Rattle.automaton.proofs.shared.put_two.Reads as put-two-reads
 
--- src/expressions.rt:96:28
 add-put-two : tie.Need-add-put-two
 add-put-two c = record { fits = omega (arith, applicable-low _ _ _ _ (c .before .before .pre .1)) }
 
--- src/expressions.rt:96:5
 put-two-requires : tie.Need-put-two-requires
 put-two-requires c κs = search needs
 
--- src/expressions.rt:92:1
 same-length : tie.Need-same-length
 same-length c = search needs
 
--- src/expressions.rt:92:1
 returns : tie.Need-returns
 returns c = negation-steps _ _ _ _ _ (c .before .before .put-two .ensures)
 

@@ -1,4 +1,4 @@
--- truth: the operand is the truth's word. Assumes nothing.
+-- truth: the operand is the truth's word.
 use Rattle.automaton.proofs.ExpressionLaws.{applicable-within, truth-steps}
 use borrow.Author.Needs.{needs}
 use Rattle.automaton.proofs.expressions.truth.Statement.{statement}
@@ -8,19 +8,15 @@ use Rattle.automaton.proofs.expressions.truth.Lts as lts
 use Rattle.automaton.proofs.shared.push.Reads as push-reads
 use Rattle.reader.proofs.operand.Reads as operand-reads
 
--- src/expressions.rt:37:9
 operand-requires : tie.Need-operand-requires
 operand-requires c κs = applicable-within _ _ _ _ (c .before .before .pre .1)
 
--- src/expressions.rt:38:5
 push-requires : tie.Need-push-requires
 push-requires c κs = search needs
 
--- src/expressions.rt:33:1
 same-length : tie.Need-same-length
 same-length c = search needs
 
--- src/expressions.rt:33:1
 returns : tie.Need-returns
 returns c = truth-steps _ _ _ _ _ _ (c .before .before .before .before .operand .ensures) (c .before .before .push .ensures)
 

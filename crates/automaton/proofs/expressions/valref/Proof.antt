@@ -1,4 +1,4 @@
--- valref: the name's cell has the location of the cell that is read. Assumes nothing.
+-- valref: the name's cell has the location of the cell that is read.
 use native.Mathlib.Omega.{arith}
 use Rattle.automaton.proofs.ExpressionLaws.{applicable-within}
 use Rattle.automaton.proofs.NameLaws.{by-valref, name-bound, name-row-low, valref-outer-low, valref-inner-low, valref-steps}
@@ -13,31 +13,26 @@ use Rattle.automaton.proofs.machine.row_of.Reads as row-of-reads
 use Rattle.automaton.proofs.shared.push.Reads as push-reads
 use Rattle.reader.proofs.operand.Reads as operand-reads
 
--- src/expressions.rt:73:9
 operand-requires : tie.Need-operand-requires
 operand-requires c κs = applicable-within _ _ _ _ (c .before .before .pre .1)
 
--- src/expressions.rt:74:9
 row-of-requires : tie.Need-row-of-requires
 row-of-requires c κs =
     let start = c .before .before .before .before in
     (start .pre .1 .ready .fits, name-bound _ _ _ _ (c .before .operand .ensures) _ _ by-valref (start .pre .1))
 
--- src/expressions.rt:75:22
 add-bound : tie.Need-add-bound
 add-bound c =
     let read = c .before .before in
     let start = read .before .before .before in
     record { fits = omega (arith, name-row-low _ _ _ _ (read .operand .ensures) _ (c .row-of .ensures) _ _ by-valref (start .pre .1)) }
 
--- src/expressions.rt:75:17
 mul-bound : tie.Need-mul-bound
 mul-bound c =
     let read = c .before .before in
     let start = read .before .before .before in
     record { fits = omega (arith, name-row-low _ _ _ _ (read .operand .ensures) _ (c .row-of .ensures) _ _ by-valref (start .pre .1)) }
 
--- src/expressions.rt:75:17
 slice-read-bound : tie.Need-slice-read-bound
 slice-read-bound c =
     let row = c .before in
@@ -45,7 +40,6 @@ slice-read-bound c =
     let start = read .before .before .before in
     omega (arith, name-row-low _ _ _ _ (read .operand .ensures) _ (row .row-of .ensures) _ _ by-valref (start .pre .1), start .pre .1 .ready .fits .room)
 
--- src/expressions.rt:76:9
 cell-payload-requires : tie.Need-cell-payload-requires
 cell-payload-requires c κs =
     let row = c .before .before in
@@ -53,7 +47,6 @@ cell-payload-requires c κs =
     let start = read .before .before .before in
     (start .pre .1 .ready .fits .room, valref-outer-low _ _ _ _ (read .operand .ensures) _ (row .row-of .ensures) _ (start .pre .1))
 
--- src/expressions.rt:77:9
 cell-label-requires : tie.Need-cell-label-requires
 cell-label-requires c κs =
     let shown = c .before in
@@ -62,7 +55,6 @@ cell-label-requires c κs =
     let start = read .before .before .before in
     (start .pre .1 .ready .fits .room, valref-inner-low _ _ _ _ (read .operand .ensures) _ (row .row-of .ensures) _ _ (start .pre .1) (shown .cell-payload .ensures))
 
--- src/expressions.rt:78:9
 cell-payload-requires-2 : tie.Need-cell-payload-requires-2
 cell-payload-requires-2 c κs =
     let shown = c .before .before .before in
@@ -71,15 +63,12 @@ cell-payload-requires-2 c κs =
     let start = read .before .before .before in
     (start .pre .1 .ready .fits .room, valref-inner-low _ _ _ _ (read .operand .ensures) _ (row .row-of .ensures) _ _ (start .pre .1) (shown .cell-payload .ensures))
 
--- src/expressions.rt:79:5
 push-requires : tie.Need-push-requires
 push-requires c κs = search needs
 
--- src/expressions.rt:69:1
 same-length : tie.Need-same-length
 same-length c = search needs
 
--- src/expressions.rt:69:1
 returns : tie.Need-returns
 returns c =
     let pushed = c .before .before in

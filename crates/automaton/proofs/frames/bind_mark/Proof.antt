@@ -1,4 +1,4 @@
--- bind_mark: a row more, or 34. Assumes nothing.
+-- bind_mark: a row more, or 34.
 use Prim.Native.Nat.{_+_, _*_, _<_, _≤_}
 use native.Mathlib.Omega.{arith}
 use denote.Ref.{now}
@@ -13,75 +13,57 @@ use Rattle.automaton.proofs.machine.put_row.Reads as put-row-reads
 numbers : (c : lts.Start (put-row-reads.Asked, put-row-reads.Learnt) reads.Pre reads.Post) → BindNumbers (now (c .args .work)) (c .args .m)
 numbers c = bind-numbers _ _ _ (c .pre .ready)
 
--- src/frames.rt:16:9
 returns : tie.Need-returns
 returns c = let start = c .before .before .before in bind-withheld _ _ _ (c .if1 .taken)
 
--- src/frames.rt:19:22
 add-label : tie.Need-add-label
 add-label c = search needs
 
--- src/frames.rt:19:17
 mul-label : tie.Need-mul-label
 mul-label c = search needs
 
--- src/frames.rt:19:17
 slice-read-label : tie.Need-slice-read-label
 slice-read-label c = search needs
 
--- src/frames.rt:20:24
 add-payload : tie.Need-add-payload
 add-payload c = search needs
 
--- src/frames.rt:20:19
 mul-payload : tie.Need-mul-payload
 mul-payload c = search needs
 
--- src/frames.rt:20:19
 slice-read-payload : tie.Need-slice-read-payload
 slice-read-payload c = search needs
 
--- src/frames.rt:21:21
 add-name : tie.Need-add-name
 add-name c = search needs
 
--- src/frames.rt:21:16
 mul-name : tie.Need-mul-name
 mul-name c = search needs
 
--- src/frames.rt:21:16
 slice-read-name : tie.Need-slice-read-name
 slice-read-name c = search needs
 
--- src/frames.rt:22:44
 mul-put-row : tie.Need-mul-put-row
 mul-put-row c = let k = numbers (c .before .before .before .before .before .before .before) in record { fits = omega (arith, k .label-low, k .name-low, k .declared-few) }
 
--- src/frames.rt:22:37
 add-put-row : tie.Need-add-put-row
 add-put-row c = let k = numbers (c .before .before .before .before .before .before .before) in record { fits = omega (arith, k .label-low, k .name-low, k .declared-few) }
 
--- src/frames.rt:22:57
 mul-put-row-2 : tie.Need-mul-put-row-2
 mul-put-row-2 c = let k = numbers (c .before .before .before .before .before .before .before) in record { fits = omega (arith, k .label-low, k .name-low, k .declared-few) }
 
--- src/frames.rt:22:37
 add-put-row-2 : tie.Need-add-put-row-2
 add-put-row-2 c = let k = numbers (c .before .before .before .before .before .before .before) in record { fits = omega (arith, k .label-low, k .name-low, k .declared-few) }
 
--- src/frames.rt:22:9
 put-row-requires : tie.Need-put-row-requires
 put-row-requires c κs = search needs
 
--- src/frames.rt:24:19
 sub-next : tie.Need-sub-next
 sub-next c = let k = numbers (c .before .before .before .before .before .before .before .before .before .before) in omega (arith, k .two-values)
 
--- src/frames.rt:11:1
 same-length : tie.Need-same-length
 same-length c = search needs
 
--- src/frames.rt:11:1
 returns-2 : tie.Need-returns-2
 returns-2 c =
     let start = c .before .before .before .before .before .before .before .before .before .before in

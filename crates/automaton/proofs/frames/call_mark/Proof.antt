@@ -1,4 +1,4 @@
--- call_mark: the closure's block with its Formals bound, or 34, 35, 36. Assumes nothing.
+-- call_mark: the closure's block with its Formals bound, or 34, 35, 36.
 use Prim.Native.Nat.{_+_, _-_, _*_, _/_, _%_, _<_, _≤_}
 use native.Mathlib.Omega.{arith}
 use denote.Ref.{now}
@@ -14,65 +14,50 @@ use Rattle.automaton.proofs.frames.bind_formals.Reads as bind-formals-r
 use Rattle.automaton.proofs.frames.put_frame.Reads as put-frame-reads
 use Rattle.automaton.proofs.machine.row_of.Reads as row-of-reads
 
--- src/frames.rt:122:14
 add-if1 : tie.Need-add-if1
 add-if1 c = search needs
 
--- src/frames.rt:123:9
 returns : tie.Need-returns
 returns c = call-bindings-withheld _ _ _ (c .if1 .taken)
 
--- src/frames.rt:125:8
 add-if2 : tie.Need-add-if2
 add-if2 c = search needs
 
--- src/frames.rt:126:9
 returns-2 : tie.Need-returns-2
 returns-2 c = call-values-withheld _ _ _ (c .before .before .if1 .left) (c .if2 .taken)
 
--- src/frames.rt:129:9
 returns-3 : tie.Need-returns-3
 returns-3 c = call-control-withheld _ _ _ (c .before .before .before .before .if1 .left) (c .before .before .if2 .left) (c .if3 .taken)
 
--- src/frames.rt:131:9
 row-of-requires : tie.Need-row-of-requires
 row-of-requires c κs = let given = c .before .before .before .before .before .before .before .before .pre in (given .3 .ready .fits, call-looked _ _ _ _ _ _ (given .3 .ready))
 
--- src/frames.rt:132:24
 add-closure : tie.Need-add-closure
 add-closure c = let given = c .before .before .before .before .before .before .before .before .before .pre in record { fits = omega (arith, row-low _ _ _ _ _ _ (given .3 .ready) _ (c .row-of .ensures), given .3 .ready .fits .few-bindings) }
 
--- src/frames.rt:132:19
 mul-closure : tie.Need-mul-closure
 mul-closure c = let given = c .before .before .before .before .before .before .before .before .before .pre in record { fits = omega (arith, row-low _ _ _ _ _ _ (given .3 .ready) _ (c .row-of .ensures), given .3 .ready .fits .few-bindings) }
 
--- src/frames.rt:132:19
 slice-read-closure : tie.Need-slice-read-closure
 slice-read-closure c = let given = c .before .before .before .before .before .before .before .before .before .before .pre in omega (arith, row-low _ _ _ _ _ _ (given .3 .ready) _ (c .before .row-of .ensures), given .3 .ready .fits .few-bindings, given .3 .ready .fits .room)
 
--- src/frames.rt:133:17
 add-first : tie.Need-add-first
 add-first c = search needs
 
--- src/frames.rt:134:17
 add-block : tie.Need-add-block
 add-block c = search needs
 
--- src/frames.rt:137:24
 mul-below : tie.Need-mul-below
 mul-below c = search needs
 
--- src/frames.rt:137:17
 add-below : tie.Need-add-below
 add-below c = search needs
 
--- src/frames.rt:140:9
 bind-formals-requires : tie.Need-bind-formals-requires
 bind-formals-requires c κs =
     let given = c .before .before .before .before .before .before .before .before .before .before .before .pre in
     (called-fits _ _ _ (given .3 .ready .fits), (omega (arith, c .before .before .before .before .before .before .before .before .if1 .left), call-can-bind _ _ _ _ _ _ (given .3 .ready) _ (c .before .before .row-of .ensures)))
 
--- src/frames.rt:141:19
 put-frame-requires : tie.Need-put-frame-requires
 put-frame-requires c κs =
     let given = c .before .before .before .before .before .before .before .before .before .before .before .before .before .before .before .pre in
@@ -80,11 +65,9 @@ put-frame-requires c κs =
     let formed = call-formed _ _ _ _ (c .before .before .before .before .before .before .row-of .ensures) _ _ (bound .ensures .0) (bound .ensures .1) (c .before .before .before .before .before .before .before .before .before .before .before .before .if1 .left) (c .before .before .before .before .before .before .before .before .before .before .if2 .left) (c .before .before .before .before .before .before .before .before .if3 .left) _ _ _ (given .3 .ready) in
     (formed .fits, (formed .few-values, formed .few-control))
 
--- src/frames.rt:117:1
 same-length : tie.Need-same-length
 same-length c = search needs
 
--- src/frames.rt:117:1
 returns-4 : tie.Need-returns-4
 returns-4 c p x k C X E S L n r e ready =
     let bound = c .before .before .before .before .before .before .bind-formals in

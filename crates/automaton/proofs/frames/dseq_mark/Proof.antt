@@ -1,15 +1,13 @@
--- dseq_mark: an entry less. Assumes nothing.
+-- dseq_mark: an entry less.
 use Rattle.automaton.proofs.FrameLaws.{dseq-some, dseq-made}
 use Rattle.automaton.proofs.frames.dseq_mark.Statement.{statement}
 use Rattle.automaton.proofs.frames.dseq_mark.Tie as tie
 use Rattle.automaton.proofs.frames.dseq_mark.Reads as reads
 use Rattle.automaton.proofs.frames.dseq_mark.Lts as lts
 
--- src/frames.rt:33:16
 sub-m : tie.Need-sub-m
 sub-m c = let start = c .before in dseq-some _ _ _ (start .pre .ready)
 
--- src/frames.rt:29:1
 returns : tie.Need-returns
 returns c = dseq-made _ _ _
 

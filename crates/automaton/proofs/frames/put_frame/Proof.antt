@@ -1,4 +1,4 @@
--- put_frame: two values and two entries of control more. Assumes nothing.
+-- put_frame: two values and two entries of control more.
 use Prim.Native.Nat.{_+_, _<_, _≤_}
 use mathlib.Core.Path.{ap}
 use native.Mathlib.Omega.{arith}
@@ -14,18 +14,15 @@ use Rattle.automaton.proofs.frames.put_frame.Lts as lts
 use Rattle.automaton.proofs.machine.put_control.Reads as put-control-reads
 use Rattle.automaton.proofs.machine.put_value.Reads as put-value-reads
 
--- src/frames.rt:110:9
 put-value-requires : tie.Need-put-value-requires
 put-value-requires c κs = search needs
 
--- src/frames.rt:111:9
 put-value-requires-2 : tie.Need-put-value-requires-2
 put-value-requires-2 c κs =
     let start = c .before .before .before .before .before .before in
     let one = c .before .before .before .put-value in
     (put-value-fits _ _ _ _ _ (start .pre .0) (record { machine-is = one .ensures .0; regions-are = one .ensures .1 }) (omega (arith, start .pre .1 .0)), omega (arith, start .pre .1 .0, ap (λ k. k .values) (one .ensures .0)))
 
--- src/frames.rt:112:9
 put-control-requires : tie.Need-put-control-requires
 put-control-requires c κs =
     let start = c .before .before .before .before .before .before .before .before .before .before in
@@ -34,7 +31,6 @@ put-control-requires c κs =
     let few = put-value-fits _ _ _ _ _ (start .pre .0) (record { machine-is = one .ensures .0; regions-are = one .ensures .1 }) (omega (arith, start .pre .1 .0)) in
     (put-value-fits _ _ _ _ _ few (record { machine-is = two .ensures .0; regions-are = two .ensures .1 }) (omega (arith, start .pre .1 .0, ap (λ k. k .values) (one .ensures .0))), omega (arith, start .pre .1 .1, ap (λ k. k .control) (one .ensures .0), ap (λ k. k .control) (two .ensures .0)))
 
--- src/frames.rt:113:5
 put-control-requires-2 : tie.Need-put-control-requires-2
 put-control-requires-2 c κs =
     let start = c .before .before .before .before .before .before .before .before .before .before .before .before .before .before in
@@ -45,11 +41,9 @@ put-control-requires-2 c κs =
     let fewer = put-value-fits _ _ _ _ _ few (record { machine-is = two .ensures .0; regions-are = two .ensures .1 }) (omega (arith, start .pre .1 .0, ap (λ k. k .values) (one .ensures .0))) in
     (put-fits _ _ _ _ _ fewer (record { machine-is = three .ensures .0; regions-are = three .ensures .1 }) (omega (arith, start .pre .1 .1, ap (λ k. k .control) (one .ensures .0), ap (λ k. k .control) (two .ensures .0))), omega (arith, start .pre .1 .1, ap (λ k. k .control) (one .ensures .0), ap (λ k. k .control) (two .ensures .0), ap (λ k. k .control) (three .ensures .0)))
 
--- src/frames.rt:96:1
 same-length : tie.Need-same-length
 same-length c = search needs
 
--- src/frames.rt:96:1
 returns : tie.Need-returns
 returns c =
     let one = c .before .before .before .before .before .before .before .before .before .before .before .before .before .before .put-value in

@@ -1,4 +1,4 @@
--- find_row: along the chain, until the name is found. Assumes nothing.
+-- find_row: along the chain, until the name is found.
 use Prim.Native.Nat.{ℕ, _+_, _-_, _*_, _/_, _%_, _<_, _≤_}
 use mathlib.Core.Path.{_≡_, refl, sym, ap, _∙_, subst}
 use mathlib.Core.List.{List}
@@ -6,7 +6,7 @@ use mathlib.Core.Option.{some}
 use native.Mathlib.Omega.{arith}
 use denote.Ref.{now}
 use lib.ListN.{length, getD}
-use Rattle.rules.specs.States.{Bindable, Environment, lookup}
+use Rattle.rules.specs.paper.States.{Bindable, Environment, lookup}
 use Rattle.automaton.specs.Regions.{slots}
 use Rattle.automaton.specs.Represents.{SegmentAs}
 use Rattle.automaton.specs.Rows.{RowOf}

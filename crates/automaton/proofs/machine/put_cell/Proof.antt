@@ -1,4 +1,4 @@
--- put_cell: the regions after the writes. Assumes nothing.
+-- put_cell: the regions after the writes.
 use mathlib.Core.Path.{refl}
 use native.Mathlib.Omega.{arith}
 use Prim.Native.Nat.{_+_}
@@ -11,39 +11,30 @@ use Rattle.automaton.proofs.machine.put_cell.Tie as tie
 use Rattle.automaton.proofs.machine.put_cell.Reads as reads
 use Rattle.automaton.proofs.machine.put_cell.Lts as lts
 
--- src/machine.rt:91:10
 add-work : tie.Need-add-work
 add-work c = search needs
 
--- src/machine.rt:91:5
 mul-work : tie.Need-mul-work
 mul-work c = search needs
 
--- src/machine.rt:91:5
 slice-write-work : tie.Need-slice-write-work
 slice-write-work c = search needs
 
--- src/machine.rt:92:10
 add-work-2 : tie.Need-add-work-2
 add-work-2 c = search needs
 
--- src/machine.rt:92:5
 mul-work-2 : tie.Need-mul-work-2
 mul-work-2 c = search needs
 
--- src/machine.rt:92:5
 slice-write-work-2 : tie.Need-slice-write-work-2
 slice-write-work-2 c = omega (arith, length-set (now (c .args .work)) (4608 + c .args .m .cells) (c .args .payload), c .pre .0 .room, c .pre .0 .few-cells, c .pre .1)
 
--- src/machine.rt:93:15
 add-m : tie.Need-add-m
 add-m c = search needs
 
--- src/machine.rt:84:1
 same-length : tie.Need-same-length
 same-length c = search needs
 
--- src/machine.rt:84:1
 returns : tie.Need-returns
 returns c = (refl, cell-put (now (c .args .work)) (c .args .m) (c .pre .0) (c .args .label) (c .args .payload) (c .pre .1))
 

@@ -1,4 +1,4 @@
--- put_row: the regions after the writes. Assumes nothing.
+-- put_row: the regions after the writes.
 use mathlib.Core.Path.{refl}
 use native.Mathlib.Omega.{arith}
 use Prim.Native.Nat.{_+_}
@@ -11,39 +11,30 @@ use Rattle.automaton.proofs.machine.put_row.Tie as tie
 use Rattle.automaton.proofs.machine.put_row.Reads as reads
 use Rattle.automaton.proofs.machine.put_row.Lts as lts
 
--- src/machine.rt:77:10
 add-work : tie.Need-add-work
 add-work c = search needs
 
--- src/machine.rt:77:5
 mul-work : tie.Need-mul-work
 mul-work c = search needs
 
--- src/machine.rt:77:5
 slice-write-work : tie.Need-slice-write-work
 slice-write-work c = search needs
 
--- src/machine.rt:78:10
 add-work-2 : tie.Need-add-work-2
 add-work-2 c = search needs
 
--- src/machine.rt:78:5
 mul-work-2 : tie.Need-mul-work-2
 mul-work-2 c = search needs
 
--- src/machine.rt:78:5
 slice-write-work-2 : tie.Need-slice-write-work-2
 slice-write-work-2 c = omega (arith, length-set (now (c .args .work)) (4096 + c .args .m .bindings) (c .args .payload), c .pre .0 .room, c .pre .0 .few-cells, c .pre .1)
 
--- src/machine.rt:79:18
 add-m : tie.Need-add-m
 add-m c = search needs
 
--- src/machine.rt:65:1
 same-length : tie.Need-same-length
 same-length c = search needs
 
--- src/machine.rt:65:1
 returns : tie.Need-returns
 returns c = (refl, row-put (now (c .args .work)) (c .args .m) (c .pre .0) (c .args .label) (c .args .payload) (c .pre .1))
 

@@ -1,4 +1,4 @@
--- row_of: find_row at the machine's own environment. Assumes nothing.
+-- row_of: find_row at the machine's own environment.
 use Rattle.automaton.specs.Regions.{regions}
 use Rattle.automaton.proofs.machine.row_of.Statement.{statement}
 use Rattle.automaton.proofs.machine.row_of.Tie as tie
@@ -6,12 +6,10 @@ use Rattle.automaton.proofs.machine.row_of.Reads as reads
 use Rattle.automaton.proofs.machine.row_of.Lts as lts
 use Rattle.automaton.proofs.machine.find_row.Reads as find-row-reads
 
--- src/machine.rt:149:5
 find-row-requires : tie.Need-find-row-requires
 unfolding regions
 find-row-requires c κs = (c .before .pre .0 .room, (c .before .pre .0 .few-bindings, c .before .pre .1))
 
--- src/machine.rt:144:1
 returns : tie.Need-returns
 unfolding regions
 returns c = c .find-row .ensures

@@ -1,4 +1,4 @@
--- set_cell: the regions after the writes. Assumes nothing.
+-- set_cell: the regions after the writes.
 use mathlib.Core.Path.{refl}
 use native.Mathlib.Omega.{arith}
 use Prim.Native.Nat.{_+_}
@@ -11,35 +11,27 @@ use Rattle.automaton.proofs.machine.set_cell.Tie as tie
 use Rattle.automaton.proofs.machine.set_cell.Reads as reads
 use Rattle.automaton.proofs.machine.set_cell.Lts as lts
 
--- src/machine.rt:104:10
 add-work : tie.Need-add-work
 add-work c = search needs
 
--- src/machine.rt:104:5
 mul-work : tie.Need-mul-work
 mul-work c = search needs
 
--- src/machine.rt:104:5
 slice-write-work : tie.Need-slice-write-work
 slice-write-work c = search needs
 
--- src/machine.rt:105:10
 add-work-2 : tie.Need-add-work-2
 add-work-2 c = search needs
 
--- src/machine.rt:105:5
 mul-work-2 : tie.Need-mul-work-2
 mul-work-2 c = search needs
 
--- src/machine.rt:105:5
 slice-write-work-2 : tie.Need-slice-write-work-2
 slice-write-work-2 c = omega (arith, length-set (now (c .args .work)) (4608 + c .args .at .0) (c .args .payload), c .pre .0 .room, c .pre .0 .few-cells, c .pre .1)
 
--- src/machine.rt:98:1
 same-length : tie.Need-same-length
 same-length c = search needs
 
--- src/machine.rt:98:1
 returns : tie.Need-returns
 returns c = cell-set (now (c .args .work)) (c .args .m) (c .pre .0) (c .args .at .0) (c .args .label) (c .args .payload) (c .pre .1)
 

@@ -1,4 +1,4 @@
--- assign_mark: the cell of the name is set. Assumes nothing.
+-- assign_mark: the cell of the name is set.
 use native.Mathlib.Omega.{arith}
 use Rattle.automaton.proofs.AssignLaws.{two-there, name-bound, row-low, cell-low, assign-made}
 use Rattle.automaton.proofs.MarkTopLaws.{at-height-fits}
@@ -10,73 +10,56 @@ use Rattle.automaton.proofs.marks.assign_mark.Lts as lts
 use Rattle.automaton.proofs.machine.row_of.Reads as row-of-reads
 use Rattle.automaton.proofs.machine.set_cell.Reads as set-cell-reads
 
--- src/marks.rt:30:22
 add-label : tie.Need-add-label
 add-label c = search needs
 
--- src/marks.rt:30:17
 mul-label : tie.Need-mul-label
 mul-label c = search needs
 
--- src/marks.rt:30:17
 slice-read-label : tie.Need-slice-read-label
 slice-read-label c = search needs
 
--- src/marks.rt:31:24
 add-payload : tie.Need-add-payload
 add-payload c = search needs
 
--- src/marks.rt:31:19
 mul-payload : tie.Need-mul-payload
 mul-payload c = search needs
 
--- src/marks.rt:31:19
 slice-read-payload : tie.Need-slice-read-payload
 slice-read-payload c = search needs
 
--- src/marks.rt:32:21
 add-name : tie.Need-add-name
 add-name c = search needs
 
--- src/marks.rt:32:16
 mul-name : tie.Need-mul-name
 mul-name c = search needs
 
--- src/marks.rt:32:16
 slice-read-name : tie.Need-slice-read-name
 slice-read-name c = search needs
 
--- src/marks.rt:33:9
 row-of-requires : tie.Need-row-of-requires
 row-of-requires c κs = let start = c .before .before .before .before .before in (start .pre .ready .fits, name-bound _ _ (start .pre))
 
--- src/marks.rt:34:22
 add-bound : tie.Need-add-bound
 add-bound c = record { fits = omega (arith, row-low _ _ (c .before .before .before .before .before .before .pre) (c .row-of .ensures)) }
 
--- src/marks.rt:34:17
 mul-bound : tie.Need-mul-bound
 mul-bound c = record { fits = omega (arith, row-low _ _ (c .before .before .before .before .before .before .pre) (c .row-of .ensures)) }
 
--- src/marks.rt:34:17
 slice-read-bound : tie.Need-slice-read-bound
 slice-read-bound c = let start = c .before .before .before .before .before .before .before in omega (arith, row-low _ _ (start .pre) (c .before .row-of .ensures), start .pre .ready .fits .room)
 
--- src/marks.rt:35:16
 sub-m : tie.Need-sub-m
 sub-m c = two-there _ _ (c .before .before .before .before .before .before .before .pre)
 
--- src/marks.rt:36:5
 set-cell-requires : tie.Need-set-cell-requires
 set-cell-requires c κs =
     let start = c .before .before .before .before .before .before .before .before in
     (at-height-fits _ _ _ (start .pre .ready .fits) (omega arith), cell-low _ _ (start .pre) (c .before .before .row-of .ensures))
 
--- src/marks.rt:25:1
 same-length : tie.Need-same-length
 same-length c = search needs
 
--- src/marks.rt:25:1
 returns : tie.Need-returns
 returns c =
     let start = c .before .before .before .before .before .before .before .before .before .before .before in

@@ -1,4 +1,4 @@
--- loop_mark: the command again, or what is after the Loop. Assumes nothing.
+-- loop_mark: the command again, or what is after the Loop.
 use native.Mathlib.Omega.{arith}
 use Rattle.automaton.proofs.LoopLaws.{two-there, node-low, loop-ends, loop-repeats}
 use borrow.Author.Needs.{needs}
@@ -9,55 +9,42 @@ use Rattle.automaton.proofs.marks.loop_mark.Lts as lts
 use Rattle.automaton.proofs.shared.put_two.Reads as put-two-reads
 use Rattle.reader.proofs.end.Reads as end-reads
 
--- src/marks.rt:46:22
 add-truth : tie.Need-add-truth
 add-truth c = search needs
 
--- src/marks.rt:46:17
 mul-truth : tie.Need-mul-truth
 mul-truth c = search needs
 
--- src/marks.rt:46:17
 slice-read-truth : tie.Need-slice-read-truth
 slice-read-truth c = search needs
 
--- src/marks.rt:47:21
 add-node : tie.Need-add-node
 add-node c = search needs
 
--- src/marks.rt:47:16
 mul-node : tie.Need-mul-node
 mul-node c = search needs
 
--- src/marks.rt:47:16
 slice-read-node : tie.Need-slice-read-node
 slice-read-node c = search needs
 
--- src/marks.rt:48:16
 sub-m : tie.Need-sub-m
 sub-m c = two-there _ _ (c .before .before .before .pre)
 
--- src/marks.rt:50:9
 returns : tie.Need-returns
 returns c = loop-ends _ _ _ (c .before .before .before .before .pre .ready .fits) (c .if1 .taken)
 
--- src/marks.rt:52:26
 add-end : tie.Need-add-end
 add-end c = record { fits = omega (arith, node-low _ _ (c .before .before .before .before .before .pre)) }
 
--- src/marks.rt:52:9
 end-requires : tie.Need-end-requires
 end-requires c κs = let start = c .before .before .before .before .before in omega (arith, node-low _ _ (start .pre), start .pre .ready .fits .room)
 
--- src/marks.rt:53:5
 put-two-requires : tie.Need-put-two-requires
 put-two-requires c κs = search needs
 
--- src/marks.rt:41:1
 same-length : tie.Need-same-length
 same-length c = search needs
 
--- src/marks.rt:41:1
 returns-2 : tie.Need-returns-2
 returns-2 c = loop-repeats _ _ _ _ _ _ (c .before .before .before .before .before .before .if1 .left) (c .before .before .before .before .end .ensures) (c .before .before .put-two .ensures)
 

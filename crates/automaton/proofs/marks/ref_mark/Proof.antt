@@ -1,4 +1,4 @@
--- ref_mark: one cell more, or 33. Assumes nothing.
+-- ref_mark: one cell more, or 33.
 use Rattle.automaton.proofs.RefLaws.{value-there, ref-withheld, cell-fits, ref-made}
 use borrow.Author.Needs.{needs}
 use Rattle.automaton.proofs.marks.ref_mark.Statement.{statement}
@@ -8,54 +8,42 @@ use Rattle.automaton.proofs.marks.ref_mark.Lts as lts
 use Rattle.automaton.proofs.machine.put_cell.Reads as put-cell-reads
 use Rattle.automaton.proofs.machine.put_value.Reads as put-value-reads
 
--- src/marks.rt:63:9
 returns : tie.Need-returns
 returns c = ref-withheld _ _ _ (c .if1 .taken)
 
--- src/marks.rt:66:22
 add-label : tie.Need-add-label
 add-label c = search needs
 
--- src/marks.rt:66:17
 mul-label : tie.Need-mul-label
 mul-label c = search needs
 
--- src/marks.rt:66:17
 slice-read-label : tie.Need-slice-read-label
 slice-read-label c = search needs
 
--- src/marks.rt:67:24
 add-payload : tie.Need-add-payload
 add-payload c = search needs
 
--- src/marks.rt:67:19
 mul-payload : tie.Need-mul-payload
 mul-payload c = search needs
 
--- src/marks.rt:67:19
 slice-read-payload : tie.Need-slice-read-payload
 slice-read-payload c = search needs
 
--- src/marks.rt:68:16
 sub-m : tie.Need-sub-m
 sub-m c = value-there (c .before .before .before .before .pre)
 
--- src/marks.rt:69:9
 put-cell-requires : tie.Need-put-cell-requires
 put-cell-requires c κs = search needs
 
--- src/marks.rt:70:19
 put-value-requires : tie.Need-put-value-requires
 put-value-requires c κs =
     let start = c .before .before .before .before .before .before .before .before .before in
     let put = c .before .before .before .put-cell in
     cell-fits _ _ _ _ (start .pre .ready .fits) (c .before .before .before .before .before .before .before .if1 .left) (value-there (start .pre)) (record { machine-is = put .ensures .0; regions-are = put .ensures .1 })
 
--- src/marks.rt:57:1
 same-length : tie.Need-same-length
 same-length c = search needs
 
--- src/marks.rt:57:1
 returns-2 : tie.Need-returns-2
 returns-2 c =
     let start = c .before .before .before .before .before .before .before .before .before .before .before .before in

@@ -1,4 +1,4 @@
--- compared: by the order's number. Assumes nothing.
+-- compared: by the order's number.
 use Rattle.automaton.proofs.OperatorNumberLaws.{is-below, is-at-most, is-above, is-at-least}
 use borrow.Author.Needs.{needs}
 use Rattle.automaton.proofs.operators.compared.Statement.{statement}
@@ -7,35 +7,27 @@ use Rattle.automaton.proofs.operators.compared.Reads as reads
 use Rattle.automaton.proofs.operators.compared.Lts as lts
 use Rattle.integers.proofs.less.Reads as less-reads
 
--- src/operators.rt:91:9
 less-requires : tie.Need-less-requires
 less-requires c κs = search needs
 
--- src/operators.rt:91:9
 returns : tie.Need-returns
 returns c = is-below _ _ _ _ (c .before .if1 .taken) (c .less .ensures)
 
--- src/operators.rt:94:17
 less-requires-2 : tie.Need-less-requires-2
 less-requires-2 c κs = search needs
 
--- src/operators.rt:94:9
 returns-2 : tie.Need-returns-2
 returns-2 c = is-at-most _ _ _ _ (c .before .if2 .taken) (c .less2 .ensures)
 
--- src/operators.rt:97:9
 less-requires-3 : tie.Need-less-requires-3
 less-requires-3 c κs = search needs
 
--- src/operators.rt:97:9
 returns-3 : tie.Need-returns-3
 returns-3 c = is-above _ _ _ _ (c .before .if3 .taken) (c .less3 .ensures)
 
--- src/operators.rt:99:6
 less-requires-4 : tie.Need-less-requires-4
 less-requires-4 c κs = search needs
 
--- src/operators.rt:87:1
 returns-4 : tie.Need-returns-4
 returns-4 c = is-at-least _ _ _ _ (c .before .before .before .if1 .left) (c .before .before .if2 .left) (c .before .if3 .left) (c .less4 .ensures)
 

@@ -1,4 +1,4 @@
--- computed: by the operator's number. Assumes nothing.
+-- computed: by the operator's number.
 use Rattle.automaton.proofs.OperatorNumberLaws.{is-sum, is-difference, is-product, is-quotient}
 use borrow.Author.Needs.{needs}
 use Rattle.automaton.proofs.operators.computed.Statement.{statement}
@@ -10,35 +10,27 @@ use Rattle.integers.proofs.product.Reads as product-reads
 use Rattle.integers.proofs.quotient.Reads as quotient-reads
 use Rattle.integers.proofs.sum.Reads as sum-reads
 
--- src/operators.rt:22:9
 sum-requires : tie.Need-sum-requires
 sum-requires c κs = search needs
 
--- src/operators.rt:22:9
 returns : tie.Need-returns
 returns c = is-sum _ _ _ _ (c .before .if1 .taken) (c .sum .ensures)
 
--- src/operators.rt:25:9
 difference-requires : tie.Need-difference-requires
 difference-requires c κs = search needs
 
--- src/operators.rt:25:9
 returns-2 : tie.Need-returns-2
 returns-2 c = is-difference _ _ _ _ (c .before .if2 .taken) (c .difference .ensures)
 
--- src/operators.rt:28:9
 product-requires : tie.Need-product-requires
 product-requires c κs = search needs
 
--- src/operators.rt:28:9
 returns-3 : tie.Need-returns-3
 returns-3 c = is-product _ _ _ _ (c .before .if3 .taken) (c .product .ensures)
 
--- src/operators.rt:30:5
 quotient-requires : tie.Need-quotient-requires
 quotient-requires c κs = search needs
 
--- src/operators.rt:18:1
 returns-4 : tie.Need-returns-4
 returns-4 c = is-quotient _ _ _ _ (c .before .before .before .if1 .left) (c .before .before .if2 .left) (c .before .if3 .left) (c .quotient .ensures)
 

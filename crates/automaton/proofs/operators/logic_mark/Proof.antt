@@ -1,4 +1,4 @@
--- logic_mark: And and Or of two truths. Assumes nothing.
+-- logic_mark: And and Or of two truths.
 use Rattle.automaton.proofs.OperatorLaws.{operands-there, logic-made}
 use Rattle.automaton.proofs.OperatorNumberLaws.{false-and, true-and, false-or, true-or}
 use borrow.Author.Needs.{needs}
@@ -8,75 +8,57 @@ use Rattle.automaton.proofs.operators.logic_mark.Reads as reads
 use Rattle.automaton.proofs.operators.logic_mark.Lts as lts
 use Rattle.automaton.proofs.operators.replace_two.Reads as replace-two-reads
 
--- src/operators.rt:108:22
 add-first : tie.Need-add-first
 add-first c = search needs
 
--- src/operators.rt:108:17
 mul-first : tie.Need-mul-first
 mul-first c = search needs
 
--- src/operators.rt:108:17
 slice-read-first : tie.Need-slice-read-first
 slice-read-first c = search needs
 
--- src/operators.rt:109:23
 add-second : tie.Need-add-second
 add-second c = search needs
 
--- src/operators.rt:109:18
 mul-second : tie.Need-mul-second
 mul-second c = search needs
 
--- src/operators.rt:109:18
 slice-read-second : tie.Need-slice-read-second
 slice-read-second c = search needs
 
--- src/operators.rt:112:13
 replace-two-requires : tie.Need-replace-two-requires
 replace-two-requires c κs = let there = operands-there (c .before .before .before .before .before .before .pre .2) in (there .fits, there .two-there)
 
--- src/operators.rt:112:13
 same-length : tie.Need-same-length
 same-length c = search needs
 
--- src/operators.rt:112:13
 returns : tie.Need-returns
 returns c = λ o e. logic-made _ _ _ _ _ o _ (false-and _ _ _ (c .before .before .before .before .before .if1 .taken) (c .before .before .before .before .if2 .taken) o e) (c .before .before .replace-two .ensures)
 
--- src/operators.rt:114:9
 replace-two-requires-2 : tie.Need-replace-two-requires-2
 replace-two-requires-2 c κs = let there = operands-there (c .before .before .before .before .before .before .pre .2) in (there .fits, there .two-there)
 
--- src/operators.rt:114:9
 same-length-2 : tie.Need-same-length-2
 same-length-2 c = search needs
 
--- src/operators.rt:114:9
 returns-2 : tie.Need-returns-2
 returns-2 c = λ o e. logic-made _ _ _ _ _ o _ (true-and _ _ _ (c .before .before .before .before .before .if1 .taken) (c .before .before .before .before .if2 .left) o e) (c .before .before .replace-two2 .ensures)
 
--- src/operators.rt:117:9
 replace-two-requires-3 : tie.Need-replace-two-requires-3
 replace-two-requires-3 c κs = let there = operands-there (c .before .before .before .before .before .before .pre .2) in (there .fits, there .two-there)
 
--- src/operators.rt:117:9
 same-length-3 : tie.Need-same-length-3
 same-length-3 c = search needs
 
--- src/operators.rt:117:9
 returns-3 : tie.Need-returns-3
 returns-3 c = λ o e. logic-made _ _ _ _ _ o _ (false-or _ _ _ (c .before .before .before .before .before .if1 .left) (c .before .before .before .before .if3 .taken) o e) (c .before .before .replace-two3 .ensures)
 
--- src/operators.rt:119:5
 replace-two-requires-4 : tie.Need-replace-two-requires-4
 replace-two-requires-4 c κs = let there = operands-there (c .before .before .before .before .before .before .pre .2) in (there .fits, there .two-there)
 
--- src/operators.rt:103:1
 same-length-4 : tie.Need-same-length-4
 same-length-4 c = search needs
 
--- src/operators.rt:103:1
 returns-4 : tie.Need-returns-4
 returns-4 c = λ o e. logic-made _ _ _ _ _ o _ (true-or _ _ _ (c .before .before .before .before .before .if1 .left) (c .before .before .before .before .if3 .left) o e) (c .before .before .replace-two4 .ensures)
 

@@ -1,4 +1,4 @@
--- replace_two: one value in place of two. Assumes nothing.
+-- replace_two: one value in place of two.
 use Rattle.automaton.proofs.OperatorLaws.{replaced}
 use borrow.Author.Needs.{needs}
 use Rattle.automaton.proofs.operators.replace_two.Statement.{statement}
@@ -7,19 +7,15 @@ use Rattle.automaton.proofs.operators.replace_two.Reads as reads
 use Rattle.automaton.proofs.operators.replace_two.Lts as lts
 use Rattle.automaton.proofs.machine.put_value.Reads as put-value-reads
 
--- src/operators.rt:39:16
 sub-m : tie.Need-sub-m
 sub-m c = search needs
 
--- src/operators.rt:40:19
 put-value-requires : tie.Need-put-value-requires
 put-value-requires c κs = search needs
 
--- src/operators.rt:34:1
 same-length : tie.Need-same-length
 same-length c = search needs
 
--- src/operators.rt:34:1
 returns : tie.Need-returns
 returns c =
     let start = c .before .before .before .before .before .before in

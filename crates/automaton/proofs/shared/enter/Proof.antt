@@ -1,4 +1,4 @@
--- enter: an entry of the value stack and two of control, or 35 or 36. Assumes nothing.
+-- enter: an entry of the value stack and two of control, or 35 or 36.
 use Prim.Native.Nat.{_<_, _≤_}
 use mathlib.Core.Path.{_≡_, ap, _∙_}
 use native.Mathlib.Omega.{arith}
@@ -12,26 +12,21 @@ use Rattle.automaton.proofs.shared.enter.Lts as lts
 use Rattle.automaton.proofs.machine.put_control.Reads as put-control-reads
 use Rattle.automaton.proofs.machine.put_value.Reads as put-value-reads
 
--- src/shared.rt:57:9
 returns : tie.Need-returns
 returns c = let start = c .before .before .before in enter-values-withheld _ _ (start .pre) _ _ _ (c .if1 .taken)
 
--- src/shared.rt:60:9
 returns-2 : tie.Need-returns-2
 returns-2 c = let start = c .before .before .before .before .before in enter-control-withheld _ _ (start .pre) _ _ _ (c .before .before .if1 .left) (c .if2 .taken)
 
--- src/shared.rt:62:9
 put-value-requires : tie.Need-put-value-requires
 put-value-requires c κs = search needs
 
--- src/shared.rt:63:9
 put-control-requires : tie.Need-put-control-requires
 put-control-requires c κs =
     let start = c .before .before .before .before .before .before .before .before .before .before in
     let under = c .before .before .before .put-value in
     (value-fits _ _ (start .pre) _ _ (c .before .before .before .before .before .before .before .if1 .left) (under .ensures .0) (under .ensures .1), omega (arith, ap (λ k. k .control) (under .ensures .0), c .before .before .before .before .before .if2 .left))
 
--- src/shared.rt:64:19
 put-control-requires-2 : tie.Need-put-control-requires-2
 put-control-requires-2 c κs =
     let start = c .before .before .before .before .before .before .before .before .before .before .before .before .before .before in
@@ -41,11 +36,9 @@ put-control-requires-2 c κs =
     let fits = value-fits _ _ (start .pre) _ _ (c .before .before .before .before .before .before .before .before .before .before .before .if1 .left) (under .ensures .0) (under .ensures .1) in
     put-after _ _ fits _ _ _ (record { machine-is = first .ensures .0; regions-are = first .ensures .1 }) (omega (arith, low, ap (λ k. k .control) (under .ensures .0)))
 
--- src/shared.rt:52:1
 same-length : tie.Need-same-length
 same-length c = search needs
 
--- src/shared.rt:52:1
 returns-3 : tie.Need-returns-3
 returns-3 c =
     let start = c .before .before .before .before .before .before .before .before .before .before .before .before .before .before .before .before .before in

@@ -1,4 +1,4 @@
--- push: a value more, or 35. Assumes nothing.
+-- push: a value more, or 35.
 use Prim.Native.Nat.{_<_, _≤_}
 use mathlib.Core.Path.{_≡_, ap, _∙_}
 use native.Mathlib.Omega.{arith}
@@ -12,19 +12,15 @@ use Rattle.automaton.proofs.shared.push.Reads as reads
 use Rattle.automaton.proofs.shared.push.Lts as lts
 use Rattle.automaton.proofs.machine.put_value.Reads as put-value-reads
 
--- src/shared.rt:15:9
 returns : tie.Need-returns
 returns c = let start = c .before .before .before in push-withheld _ _ (start .pre) _ _ (c .if1 .taken)
 
--- src/shared.rt:17:19
 put-value-requires : tie.Need-put-value-requires
 put-value-requires c κs = search needs
 
--- src/shared.rt:10:1
 same-length : tie.Need-same-length
 same-length c = search needs
 
--- src/shared.rt:10:1
 returns-2 : tie.Need-returns-2
 returns-2 c =
     let start = c .before .before .before .before .before .before .before in

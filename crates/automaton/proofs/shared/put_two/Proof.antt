@@ -1,4 +1,4 @@
--- put_two: two entries more on control, or 36. Assumes nothing.
+-- put_two: two entries more on control, or 36.
 use Prim.Native.Nat.{_<_, _≤_}
 use mathlib.Core.Path.{_≡_, ap, _∙_}
 use native.Mathlib.Omega.{arith}
@@ -11,26 +11,21 @@ use Rattle.automaton.proofs.shared.put_two.Reads as reads
 use Rattle.automaton.proofs.shared.put_two.Lts as lts
 use Rattle.automaton.proofs.machine.put_control.Reads as put-control-reads
 
--- src/shared.rt:26:9
 returns : tie.Need-returns
 returns c = let start = c .before .before .before in put-two-withheld _ _ (start .pre) _ _ (c .if1 .taken)
 
--- src/shared.rt:28:9
 put-control-requires : tie.Need-put-control-requires
 put-control-requires c κs = search needs
 
--- src/shared.rt:29:19
 put-control-requires-2 : tie.Need-put-control-requires-2
 put-control-requires-2 c κs =
     let start = c .before .before .before .before .before .before .before .before in
     let first = c .before .before .before .put-control in
     put-after _ _ (start .pre) _ _ _ (record { machine-is = first .ensures .0; regions-are = first .ensures .1 }) (omega (arith, c .before .before .before .before .before .if1 .left))
 
--- src/shared.rt:21:1
 same-length : tie.Need-same-length
 same-length c = search needs
 
--- src/shared.rt:21:1
 returns-2 : tie.Need-returns-2
 returns-2 c =
     let start = c .before .before .before .before .before .before .before .before .before .before .before in

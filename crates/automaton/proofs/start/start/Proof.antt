@@ -1,4 +1,4 @@
--- start: a row and a cell for each register, then the root. Assumes nothing.
+-- start: a row and a cell for each register, then the root.
 use Prim.Native.Nat.{ℕ, _+_, _-_, _*_, _<_, _≤_}
 use mathlib.Core.Path.{_≡_, refl, sym, ap, _∙_}
 use mathlib.Core.List.{List}

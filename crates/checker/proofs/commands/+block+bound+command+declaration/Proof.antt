@@ -1,5 +1,5 @@
 -- The proof of the cycle of calls {block, bound, command, declaration}: each answers what the rules judge of the node. The needs of each
--- stand in a file of their own. Assumes nothing.
+-- stand in a file of their own.
 mod BlockNeeds
 mod BoundNeeds
 mod CommandNeeds

@@ -1,4 +1,4 @@
--- A Call's actuals one after the other. The loop's measure is how many are left. Assumes nothing.
+-- A Call's actuals one after the other. The loop's measure is how many are left.
 use native.Mathlib.Omega.{arith}
 use borrow.Author.Needs.{needs}
 use Rattle.checker.proofs.ActualLaws.{first-actual, first-actual-low, actuals-none, actual-fault, CodedSoFar, none-coded, one-coded}

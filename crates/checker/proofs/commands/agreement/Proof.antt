@@ -1,4 +1,4 @@
--- The actuals' codes against the Formals' one after the other. The loop's measure is how many are left. Assumes nothing.
+-- The actuals' codes against the Formals' one after the other. The loop's measure is how many are left.
 use Prim.Native.Nat.{_/_}
 use mathlib.Core.Path.{ap}
 use native.Mathlib.Omega.{arith}

@@ -1,4 +1,4 @@
--- The code that a name takes. Assumes nothing.
+-- The code that a name takes.
 use Rattle.checker.proofs.AssignLaws.{assigned-integer, assigned-truth, assigned-other}
 use Rattle.checker.proofs.commands.assigned_code.Statement.{statement}
 use Rattle.checker.proofs.commands.assigned_code.Tie as tie

@@ -1,4 +1,4 @@
--- Assign: the value, the name, whether it is assignable, and the codes. Assumes nothing.
+-- Assign: the value, the name, whether it is assignable, and the codes.
 use Prim.Native.Nat.{ℕ, _+_, _-_, _≤_}
 use native.Mathlib.Omega.{arith}
 use Rattle.checker.proofs.AssignLaws.{assign-place, assign-value-fault, assign-name-fault, assign-target-fault, assign-same}

@@ -1,4 +1,4 @@
--- Call: the actuals, the name, that it is a function, its count and its codes. Assumes nothing.
+-- Call: the actuals, the name, that it is a function, its count and its codes.
 use Prim.Native.Nat.{ℕ, _+_, _/_, _<_, _≤_}
 use native.Mathlib.Omega.{arith}
 use Rattle.checker.proofs.CallLaws.{call-actuals, function-found, found-formals, call-actual-fault, call-unbound, call-no-function, call-count-apart, call-agree}

@@ -1,4 +1,4 @@
--- A location's code. Assumes nothing.
+-- A location's code.
 use Rattle.checker.proofs.AssignLaws.{location-high, location-low}
 use borrow.Author.Needs.{needs}
 use Rattle.checker.proofs.commands.location_code.Statement.{statement}

@@ -1,4 +1,4 @@
--- Two codes. Assumes nothing.
+-- Two codes.
 use Rattle.checker.proofs.AssignLaws.{same-apart, same-both}
 use Rattle.checker.proofs.commands.same.Statement.{statement}
 use Rattle.checker.proofs.commands.same.Tie as tie

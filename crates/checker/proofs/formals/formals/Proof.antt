@@ -1,5 +1,4 @@
 -- The Formals of an Abs one after the other: each gets its row, unless its name has one. The loop's measure is how many are left.
--- Assumes nothing.
 use native.Mathlib.Omega.{arith}
 use borrow.Author.Needs.{needs}
 use Rattle.checker.proofs.FormalLaws.{formal-node-low, formal-code-low, formals-none, formals-repeated, RowsSoFar, no-rows-yet, one-row-more}

@@ -1,4 +1,4 @@
--- How many words are handed on. Assumes nothing.
+-- How many words are handed on.
 use borrow.Author.Tests.{le-ltb, lt-ltb, le-leb, lt-leb, eq-eqb, ne-eqb}
 use Rattle.engine.specs.Bytes.{image-count}
 use Rattle.engine.proofs.bytes.image_count.Statement.{statement}

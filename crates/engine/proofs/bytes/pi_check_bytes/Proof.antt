@@ -1,8 +1,8 @@
--- The image's words are unpacked and handed on. Assumes nothing.
+-- The image's words are unpacked and handed on.
 use mathlib.Core.Path.{_≡_, sym, subst}
 use denote.Ref.{now}
 use lib.Seq.{length-take-le}
-use Rattle.rules.specs.Engine.{checker}
+use Rattle.rules.specs.paper.Engine.{checker}
 use Rattle.engine.specs.Answers.{Replies}
 use borrow.Author.Needs.{needs}
 use Rattle.engine.proofs.bytes.pi_check_bytes.Statement.{statement}

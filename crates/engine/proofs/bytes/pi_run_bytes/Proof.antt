@@ -1,4 +1,4 @@
--- 22 and 21 first; then the image's words are unpacked and handed on. Assumes nothing.
+-- 22 and 21 first; then the image's words are unpacked and handed on.
 use mathlib.Core.Path.{_≡_, sym, subst}
 use denote.Ref.{now}
 use lib.Seq.{length-take-le}

@@ -1,4 +1,4 @@
--- The bytes of a value one by one. Assumes nothing.
+-- The bytes of a value one by one.
 use Prim.Native.Nat.{ℕ, _+_, _-_, _*_, _<_, _≤_}
 use mathlib.Core.Path.{_≡_, refl, sym, ap, _∙_}
 use native.Mathlib.Omega.{arith}

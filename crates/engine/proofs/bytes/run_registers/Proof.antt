@@ -1,4 +1,4 @@
--- The registers by their length. Assumes nothing.
+-- The registers by their length.
 use Prim.Native.Nat.{ℕ, _*_, _/_, _≤_}
 use mathlib.Core.Path.{_≡_, sym}
 use native.Mathlib.Omega.{arith}

@@ -1,4 +1,4 @@
--- The values are unpacked, run on and packed again. Assumes nothing.
+-- The values are unpacked, run on and packed again.
 use denote.Ref.{now}
 use Rattle.engine.proofs.BytesRun.{values-run}
 use borrow.Author.Needs.{needs}

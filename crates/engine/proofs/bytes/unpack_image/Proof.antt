@@ -1,4 +1,4 @@
--- As many words as are handed on are unpacked. Assumes nothing.
+-- As many words as are handed on are unpacked.
 use Prim.Native.Nat.{ℕ, _*_, _≤_}
 use mathlib.Core.Path.{_≡_, sym}
 use native.Mathlib.Omega.{arith}

@@ -1,4 +1,4 @@
--- The words one by one. Assumes nothing.
+-- The words one by one.
 use Prim.Native.Nat.{ℕ, _+_, _-_, _*_, _<_, _≤_}
 use mathlib.Core.Path.{_≡_, refl, sym, ap, _∙_}
 use native.Mathlib.Omega.{arith}

@@ -1,4 +1,4 @@
--- The eight bytes as one number. Assumes nothing.
+-- The eight bytes as one number.
 use Prim.Native.Nat.{ℕ, _+_, _*_, _<_}
 use native.Mathlib.Omega.{arith}
 use denote.Ref.{now}

@@ -1,9 +1,9 @@
--- execute: the start, the run, and the registers taken from its last state. Assumes nothing.
+-- execute: the start, the run, and the registers taken from its last state.
 use Prim.Native.Nat.{ℕ, _≤_, _<_}
 use mathlib.Core.Path.{_≡_, sym, _∙_}
 use native.Mathlib.Omega.{arith}
 use denote.Ref.{now}
-use Rattle.rules.specs.History.{first-history}
+use Rattle.rules.specs.claims.History.{first-history}
 use Rattle.engine.proofs.ExecuteLaws.{few-registers, starts-sound, executed}
 use borrow.Author.Needs.{needs}
 use Rattle.engine.proofs.perform.execute.Statement.{statement}

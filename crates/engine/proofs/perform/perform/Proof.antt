@@ -1,4 +1,4 @@
--- perform: the image, then 20, then the run. Assumes nothing.
+-- perform: the image, then 20, then the run.
 use mathlib.Core.Path.{_≡_, ap, _∙_}
 use native.Mathlib.Omega.{arith}
 use denote.Ref.{now}

@@ -1,4 +1,4 @@
--- result: the value that is left, by the root's code. Assumes nothing.
+-- result: the value that is left, by the root's code.
 use mathlib.Core.Path.{_≡_, ap, _∙_}
 use Rattle.engine.specs.declared.Ran.the-variants.{Number, Truth, Location}
 use Rattle.engine.proofs.PerformLaws.{number-left, truth-left, location-left}

@@ -1,10 +1,10 @@
--- run_command: nothing is left, or the reason. Assumes nothing.
+-- run_command: nothing is left, or the reason.
 use mathlib.Core.Path.{_≡_}
 use denote.Ref.{now}
 use lib.ListN.{length}
-use Rattle.rules.specs.Checker.{expression-of-code, a-command}
-use Rattle.rules.specs.Run.{run}
-use Rattle.rules.specs.Engine as Rules
+use Rattle.rules.specs.paper.Checker.{expression-of-code, a-command}
+use Rattle.rules.specs.paper.Run.{run}
+use Rattle.rules.specs.paper.Engine as Rules
 use Rattle.integers.specs.Words.{integers-of}
 use Rattle.engine.proofs.ExecuteLaws.{ends-well}
 use Rattle.engine.proofs.PerformLaws.{stopped-performed, command-performed}

@@ -1,4 +1,4 @@
--- `tables::bound` answers the row of the bounds. Assumes nothing.
+-- `tables::bound` answers the row of the bounds.
 use Rattle.reader.proofs.RowBits.{bounded-row}
 use borrow.Author.Needs.{needs}
 use Rattle.reader.proofs.tables.bound.Statement.{statement}

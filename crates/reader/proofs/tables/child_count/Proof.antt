@@ -1,4 +1,4 @@
--- `tables::child_count` answers how many children a node that passed its checks has. Assumes nothing.
+-- `tables::child_count` answers how many children a node that passed its checks has.
 use Prim.Native.Nat.{_+_, _<_}
 use mathlib.Core.Path.{_∙_}
 use native.Mathlib.Omega.{arith}

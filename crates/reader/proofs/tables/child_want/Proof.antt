@@ -1,4 +1,4 @@
--- `tables::child_want` answers the number of what is wanted of a child, by its parent's kind and how many children are left. Assumes nothing.
+-- `tables::child_want` answers the number of what is wanted of a child, by its parent's kind and how many children are left.
 use mathlib.Core.Path.{sym, subst}
 use Rattle.reader.specs.Tables.{WantedAt}
 use Rattle.reader.proofs.Children.{last-wanted, first-wanted}

@@ -1,4 +1,4 @@
--- `tables::count` answers the row of the counts. Assumes nothing.
+-- `tables::count` answers the row of the counts.
 use Rattle.reader.proofs.RowBits.{counted-row}
 use borrow.Author.Needs.{needs}
 use Rattle.reader.proofs.tables.count.Statement.{statement}

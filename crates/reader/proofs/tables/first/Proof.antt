@@ -1,4 +1,4 @@
--- `tables::first` answers the row of what is wanted of the children before the last. Assumes nothing.
+-- `tables::first` answers the row of what is wanted of the children before the last.
 use lib.ListN.{getD}
 use Rattle.reader.specs.KindRows.{firsts}
 use Rattle.reader.proofs.RowBits.{wanted-row}

@@ -1,4 +1,4 @@
--- One bit of a mask. Assumes nothing.
+-- One bit of a mask.
 use mathlib.Core.Path.{refl}
 use borrow.Author.Needs.{needs}
 use Rattle.reader.proofs.tables.has.Statement.{statement}

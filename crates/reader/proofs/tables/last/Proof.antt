@@ -1,4 +1,4 @@
--- `tables::last` answers the row of what is wanted of the last child. Assumes nothing.
+-- `tables::last` answers the row of what is wanted of the last child.
 use lib.ListN.{getD}
 use Rattle.reader.specs.KindRows.{lasts}
 use Rattle.reader.proofs.RowBits.{wanted-row}

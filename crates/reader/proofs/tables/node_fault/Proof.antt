@@ -1,4 +1,4 @@
--- `tables::node_fault` answers a node's first fault but its depth: kind, sort, operand, or 0. Assumes nothing.
+-- `tables::node_fault` answers a node's first fault but its depth: kind, sort, operand, or 0.
 use Prim.Native.Nat.{_<_, _≤_}
 use mathlib.Core.Path.{sym, _∙_, subst}
 use Rattle.reader.proofs.Faults.{fault-high, fault-none, fault-sort, fault-operand, fault-free}

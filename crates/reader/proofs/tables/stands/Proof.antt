@@ -1,4 +1,4 @@
--- `tables::stands` answers the row of what may stand where. Assumes nothing.
+-- `tables::stands` answers the row of what may stand where.
 use native.Mathlib.Omega.{arith}
 use Rattle.reader.proofs.RowBits.{accepted-row}
 use borrow.Author.Needs.{needs}

@@ -1,5 +1,5 @@
 -- What the proof of `block` needs: its declaration, then its command in the scope with the names that this gives.
--- Places are named by what was called there. Assumes nothing.
+-- Places are named by what was called there.
 use Prim.Native.Nat.{_-_, ℕ}
 use native.Mathlib.Omega.{arith}
 use mathlib.Core.Path.{_∙_}

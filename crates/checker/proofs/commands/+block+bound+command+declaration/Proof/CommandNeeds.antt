@@ -1,5 +1,5 @@
 -- What the proof of `command` needs: each kind of command in turn.
--- Places are named by what was called there. Assumes nothing.
+-- Places are named by what was called there.
 use Prim.Native.Nat.{_-_, ℕ}
 use native.Mathlib.Omega.{arith}
 use denote.Ref.{now}

@@ -1,6 +1,6 @@
 -- The measures of the cycle {block, bound, command, declaration} of the checker, what each of the four is given at a measure and asks of
 -- the others below it. The measure is twice the number of nodes from this one on, and one more for a command, which may be the block
--- that stands there. Assumes nothing.
+-- that stands there.
 use Prim.Native.Nat.{_+_, _-_, _*_, ℕ, _<_}
 use borrow.Fn.Kinds.{In}
 use borrow.Fn.PlainCycle.{Measures, is, falls, and}

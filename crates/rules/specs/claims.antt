@@ -1,0 +1,7 @@
+-- What is claimed of the definitions: statements that can be read alone. Their proofs stand in proofs.
+pub mod Shape
+pub mod Listing
+pub mod Typing
+pub mod History
+pub mod Claim
+pub mod Ends

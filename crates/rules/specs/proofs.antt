@@ -1,0 +1,5 @@
+-- The proofs of the claims, by subject.
+pub mod Basics
+pub mod reading
+pub mod checking
+pub mod running
