@@ -13,14 +13,14 @@ use Rattle.rules.specs.proofs.Basics.{true-test}
 use Rattle.rules.specs.paper.Tree.{Root, expression, command}
 use Rattle.rules.specs.paper.States.{value, location, bound}
 use Rattle.rules.specs.paper.Engine.{register-environment, register-store, root-item, start}
-use Rattle.reader.specs.Stored.{StoredRoot, root-expression, root-command}
+use Rattle.reader.specs.Stored.{StoredRoot, root-expression, root-command, RootAt}
 use Rattle.reader.specs.StoredLaws.{same-expression, same-command}
 use Rattle.integers.specs.Words.{integer-of, integers-of}
 use Rattle.integers.specs.WordLaws.{integers-at}
 use Rattle.automaton.specs.Regions.{stack, Slot, slot, slots, slot-at, Regions, regions, Fits, with-control, with-row, with-cells, raised-control, raised-rows, raised-cells}
 use Rattle.automaton.specs.Represents.{ValueAs, integer-as, location-as, SegmentAs, no-row, one-row, value-as, StoreAs, no-cell, one-cell, Since, none-since, running, ControlAs, nothing-left, expression-on, command-on, nothing-on, Models, link}
 use Rattle.automaton.specs.Steps.{Stands, Holds, Untouched}
-use Rattle.automaton.specs.Starts.{RootStands, StartsAt}
+use Rattle.automaton.specs.Starts.{StartsAt}
 use Rattle.automaton.specs.declared.machine.Machine.{Machine}
 use Rattle.automaton.proofs.RegionLaws.{slots-length}
 use Rattle.automaton.proofs.EnvironmentLaws.{segment-new, segment-low}
@@ -132,7 +132,7 @@ in-nodes before (expression e) (root-expression h) = root-expression (same-expre
 in-nodes before (command c) (root-command h) = root-command (same-command before (take 2000 before) (λ i l. getD-take 2000 before i 0 l) h)
 
 module _ (before registers words after : List ℕ) (m r : Machine) (i : ℕ) (so-far : RegistersSet before registers words m i) (all-set : i ≡ length registers)
-    (control-is : r ≡ raised-control (ready i)) (control-are : regions after (raised-control (ready i)) ≡ with-control 0 (regions words (ready i))) (t : Root) (stands : RootStands before t) where
+    (control-is : r ≡ raised-control (ready i)) (control-are : regions after (raised-control (ready i)) ≡ with-control 0 (regions words (ready i))) (t : Root) (stands : RootAt before t) where
   regions-ready : regions words (ready i) ≡
       record { nodes = take 2000 before; control = []; values = []; rows = regions words (with-registers i) .rows; cells = regions words (with-registers i) .cells; environment = i; declared = i; base = i; beyond = drop 8192 before; size = length before }
   unfolding regions stack slots

@@ -6,16 +6,9 @@ use Rattle.rules.specs.paper.Tree.{Root}
 use Rattle.rules.specs.paper.Engine.{start}
 use Rattle.rules.specs.claims.Listing.{truth-word}
 use Rattle.rules.specs.paper.States.{Value, integer, truth, location, Environment, Store, Entry, val, Item}
-use Rattle.reader.specs.Stored.{StoredRoot}
 use Rattle.integers.specs.Words.{word-of, integers-of}
 use Rattle.automaton.specs.Steps.{Stands, Holds, Untouched}
 use Rattle.automaton.specs.declared.machine.Machine.{Machine}
-
--- A tree stands in the work words from node 0 on.
-pub record RootStands (words : List ℕ) (t : Root) : Type 0 where
-  pub depth : ℕ
-  pub next : ℕ
-  pub stored : StoredRoot words depth 0 next t
 
 -- The machine holds the start of the tree's run, with these words in the registers.
 pub record StartsAt (t : Root) (registers : List ℕ) (m : Machine) (before after : List ℕ) : Type 0 where

@@ -2,7 +2,8 @@
 ghost use Prim.Native.Nat.{_≤_};
 ghost use lib.ListN.{length};
 ghost use Rattle.rules.specs.paper.Tree.{Root};
-ghost use Rattle.automaton.specs.Starts.{RootStands, StartsAt};
+ghost use Rattle.reader.specs.Stored.{RootAt};
+ghost use Rattle.automaton.specs.Starts.{StartsAt};
 use crate::machine::Machine;
 use crate::machine::put_cell;
 use crate::machine::put_control;
@@ -12,7 +13,7 @@ use crate::machine::put_row;
 pub fn start(work: &mut [u64], registers: &[u64]) -> Machine
     requires { ⌜ 8192 ≤ length (now work) ⌝ }
     requires { ⌜ length (now registers) ≤ 16 ⌝ }
-    ensures { λ r. ⌜ ((t : Root) → RootStands (now (work .entry)) t → StartsAt t (now (registers .entry)) r (now (work .entry)) (now (work .exit))) ⌝ }
+    ensures { λ r. ⌜ ((t : Root) → RootAt (now (work .entry)) t → StartsAt t (now (registers .entry)) r (now (work .entry)) (now (work .exit))) ⌝ }
 {
     let mut m = Machine {
         control: 0,

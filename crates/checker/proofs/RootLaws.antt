@@ -8,11 +8,11 @@ use Rattle.rules.specs.paper.Tree.{Root, Expression, Command, Block}
 use Rattle.rules.specs.paper.Refusals.{refusal-number}
 use Rattle.rules.specs.paper.Checker.{Scope, Judged, fault, fine, _>>=_, Fine, Passed, expression-of-code, a-command, register-scope, root-is, expression-code, command-ok}
 use Rattle.reader.specs.Pack.{packed-kind}
-use Rattle.reader.specs.Stored.{HasWord, kind-is, StoredExpression, StoredBlock, StoredCommand, StoredRoot, root-expression, root-command}
+use Rattle.reader.specs.Stored.{HasWord, kind-is, StoredExpression, StoredBlock, StoredCommand, StoredRoot, root-expression, root-command, RootAt}
 use Rattle.reader.specs.Stored as Stored
 use Rattle.checker.specs.Rows.{ScopeAt, no-rows}
 use Rattle.checker.specs.Answers.{answer, code-answer, fine-answer, ExpressionAt, CodeAt}
-use Rattle.checker.specs.Commands.{CommandAt, CommandFineAt, RootAt, verdict, PassesAs}
+use Rattle.checker.specs.Commands.{CommandAt, CommandFineAt, verdict, PassesAs}
 use Rattle.checker.specs.declared.Answer.{Answer}
 use Rattle.checker.specs.declared.Answer.the-variants.{Is, Fault}
 use Rattle.checker.specs.declared.Verdict.{Verdict}

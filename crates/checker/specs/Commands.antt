@@ -7,7 +7,7 @@ use Rattle.rules.specs.paper.Refusals.{Refusal, refusal-number}
 use Rattle.rules.specs.paper.Limits.{names}
 use Rattle.rules.specs.paper.Tree.{Formal, Expression, Command, Assign, Call, Block, Declaration, Bound, Root}
 use Rattle.rules.specs.paper.Checker.{Meaning, Scope, Judged, fault, fine, Fine, ok, same-codes, distinct, with-formals, expression-codes, command-ok, block-ok, declaration-gives, bound-means, Passed, expression-of-code, a-command, register-scope, root-is}
-use Rattle.reader.specs.Stored.{HasWord, StoredExpression, StoredActuals, StoredFormals, StoredCommand, StoredBlock, StoredDeclaration, StoredBound, StoredRoot}
+use Rattle.reader.specs.Stored.{HasWord, StoredExpression, StoredActuals, StoredFormals, StoredCommand, StoredBlock, StoredDeclaration, StoredBound, RootAt}
 use Rattle.checker.specs.Rows.{Rows, ScopeAt}
 use Rattle.checker.specs.Answers.{answer, fine-answer, meaning-answer, ExpressionAt}
 use Rattle.checker.specs.declared.Answer.{Answer}
@@ -105,12 +105,6 @@ DeclaresAt words words′ registers scope tail node r =
 -- The number of what the Bind's child means, or its first fault.
 abbrev pub MeansAt : List ℕ → (registers scope node : ℕ) → Answer → Type 0
 MeansAt words registers scope node r = (b : Bound) (Γ : Scope) → BoundAt words node b → ScopeAt words registers scope Γ → r ≡ meaning-answer (bound-means Γ b)
-
--- A tree stands in the work words from node 0 on.
-pub record RootAt (words : List ℕ) (t : Root) : Type 0 where
-  pub depth : ℕ
-  pub next : ℕ
-  pub stored : StoredRoot words depth 0 next t
 
 -- The answer for a whole tree: what its root is, or the refusal's number and the node.
 abbrev pub verdict : Judged Passed → Verdict

@@ -11,7 +11,8 @@ ghost use Rattle.rules.specs.paper.Checker.{Scope, Meaning, meaning-of, shares-
 ghost use Rattle.checker.specs.Rows.{Rows, ScopeAt, RowFound};
 ghost use Rattle.checker.specs.Answers.{FoundAs, answer, code-answer, meaning-answer, Numbered, NameAt, ExpressionAt, CodeAt};
 ghost use Rattle.rules.specs.paper.Tree.{Root};
-ghost use Rattle.checker.specs.Commands.{Kept, RootAt, PassesAs};
+ghost use Rattle.checker.specs.Commands.{Kept, PassesAs};
+ghost use Rattle.reader.specs.Stored.{RootAt};
 use crate::commands::command;
 use reader::end;
 use reader::kind;

@@ -12,7 +12,8 @@ use Rattle.rules.specs.paper.Limits.{work-words}
 use Rattle.rules.specs.paper.Checker.{expression-of-code, a-command}
 use Rattle.rules.specs.paper.Engine.{CheckAnswer, root-code, root-command, not-passed, checker, check-answer, check-image, cleared, turned-back, passed}
 use Rattle.rules.specs.paper.Engine as Rules
-use Rattle.engine.specs.Answers.{check-reply, reply-refusal, reply-value, reply-place, Replies, Beyond}
+use Rattle.engine.specs.Answers.{check-reply, reply-refusal, reply-value, reply-place, Replies}
+use Rattle.reader.specs.Put.{KeptBeyond}
 use Rattle.engine.specs.declared.CheckReply.{CheckReply}
 use Rattle.engine.specs.Examined.{ExamineAnswer}
 use Rattle.engine.specs.declared.Examined.{Examined}
@@ -32,14 +33,14 @@ enough image work h = rw (false-test (ltb (length work) work-words) (λ t. both 
     both : length work < 8192 → ⊥
     both l = omega (arith, l, h)
 
-pub cleared-same : (before after : List ℕ) → Beyond before after → cleared after ≡ cleared before
+pub cleared-same : (before after : List ℕ) → KeptBeyond work-words before after → cleared after ≡ cleared before
 unfolding cleared
 cleared-same before after b = ap (λ ws. replicate work-words 0 ++ ws) (b .same-beyond)
 
 room-answer : (image work : List ℕ) (r : Checked) → 8192 ≤ length work → r ≡ check-reply (check-answer (check-image image)) → r ≡ check-reply (checker image work .answer)
 room-answer image work r h q = q ∙ sym (ap (λ c. check-reply (c .answer)) (enough image work h))
 
-pub room-work : (image work after last : List ℕ) → 8192 ≤ length work → Beyond work after → last ≡ cleared after → last ≡ checker image work .work
+pub room-work : (image work after last : List ℕ) → 8192 ≤ length work → KeptBeyond work-words work after → last ≡ cleared after → last ≡ checker image work .work
 room-work image work after last h b q = q ∙ cleared-same work after b ∙ sym (ap (λ c. c .work) (enough image work h))
 
 -- What was examined, as the checker alone answers it.
@@ -55,7 +56,7 @@ record Answered (image work last : List ℕ) (r : Checked) : Type 0 where
 examined-answer : (image work after last : List ℕ) (e : Examined) → 8192 ≤ length work → ExamineAnswer (check-image image) e work after → last ≡ cleared after → Answered image work last (of-examined e)
 examined-answer image work after last e h a q = by (check-image image) refl a
   where
-    done : (c : Rules.Checked) → check-image image ≡ c → of-examined e ≡ check-reply (check-answer c) → Beyond work after → Answered image work last (of-examined e)
+    done : (c : Rules.Checked) → check-image image ≡ c → of-examined e ≡ check-reply (check-answer c) → KeptBeyond work-words work after → Answered image work last (of-examined e)
     done c u v b = record { answer = room-answer image work (of-examined e) h (v ∙ sym (ap (λ k. check-reply (check-answer k)) u)); words = room-work image work after last h b q }
 
     by : (c : Rules.Checked) → check-image image ≡ c → ExamineAnswer c e work after → Answered image work last (of-examined e)

@@ -6,33 +6,31 @@ use native.Mathlib.Omega.{arith}
 use native.Mathlib.Nat.{zero-add, suc-add}
 use lib.ListN.{length, getD, drop}
 use Rattle.rules.specs.paper.Refusals.{Refusal, refusal-number}
-use Rattle.rules.specs.paper.Limits.{most-depth, work-words}
+use Rattle.rules.specs.paper.Limits.{most-nodes, most-depth, work-words}
 use Rattle.rules.specs.paper.Tree.{Root}
 use Rattle.rules.specs.paper.Reader.{Reading, bad, image, read}
 use Rattle.rules.specs.claims.Listing.{root-nodes}
-use Rattle.rules.specs.proofs.reading.ReaderExact.{IsImage, read-exact}
+use Rattle.rules.specs.claims.Image.{IsImage}
+use Rattle.rules.specs.proofs.reading.ReaderExact.{read-exact}
 use Rattle.rules.specs.paper.Checker.{Judged, fault, fine, Passed, expression-of-code, a-command, register-scope, root-is}
 use Rattle.rules.specs.paper.Engine.{check-image, check-reading, checked}
 use Rattle.reader.specs.Pack.{root-words}
-use Rattle.reader.specs.Put.{put, put-length, put-beyond}
+use Rattle.reader.specs.Put.{KeptBeyond, put, put-length, put-beyond}
 use Rattle.reader.specs.Answers.{ShapeAnswer, Shape-refused, Shape-read}
-use Rattle.reader.specs.Answers as Reads
-use Rattle.reader.specs.Stored.{StoredRoot, root-expression, root-command}
+use Rattle.reader.specs.Stored.{StoredRoot, root-expression, root-command, RootAt}
 use Rattle.reader.specs.StoredLaws.{SameNodes, same-expression, same-command, stored-by-put, root-next}
 use Rattle.reader.specs.declared.Shape.{Shape}
 use Rattle.reader.specs.declared.Shape.the-variants as Shapes
-use Rattle.checker.specs.Commands.{Kept, RootAt, verdict, PassesAs}
+use Rattle.checker.specs.Commands.{Kept, verdict, PassesAs}
 use Rattle.checker.specs.declared.Verdict.{Verdict}
 use Rattle.checker.specs.declared.Verdict.the-variants as Verdicts
-use Rattle.automaton.specs.Starts.{RootStands}
-use Rattle.engine.specs.Answers.{Beyond}
 use Rattle.engine.specs.Examined.{ExamineAnswer}
 use Rattle.engine.specs.declared.Examined.{Examined}
 use Rattle.engine.specs.declared.Examined.the-variants.{Code, Command, Refused}
 
 -- ---- Work words from 8,192 on.
 
-pub beyond-then : {a b c : List ℕ} → Beyond a b → Beyond b c → Beyond a c
+pub beyond-then : {a b c : List ℕ} → KeptBeyond work-words a b → KeptBeyond work-words b c → KeptBeyond work-words a c
 beyond-then g h = record { same-length = h .same-length ∙ g .same-length; same-beyond = h .same-beyond ∙ g .same-beyond }
 
 drop-more : (n m : ℕ) (a : List ℕ) → drop (n + m) a ≡ drop m (drop n a)
@@ -44,7 +42,7 @@ drop-more (suc n) m [] = ap (λ k. drop {A = ℕ} k []) (suc-add n m) ∙ sym (n
     none-left (suc m) = refl
 drop-more (suc n) m (x ∷ a) = ap (λ k. drop k (x ∷ a)) (suc-add n m) ∙ drop-more n m a
 
-beyond-read : {a b : List ℕ} → Reads.Kept 2000 a b → Beyond a b
+beyond-read : {a b : List ℕ} → KeptBeyond most-nodes a b → KeptBeyond work-words a b
 beyond-read {a} {b} k =
     record { same-length = k .same-length; same-beyond = drop-more 2000 6192 b ∙ ap (drop 6192) (k .same-beyond) ∙ sym (drop-more 2000 6192 a) }
 
@@ -64,7 +62,7 @@ drop-same (suc n) [] (y ∷ b) q f = absurd (omega (arith, q))
 drop-same (suc n) (x ∷ a) [] q f = absurd (omega (arith, q))
 drop-same (suc n) (x ∷ a) (y ∷ b) q f = drop-same n a b (omega (arith, q)) (λ i h. f (suc i) (omega (arith, h)))
 
-pub beyond-kept : {a b : List ℕ} {node : ℕ} → Kept a b node → Beyond a b
+pub beyond-kept : {a b : List ℕ} {node : ℕ} → Kept a b node → KeptBeyond work-words a b
 beyond-kept {a} {b} k = record { same-length = k .same-length; same-beyond = drop-same 8192 a b (k .same-length) (λ i h. k .same-beyond i (omega (arith, h))) }
 
 -- ---- The shape.
@@ -96,7 +94,7 @@ module _ (words before after : List ℕ) (shape : Shape) (answered : ShapeAnswer
     pub tree : Root
     pub reads : read words ≡ image registers tree
     pub stands : RootAt after tree
-    pub beyond : Beyond before after
+    pub beyond : KeptBeyond work-words before after
 
   pub tree-read : (nodes registers : ℕ) → 8192 ≤ length before → shape ≡ Shapes.Image nodes registers → TreeRead registers
   tree-read nodes registers room q = by (read words) refl answered
@@ -122,7 +120,7 @@ same-root words words′ same (root-expression h) = root-expression (same-expres
 same-root words words′ same (root-command h) = root-command (same-command words words′ same h)
 
 -- The checker leaves the tree where it stands.
-tree-kept : {a b : List ℕ} {t : Root} → Kept a b 0 → RootAt a t → RootStands b t
+tree-kept : {a b : List ℕ} {t : Root} → Kept a b 0 → RootAt a t → RootAt b t
 tree-kept {a} {b} k s = record { depth = s .depth; next = s .next; stored = same-root a b (λ i h. k .same-below i (omega (arith, h))) (s .stored) }
 
 abbrev code-of : Verdict → ℕ
@@ -150,9 +148,9 @@ IsFault (Verdicts.Code c) = ⊥
 IsFault Verdicts.Command = ⊥
 IsFault (Verdicts.Fault x p) = Unit {0}
 
-module _ (words before middle after : List ℕ) (registers : ℕ) (t : Root) (reads : read words ≡ image registers t) (stands : RootAt middle t) (beyond : Beyond before middle) (kept : Kept middle after 0)
+module _ (words before middle after : List ℕ) (registers : ℕ) (t : Root) (reads : read words ≡ image registers t) (stands : RootAt middle t) (beyond : KeptBeyond work-words before middle) (kept : Kept middle after 0)
     (v : Verdict) (judged : PassesAs middle registers v) where
-  all-beyond : Beyond before after
+  all-beyond : KeptBeyond work-words before after
   all-beyond = beyond-then beyond (beyond-kept kept)
 
   of-reading : (a : Examined) → ((j : Judged Passed) → v ≡ verdict j → ExamineAnswer (checked registers t j) a before after) → ExamineAnswer (check-image words) a before after

@@ -3,6 +3,7 @@ use Prim.Native.Nat.{ℕ, _<_, _≤_}
 use mathlib.Core.Path.{_≡_, refl, sym, ap, _∙_, subst}
 use mathlib.Core.List.{List}
 use lib.ListN.{length, getD}
+use Rattle.rules.specs.paper.Limits.{work-words}
 use Rattle.rules.specs.paper.Tree.{Root}
 use Rattle.rules.specs.paper.Checker.{Passed}
 use Rattle.rules.specs.paper.States.{State, store-of}
@@ -18,10 +19,10 @@ use Rattle.integers.specs.Words.{integers-of, words-of}
 use Rattle.integers.specs.WordLaws.{integers-length}
 use Rattle.automaton.specs.Steps.{Holds, Untouched}
 use Rattle.automaton.specs.Runs.{RunAnswer}
-use Rattle.automaton.specs.Starts.{RootStands, StartsAt}
+use Rattle.automaton.specs.Starts.{StartsAt}
 use Rattle.automaton.specs.declared.machine.Machine.{Machine}
 use Rattle.automaton.specs.declared.Ending as Endings
-use Rattle.engine.specs.Answers.{Beyond}
+use Rattle.reader.specs.Put.{KeptBeyond}
 use Rattle.engine.specs.Delivered.{all-in-range}
 use Rattle.engine.specs.Runs.{ExecuteAnswer}
 
@@ -41,7 +42,7 @@ module _ (image registers : List ℕ) (t : Root) (a : Passed) (passes : check-im
   pub ends-well : (budget : ℕ) → EndsWell budget (start (length registers) t (integers-of registers)) (length registers) a (run budget 0 (start (length registers) t (integers-of registers)))
   ends-well budget = run-ends image (length registers) t a passes (integers-of registers) (integers-length registers) (all-in-range registers low) budget
 
-  beyond-both : {before middle after : List ℕ} → Untouched before middle → Untouched middle after → Beyond before after
+  beyond-both : {before middle after : List ℕ} → Untouched before middle → Untouched middle after → KeptBeyond work-words before after
   beyond-both u v = record { same-length = v .same-length ∙ u .same-length; same-beyond = v .same-beyond ∙ u .same-beyond }
 
   pub executed : (budget : ℕ) (before middle after taken : List ℕ) (m : Machine) (answer : Endings.Ending) → StartsAt t registers m before middle →

@@ -8,6 +8,7 @@ use borrow.Author.Tests.{le-ltb, lt-ltb, le-leb, lt-leb, eq-eqb, ne-eqb}
 use lib.Dec.{T, eqb, leb, ltb}
 use lib.IntN.{ℤ}
 use lib.ListN.{length, getD}
+use Rattle.rules.specs.paper.Limits.{work-words}
 use Rattle.rules.specs.paper.Refusals.{Refusal, refusal-number}
 use Rattle.rules.specs.paper.Refusals as Refusals
 use Rattle.rules.specs.paper.Tree.{Root}
@@ -16,8 +17,8 @@ use Rattle.rules.specs.paper.Engine.{Checked, turned-back, passed, check-image,
 use Rattle.rules.specs.paper.Run.{Ending, ended, stopped, lost, run}
 use Rattle.integers.specs.Words.{integers-of, words-of}
 use Rattle.integers.specs.WordLaws.{integers-length, words-back}
-use Rattle.automaton.specs.Starts.{RootStands}
-use Rattle.engine.specs.Answers.{Beyond}
+use Rattle.reader.specs.Stored.{RootAt}
+use Rattle.reader.specs.Put.{KeptBeyond}
 use Rattle.engine.specs.Examined.{ExamineAnswer}
 use Rattle.engine.specs.Runs.{run-reply, Performed, RunOf}
 use Rattle.engine.specs.declared.Examined.{Examined}
@@ -32,8 +33,8 @@ use Rattle.engine.proofs.ExamineLaws.{beyond-then}
 pub record FoundPassed (image : List ℕ) (registers : ℕ) (a : Passed) (before after : List ℕ) : Type 0 where
   pub tree : Root
   pub passes : check-image image ≡ passed registers tree a
-  pub stands : RootStands after tree
-  pub beyond : Beyond before after
+  pub stands : RootAt after tree
+  pub beyond : KeptBeyond work-words before after
 
 same-code : (e : Examined) (c d n m : ℕ) → e ≡ Examine.Code c n → e ≡ Examine.Code d m → d ≡ c
 same-code e c d n m p q = cc

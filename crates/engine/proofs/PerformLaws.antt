@@ -21,7 +21,7 @@ use Rattle.automaton.specs.Starts.{value-word}
 use Rattle.automaton.specs.declared.machine.Machine.{Machine}
 use Rattle.automaton.specs.declared.Ending as Endings
 use Rattle.automaton.specs.declared.Ending.the-variants.{Ended, Stopped}
-use Rattle.engine.specs.Answers.{Beyond}
+use Rattle.reader.specs.Put.{KeptBeyond}
 use Rattle.engine.specs.Runs.{ran, run-reply, ExecutedEnd, ExecuteAnswer, Performed, RunOf, KindOf, LeftAs}
 use Rattle.engine.specs.declared.Ran.{Ran}
 use Rattle.engine.specs.declared.Ran.the-variants.{Number, Truth, Location, Nothing, Refused}

@@ -1,10 +1,7 @@
 -- What the engine's calls answer, by the definitions of the rules: for each case the paper's number and values.
 use Prim.Native.Nat.{ℕ}
 use mathlib.Core.Path.{_≡_}
-use mathlib.Core.List.{List}
-use lib.ListN.{length, drop}
 use Rattle.rules.specs.paper.Refusals.{refusal-number}
-use Rattle.rules.specs.paper.Limits.{work-words}
 use Rattle.rules.specs.paper.Engine.{CheckAnswer, root-code, root-command, not-passed}
 use Rattle.engine.specs.declared.Checked.{Checked}
 use Rattle.engine.specs.declared.Checked.the-variants.{Code, Command, Refused}
@@ -36,8 +33,3 @@ pub record Replies (a : CheckAnswer) (r : CheckReply) : Type 0 where
   pub refusal-is : r .refusal ≡ reply-refusal a
   pub value-is : r .value ≡ reply-value a
   pub place-is : r .place ≡ reply-place a
-
--- The words from 8,192 on are as they were.
-pub record Beyond (before after : List ℕ) : Type 0 where
-  pub same-length : length after ≡ length before
-  pub same-beyond : drop work-words after ≡ drop work-words before

@@ -2,23 +2,24 @@
 use Prim.Native.Nat.{ℕ}
 use mathlib.Core.Path.{_≡_}
 use mathlib.Core.List.{List}
+use Rattle.rules.specs.paper.Limits.{work-words}
 use Rattle.rules.specs.paper.Refusals.{Refusal, refusal-number}
 use Rattle.rules.specs.paper.Tree.{Root}
 use Rattle.rules.specs.paper.Checker.{expression-of-code, a-command}
 use Rattle.rules.specs.paper.Engine.{Checked, turned-back, passed}
-use Rattle.automaton.specs.Starts.{RootStands}
-use Rattle.engine.specs.Answers.{Beyond}
+use Rattle.reader.specs.Stored.{RootAt}
+use Rattle.reader.specs.Put.{KeptBeyond}
 use Rattle.engine.specs.declared.Examined.{Examined}
 use Rattle.engine.specs.declared.Examined.the-variants.{Code, Command, Refused}
 
 pub record ExaminedRefused (x : Refusal) (place : ℕ) (r : Examined) (before after : List ℕ) : Type 0 where
   pub answer : r ≡ Refused (refusal-number x) place
-  pub beyond : Beyond before after
+  pub beyond : KeptBeyond work-words before after
 
 pub record ExaminedPassed (t : Root) (wanted : Examined) (r : Examined) (before after : List ℕ) : Type 0 where
   pub answer : r ≡ wanted
-  pub stands : RootStands after t
-  pub beyond : Beyond before after
+  pub stands : RootAt after t
+  pub beyond : KeptBeyond work-words before after
 
 abbrev pub ExamineAnswer : Checked → Examined → (before after : List ℕ) → Type 0
 ExamineAnswer (turned-back x p) r before after = ExaminedRefused x p r before after

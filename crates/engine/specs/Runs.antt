@@ -3,6 +3,7 @@ use Prim.Native.Nat.{ℕ, _≤_}
 use mathlib.Core.Path.{_≡_}
 use mathlib.Core.List.{List, [], _∷_}
 use lib.ListN.{length}
+use Rattle.rules.specs.paper.Limits.{work-words}
 use Rattle.rules.specs.paper.Refusals.{Reason, reason-number, refusal-number}
 use Rattle.rules.specs.claims.Listing.{truth-word}
 use Rattle.rules.specs.paper.Tree.{Root}
@@ -14,7 +15,7 @@ use Rattle.automaton.specs.Steps.{Stands, Holds}
 use Rattle.automaton.specs.declared.machine.Machine.{Machine}
 use Rattle.automaton.specs.declared.Ending as Endings
 use Rattle.automaton.specs.declared.Ending.the-variants.{Ended, Stopped}
-use Rattle.engine.specs.Answers.{Beyond}
+use Rattle.reader.specs.Put.{KeptBeyond}
 use Rattle.engine.specs.declared.Ran.{Ran}
 use Rattle.engine.specs.declared.Ran.the-variants.{Number, Truth, Location, Nothing, Refused}
 use Rattle.engine.specs.declared.RunReply.{RunReply}
@@ -67,7 +68,7 @@ pub record ExecutedEnd (wanted : Machine → Endings.Ending) (σ : State) (count
   pub answer-is : answer ≡ wanted machine
   pub holds : Holds after machine σ
   pub registers-are : registers ≡ words-of (registers-from 0 count (store-of σ))
-  pub beyond : Beyond before after
+  pub beyond : KeptBeyond work-words before after
 
 abbrev pub ExecuteAnswer : Ending → (count : ℕ) → Endings.Ending → (registers before after : List ℕ) → Type 0
 ExecuteAnswer (ended k σ) count answer registers before after = ExecutedEnd (λ m. Ended k m) σ count answer registers before after
@@ -78,7 +79,7 @@ ExecuteAnswer (lost k σ) count answer registers before after = ⊥
 pub record Performed (c : Called) (r : Ran) (registers before after : List ℕ) : Type 0 where
   pub reply-is : r ≡ run-reply (c .reply)
   pub registers-are : registers ≡ words-of (c .registers)
-  pub beyond : Beyond before after
+  pub beyond : KeptBeyond work-words before after
 
 -- The run of a tree that the checker passed: `perform` of the rules.
 abbrev pub RunOf : (registers : List ℕ) → Root → (budget : ℕ) → Called

@@ -9,7 +9,7 @@ ghost use Rattle.rules.specs.paper.States.{Value};
 ghost use Rattle.rules.specs.paper.Run.{run};
 ghost use Rattle.rules.specs.paper.Engine.{check-image, passed, start, run-checked, outcome, outcome-of-value};
 ghost use Rattle.integers.specs.Words.{integers-of};
-ghost use Rattle.automaton.specs.Starts.{RootStands};
+ghost use Rattle.reader.specs.Stored.{RootAt};
 ghost use Rattle.engine.specs.Runs.{ran, ExecuteAnswer, Performed, RunOf, LeftAs};
 use crate::Examined;
 use crate::Ran;
@@ -23,8 +23,8 @@ use automaton::start::start;
 // The tree that stands in the work words is run from the registers, which take what it leaves in them.
 fn execute(registers: &mut [u64], budget: u64, work: &mut [u64]) -> Ending
     requires { ⌜ 8192 ≤ length (now work) ⌝ }
-    requires { ⌜ ((image : List ℕ) × (t : Root) × (a : Passed) × (check-image image ≡ passed (length (now registers)) t a) × RootStands (now work) t) ⌝ }
-    ensures { λ r. ⌜ ((image : List ℕ) (t : Root) (a : Passed) → check-image image ≡ passed (length (now (registers .entry))) t a → RootStands (now (work .entry)) t → ExecuteAnswer (run budget 0 (start (length (now (registers .entry))) t (integers-of (now (registers .entry))))) (length (now (registers .entry))) r (now (registers .exit)) (now (work .entry)) (now (work .exit))) ⌝ }
+    requires { ⌜ ((image : List ℕ) × (t : Root) × (a : Passed) × (check-image image ≡ passed (length (now registers)) t a) × RootAt (now work) t) ⌝ }
+    ensures { λ r. ⌜ ((image : List ℕ) (t : Root) (a : Passed) → check-image image ≡ passed (length (now (registers .entry))) t a → RootAt (now (work .entry)) t → ExecuteAnswer (run budget 0 (start (length (now (registers .entry))) t (integers-of (now (registers .entry))))) (length (now (registers .entry))) r (now (registers .exit)) (now (work .entry)) (now (work .exit))) ⌝ }
 {
     let first = start(work, registers);
     let ending = automaton::run(work, first, budget);
@@ -50,8 +50,8 @@ fn result(work: &[u64], last: Machine, code: usize, steps: u64) -> Ran
 // An expression of this code.
 fn run_expression(registers: &mut [u64], budget: u64, work: &mut [u64], code: usize) -> Ran
     requires { ⌜ 8192 ≤ length (now work) ⌝ }
-    requires { ⌜ ((image : List ℕ) × (t : Root) × (check-image image ≡ passed (length (now registers)) t (expression-of-code code)) × RootStands (now work) t) ⌝ }
-    ensures { λ r. ⌜ ((image : List ℕ) (t : Root) → check-image image ≡ passed (length (now (registers .entry))) t (expression-of-code code) → RootStands (now (work .entry)) t → Performed (RunOf (now (registers .entry)) t budget) r (now (registers .exit)) (now (work .entry)) (now (work .exit))) ⌝ }
+    requires { ⌜ ((image : List ℕ) × (t : Root) × (check-image image ≡ passed (length (now registers)) t (expression-of-code code)) × RootAt (now work) t) ⌝ }
+    ensures { λ r. ⌜ ((image : List ℕ) (t : Root) → check-image image ≡ passed (length (now (registers .entry))) t (expression-of-code code) → RootAt (now (work .entry)) t → Performed (RunOf (now (registers .entry)) t budget) r (now (registers .exit)) (now (work .entry)) (now (work .exit))) ⌝ }
 {
     let ending = execute(registers, budget, work);
     match ending {
@@ -63,8 +63,8 @@ fn run_expression(registers: &mut [u64], budget: u64, work: &mut [u64], code: us
 // A command.
 fn run_command(registers: &mut [u64], budget: u64, work: &mut [u64]) -> Ran
     requires { ⌜ 8192 ≤ length (now work) ⌝ }
-    requires { ⌜ ((image : List ℕ) × (t : Root) × (check-image image ≡ passed (length (now registers)) t a-command) × RootStands (now work) t) ⌝ }
-    ensures { λ r. ⌜ ((image : List ℕ) (t : Root) → check-image image ≡ passed (length (now (registers .entry))) t a-command → RootStands (now (work .entry)) t → Performed (RunOf (now (registers .entry)) t budget) r (now (registers .exit)) (now (work .entry)) (now (work .exit))) ⌝ }
+    requires { ⌜ ((image : List ℕ) × (t : Root) × (check-image image ≡ passed (length (now registers)) t a-command) × RootAt (now work) t) ⌝ }
+    ensures { λ r. ⌜ ((image : List ℕ) (t : Root) → check-image image ≡ passed (length (now (registers .entry))) t a-command → RootAt (now (work .entry)) t → Performed (RunOf (now (registers .entry)) t budget) r (now (registers .exit)) (now (work .entry)) (now (work .exit))) ⌝ }
 {
     let ending = execute(registers, budget, work);
     match ending {

@@ -3,7 +3,7 @@ use Prim.Native.Nat.{ℕ}
 use mathlib.Core.Path.{_≡_, refl, sym, ap, _∙_}
 use mathlib.Core.List.{List}
 use native.Mathlib.Omega.{arith}
-use Rattle.reader.specs.Answers.{Kept}
+use Rattle.reader.specs.Put.{KeptBeyond}
 use Rattle.reader.specs.declared.Scanned.{Scanned}
 use Rattle.reader.specs.declared.Scanned.the-variants.{Next, Refused}
 use Rattle.reader.specs.declared.Shape.{Shape}
@@ -22,5 +22,5 @@ same-refusal r x p y q a b = ap (λ s. of-scanned s) (sym a ∙ b)
     of-scanned (Next j) = Shapes.Refused 0 0
     of-scanned (Refused x p) = Shapes.Refused x p
 
-pub kept-same : (n : ℕ) (ws : List ℕ) → Kept n ws ws
+pub kept-same : (n : ℕ) (ws : List ℕ) → KeptBeyond n ws ws
 kept-same n ws = record { same-length = refl; same-beyond = refl }

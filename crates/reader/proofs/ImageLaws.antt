@@ -15,8 +15,9 @@ use Rattle.rules.specs.paper.Reader.{Node, Got, refused, got, image, whole, siz
 use Rattle.rules.specs.claims.Listing.{root-nodes, image-words}
 use Rattle.rules.specs.proofs.reading.ReaderExact.{read-exact}
 use Rattle.reader.specs.Pack.{root-words}
-use Rattle.reader.specs.Put.{put-length, put-beyond}
-use Rattle.reader.specs.Answers.{nodes-at, Kept, Read-on, Outcome, ShapeAnswer}
+use Rattle.rules.specs.paper.Limits.{most-nodes}
+use Rattle.reader.specs.Put.{KeptBeyond, put-length, put-beyond}
+use Rattle.reader.specs.Answers.{nodes-at, Read-on, Outcome, ShapeAnswer}
 use Rattle.reader.specs.declared.Scanned.{Scanned}
 use Rattle.reader.specs.declared.Scanned.the-variants.{Next, Refused}
 use Rattle.reader.specs.declared.Shape.{Shape}
@@ -131,7 +132,7 @@ module _ (words work work′ : List ℕ) (r : Scanned) (h : 2 ≤ length words) 
   unfolding image-words
   count-head t q = ap (λ ws. getD ws 0 0) (read-exact words (getD words 1 0) t .0 q .words)
 
-  kept-root : (new : List ℕ) (next : ℕ) (left : List Node) → Read-on nodes n 0 new next left r work work′ → Kept 2000 work work′
+  kept-root : (new : List ℕ) (next : ℕ) (left : List Node) → Read-on nodes n 0 new next left r work work′ → KeptBeyond most-nodes work work′
   kept-root new next left o =
       record {
         same-length = ap length (o .written) ∙ put-length 0 new work;
@@ -167,6 +168,6 @@ module _ (words work work′ : List ℕ) (r : Scanned) (h : 2 ≤ length words) 
       by : (m : Got Root) → read words ≡ whole (getD words 1 0) m → Root-outcome m → ShapeAnswer (whole (getD words 1 0) m) (Shapes.Refused x p) work work′
       by (refused y q) w o = record { answer = same-refusal r x p (refusal-number y) q e (o .answer); kept = later (o .kept) }
         where
-          later : Kept n work work′ → Kept 2000 work work′
+          later : KeptBeyond n work work′ → KeptBeyond most-nodes work work′
           later k = record { same-length = k .same-length; same-beyond = further n 2000 work work′ f (k .same-beyond) }
       by (got t j rest) w o = absurd (two-answers r j x p (o .answer) e)

@@ -5,12 +5,13 @@ use mathlib.Core.List.{List}
 use mathlib.Core.Option.{some}
 use lib.Dec.{T}
 use lib.ListN.{length, take, drop}
+use Rattle.rules.specs.paper.Limits.{most-nodes}
 use Rattle.rules.specs.paper.Refusals.{Refusal, refusal-number}
 use Rattle.rules.specs.paper.Kinds.{Kind, kind-of, operand-fits}
 use Rattle.rules.specs.paper.Reader.{Node, Got, refused, got, nodes-of, Reading, bad, image}
 use Rattle.rules.specs.claims.Listing.{root-nodes}
 use Rattle.reader.specs.Pack.{root-words}
-use Rattle.reader.specs.Put.{put}
+use Rattle.reader.specs.Put.{put, KeptBeyond}
 use Rattle.reader.specs.declared.Scanned.{Scanned}
 use Rattle.reader.specs.declared.Scanned.the-variants.{Next, Refused}
 use Rattle.reader.specs.declared.Shape.{Shape}
@@ -23,7 +24,7 @@ nodes-at words n = nodes-of (take n (drop 2 words)) (drop n (drop 2 words))
 -- Where reading may begin: the image has the length that n asks, and the work words have room for its nodes.
 pub record Readable (work words : List ℕ) (n at : ℕ) : Type 0 where
   pub sized : length words ≡ 2 + 2 * n
-  pub few : n ≤ 2000
+  pub few : n ≤ most-nodes
   pub room : n ≤ length work
   pub within : at ≤ n
 
@@ -32,11 +33,6 @@ pub record Passing (kind operand : ℕ) : Type 0 where
   pub which : Kind
   pub known : kind-of kind ≡ some which
   pub fits : T (operand-fits which operand)
-
--- Of the work words, those from n on are kept.
-pub record Kept (n : ℕ) (before after : List ℕ) : Type 0 where
-  pub same-length : length after ≡ length before
-  pub same-beyond : drop n after ≡ drop n before
 
 -- Nodes were read from a place on: the answer is the next place, and the work words are those of what was read, from that place on.
 pub record Read-on (nodes : List Node) (n at : ℕ) (new : List ℕ) (next : ℕ) (left : List Node) (r : Scanned) (before after : List ℕ) : Type 0 where
@@ -48,7 +44,7 @@ pub record Read-on (nodes : List Node) (n at : ℕ) (new : List ℕ) (next : ℕ
 
 pub record Refused-there (n : ℕ) (x : Refusal) (place : ℕ) (r : Scanned) (before after : List ℕ) : Type 0 where
   pub answer : r ≡ Refused (refusal-number x) place
-  pub kept : Kept n before after
+  pub kept : KeptBeyond n before after
 
 -- The code's answer is that of the reader of Scan.antt.
 abbrev pub Outcome : List Node → (n at : ℕ) → Got (List ℕ) → Scanned → (before after : List ℕ) → Type 0
@@ -57,7 +53,7 @@ Outcome nodes n at (got new next left) r before after = Read-on nodes n at new n
 
 pub record Shape-refused (x : Refusal) (place : ℕ) (r : Shape) (before after : List ℕ) : Type 0 where
   pub answer : r ≡ Shapes.Refused (refusal-number x) place
-  pub kept : Kept 2000 before after
+  pub kept : KeptBeyond most-nodes before after
 
 pub record Shape-read (registers : ℕ) (words : List ℕ) (nodes : ℕ) (r : Shape) (before after : List ℕ) : Type 0 where
   pub answer : r ≡ Shapes.Image nodes registers

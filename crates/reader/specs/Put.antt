@@ -82,3 +82,8 @@ put-at (suc i) k vs [] h g = absurd (never g)
     never : suc i + length vs ≤ 0 → ⊥
     never l = omega arith
 put-at (suc i) k vs (w ∷ ws) h g = ap (λ j. getD (w ∷ put i vs ws) j 0) (suc-add i k) ∙ put-at i k vs ws h (omega arith)
+
+-- Of the work words, those from n on are kept.
+pub record KeptBeyond (n : ℕ) (before after : List ℕ) : Type 0 where
+  pub same-length : length after ≡ length before
+  pub same-beyond : drop n after ≡ drop n before

@@ -80,3 +80,9 @@ mutual
 pub data StoredRoot (words : List ℕ) : (depth place next : ℕ) → Root → Type 0 where
   root-expression : {d i j : ℕ} {e : Expression} → StoredExpression words d i j e → StoredRoot words d i j (expression e)
   root-command : {d i j : ℕ} {c : Command} → StoredCommand words d i j c → StoredRoot words d i j (command c)
+
+-- A tree stands in the work words from node 0 on.
+pub record RootAt (words : List ℕ) (t : Root) : Type 0 where
+  pub depth : ℕ
+  pub next : ℕ
+  pub stored : StoredRoot words depth 0 next t

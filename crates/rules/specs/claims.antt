@@ -2,6 +2,7 @@
 pub mod Shape
 pub mod Listing
 pub mod Typing
+pub mod Image
 pub mod History
 pub mod Claim
 pub mod Ends

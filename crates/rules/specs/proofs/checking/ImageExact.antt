@@ -7,14 +7,10 @@ use Rattle.rules.specs.paper.Tree.{Root}
 use Rattle.rules.specs.paper.Reader.{Reading, bad, image, read}
 use Rattle.rules.specs.paper.Checker.{Judged, fault, fine, Passed, register-scope, root-is}
 use Rattle.rules.specs.claims.Typing.{RootOk}
+use Rattle.rules.specs.claims.Image.{IsImage, Meets, PassesExactly}
 use Rattle.rules.specs.paper.Engine.{Checked, turned-back, passed, checked, check-reading, check-image}
 use Rattle.rules.specs.proofs.checking.CheckerExact.{root-exact}
-use Rattle.rules.specs.proofs.reading.ReaderExact.{IsImage, read-exact}
-
--- The words are the image of this tree, and the typing rules derive what its root is.
-pub record Meets (ws : List ℕ) (r : ℕ) (t : Root) (c : Passed) : Type 0 where
-  pub shape : IsImage ws r t
-  pub types : RootOk (register-scope r) t c
+use Rattle.rules.specs.proofs.reading.ReaderExact.{read-exact}
 
 abbrev Passes : List ℕ → Checked → Type 0
 Passes ws (turned-back x p) = Unit {0}
@@ -29,7 +25,7 @@ reading-passes ws (bad x p) q = tt
 reading-passes ws (image r t) q = judged-passes ws r t (read-exact ws r t .0 q) (root-is (register-scope r) t) refl
 
 -- An image passes with code c, or as a command, exactly when it meets the rules.
-pub check-exact : (ws : List ℕ) (r : ℕ) (t : Root) (c : Passed) → (check-image ws ≡ passed r t c) ↔ Meets ws r t c
+pub check-exact : PassesExactly
 unfolding check-image
 check-exact ws r t c = (
   λ q. subst (Passes ws) q (reading-passes ws (read ws) refl),

@@ -16,19 +16,10 @@ use Rattle.rules.specs.paper.Reader.{Node, Got, refused, got, nodes-of, 
 use Rattle.rules.specs.claims.Listing.{expression-nodes, formal-nodes, all-nodes, command-nodes, block-nodes, declaration-nodes, bound-nodes, root-nodes, kind-words, operand-words, image-words}
 use Rattle.rules.specs.claims.Shape.{ShapedExpression, ShapedFormal, Many, none-left, one-more, ShapedCommand, ShapedBlock, ShapedDeclaration, ShapedBound, ShapedRoot}
 use Rattle.rules.specs.claims.Shape as Shape
+use Rattle.rules.specs.claims.Image.{IsImage, ReadsExactly}
 use Rattle.rules.specs.proofs.reading.ReaderNodes.{Answers}
 use Rattle.rules.specs.proofs.reading.ReaderSound.{RootRead, root-answers}
 use Rattle.rules.specs.proofs.reading.ReaderComplete.{root-read}
-
--- The words are the image of the tree t with r registers.
-pub record IsImage (ws : List ℕ) (r : ℕ) (t : Root) : Type 0 where
-  -- n, r and the preorder listing: kinds, then operands
-  pub words : ws ≡ image-words r t
-  -- n is 1 to 2,000 (a tree has a node), r is 0 to 16
-  pub size : length (root-nodes t) ≤ most-nodes
-  pub registers : r ≤ most-registers
-  -- places, names, counts, codes and depth (Shape.antt)
-  pub shape : ShapedRoot most-depth 0 (length (root-nodes t)) t
 
 -- ---- A tree's nodes are numbered up to the next place.
 
@@ -268,7 +259,7 @@ image-read r t h =
         (split-nodes (root-nodes t)))
 
 -- `read` gives the tree t with r registers exactly when the words are its image.
-pub read-exact : (ws : List ℕ) (r : ℕ) (t : Root) → (read ws ≡ image r t) ↔ IsImage ws r t
+pub read-exact : ReadsExactly
 read-exact ws r t = (
   λ q. subst (Reads ws) q (reading-sound ws),
   λ h. subst (λ v. read v ≡ image r t) (sym (h .words)) (image-read r t (subst (λ v. IsImage v r t) (h .words) h)),

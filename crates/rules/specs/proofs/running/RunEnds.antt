@@ -20,8 +20,8 @@ use Rattle.rules.specs.paper.Fire.{fire, fires}
 use Rattle.rules.specs.paper.Run.{Ending, ended, stopped, Verdict, made, withheld, proceed, judge, attempt, run}
 use Rattle.rules.specs.paper.Engine.{check-image, passed, register-store, start}
 use Rattle.rules.specs.proofs.running.FireExact.{applies→fires}
-use Rattle.rules.specs.proofs.checking.ImageExact.{Meets, check-exact}
-use Rattle.rules.specs.proofs.reading.ReaderExact.{IsImage}
+use Rattle.rules.specs.proofs.checking.ImageExact.{check-exact}
+use Rattle.rules.specs.claims.Image.{IsImage}
 use Rattle.rules.specs.claims.History.{Made, type-of, History, note, first-history, Reach, at-start, step-made}
 use Rattle.rules.specs.claims.Claim.{ReasonHolds, budget-used, cells-full, bindings-full, values-full, control-full, StepOutcome, step-is-made, step-is-withheld, StepMade, StepWithheld, StateClaim, AllInRange}
 use Rattle.rules.specs.claims.Ends.{FinalValues, EndsWell, normally, withheld-for, RangedValue, RangedBindable, RangedEnvironment, RangedEntry, RangedValues, RangedStore, RegisterHolds, StateFacts, RunEndsWell, EveryStateFacts}

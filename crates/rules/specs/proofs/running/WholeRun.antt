@@ -21,7 +21,8 @@ use Rattle.rules.specs.paper.Rules.{Rule, Effect, goes, fails, Applies}
 use Rattle.rules.specs.paper.Run.{holds, settle, made, judge}
 use Rattle.rules.specs.paper.Engine.{check-image, passed, register-environment, register-store, start}
 use Rattle.rules.specs.proofs.running.FireExact.{one-rule}
-use Rattle.rules.specs.proofs.checking.ImageExact.{Meets, check-exact}
+use Rattle.rules.specs.claims.Image.{Meets}
+use Rattle.rules.specs.proofs.checking.ImageExact.{check-exact}
 use Rattle.rules.specs.claims.History.{Made, made-registers, History, first-history, Reach, at-start, step-made}
 use Rattle.rules.specs.claims.Claim.{StepOutcome, step-is-made, step-is-withheld, StateClaim, AllInRange, WholeRunClaim}
 use Rattle.rules.specs.proofs.running.World.{World, code-newest, SmallExpression, SmallActuals, SmallCommand, SmallBlock, SmallDeclaration, SmallBound, integer-typed, location-typed, EnvironmentTyped, no-names, one-name, environment-older, value-typed}
