@@ -2,8 +2,8 @@
 use Prim.Native.Nat.{ℕ, _<_}
 use mathlib.Core.List.{List}
 use native.Mathlib.Omega.{arith}
+use Rattle.rules.specs.paper.Kinds.{operator-number}
 use Rattle.rules.specs.paper.Tree.{Operator, arithmetic, Eq, order, logic, Sum, Sub, Mul, Div, Lt, Le, Gt, Ge, And, Or, Expression}
-use Rattle.rules.specs.claims.Listing.{operator-number}
 use Rattle.reader.specs.Stored.{HasWord, StoredExpression, num, boo, id, deref, valref, binary, negation}
 
 operator-low : (o : Operator) → operator-number o < 64

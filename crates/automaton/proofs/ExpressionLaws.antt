@@ -6,8 +6,9 @@ use mathlib.Core.List.{List, _∷_}
 use native.Mathlib.Omega.{arith}
 use lib.IntN.{pos}
 use lib.ListN.{length, getD}
+use Rattle.rules.specs.paper.Kinds.{operator-number}
 use Rattle.rules.specs.paper.Tree.{Operator, arithmetic, Sum, Sub, Mul, Div, Eq, order, Lt, Le, Gt, Ge, logic, And, Or, Expression, Num, Boo, Binary, Not}
-use Rattle.rules.specs.claims.Listing.{operator-number, truth-word}
+use Rattle.rules.specs.claims.Listing.{truth-word}
 use Rattle.rules.specs.paper.States.{integer, truth, value, operator-mark, not-mark, expression, mark}
 use Rattle.rules.specs.paper.Rules.{Rule, Effect, Table, num, boo, binary, negation}
 use Rattle.rules.specs.paper.Run.{judge}

@@ -5,8 +5,8 @@ use mathlib.Core.Path.{_≡_}
 use mathlib.Core.List.{List, _∷_}
 use native.Mathlib.Omega.{arith}
 use lib.ListN.{length, getD}
+use Rattle.rules.specs.paper.Kinds.{operator-number}
 use Rattle.rules.specs.paper.Tree.{Operator, arithmetic, Eq, order, logic, Sum, Sub, Mul, Div, Lt, Le, Gt, Ge, And, Or, Expression, Formal, Command, Block, Declaration, Ref, Abs}
-use Rattle.rules.specs.claims.Listing.{operator-number}
 use Rattle.rules.specs.paper.States.{Environment, Store, Entry, Item, command, declaration, reference, abstraction}
 use Rattle.reader.specs.Pack.{packed-end}
 use Rattle.reader.specs.Stored.{HasWord, end-is, StoredExpression, num, boo, id, deref, valref, binary, negation, StoredCommand, assign, loop, cseq, block-of, call, StoredBlock, blk, StoredDeclaration, bind, dseq, StoredBound}

@@ -5,8 +5,9 @@ use mathlib.Core.Bool.{Bool, true, false, not}
 use native.Mathlib.Omega.{arith}
 use lib.IntN.{ℤ}
 use lib.Signed.{ltZ}
+use Rattle.rules.specs.paper.Kinds.{operator-number}
 use Rattle.rules.specs.paper.Tree.{Arithmetic, Sum, Sub, Mul, Div, Order, Lt, Le, Gt, Ge, Logic, And, Or, arithmetic, order, logic}
-use Rattle.rules.specs.claims.Listing.{operator-number, truth-word}
+use Rattle.rules.specs.claims.Listing.{truth-word}
 use Rattle.rules.specs.paper.Integers.{compute, compare, combine}
 use Rattle.integers.specs.Words.{computed}
 use Rattle.integers.specs.WordLaws.{compare-lt, compare-le, compare-gt, compare-ge}

@@ -5,8 +5,8 @@ use mathlib.Core.List.{List, [], _∷_}
 use native.Mathlib.Omega.{arith}
 use lib.Dec.{lit<}
 use lib.ListN.{length, getD}
+use Rattle.rules.specs.paper.Kinds.{operator-number}
 use Rattle.rules.specs.paper.Tree.{Operator, arithmetic, Eq, order, logic, Arithmetic, Sum, Sub, Mul, Div, Order, Lt, Le, Gt, Ge, Logic, And, Or, Expression, Formal, Command, Block, Declaration}
-use Rattle.rules.specs.claims.Listing.{operator-number}
 use Rattle.rules.specs.paper.States.{Environment, Store, Entry, Item, Mark, expression, command, declaration, reference, abstraction, mark}
 use Rattle.rules.specs.paper.Rules.{Rule, Effect}
 use Rattle.reader.specs.Pack.{packed-kind}

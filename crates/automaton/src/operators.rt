@@ -1,8 +1,8 @@
 // The rules of the operators' marks.
 ghost use mathlib.Core.Path.{_≡_};
 ghost use Prim.Native.Nat.{_+_, _≤_};
+ghost use Rattle.rules.specs.paper.Kinds.{operator-number};
 ghost use Rattle.rules.specs.paper.Tree.{Arithmetic, Order, Logic, arithmetic, Eq, order, logic};
-ghost use Rattle.rules.specs.claims.Listing.{operator-number};
 ghost use Rattle.rules.specs.paper.Integers.{compute, compare};
 ghost use Rattle.rules.specs.paper.States.{operator-mark, not-mark, mark};
 ghost use Rattle.integers.specs.Words.{integer-of, computed};

@@ -4,9 +4,9 @@ use mathlib.Core.Path.{_≡_, refl, sym, ap, _∙_, subst}
 use mathlib.Core.List.{List}
 use mathlib.Core.Option.{Option, none, some}
 use native.Mathlib.Omega.{arith}
+use Rattle.rules.specs.paper.Kinds.{operator-number}
 use Rattle.rules.specs.paper.Refusals.{refusal-number}
 use Rattle.rules.specs.paper.Tree.{Operator, arithmetic, Sum, Sub, Mul, Div, Eq, order, Lt, Le, Gt, Ge, logic, And, Or}
-use Rattle.rules.specs.claims.Listing.{operator-number}
 use Rattle.rules.specs.paper.Checker.{Meaning, code, function, Scope, meaning-of, bound-name, id-code, deref-code, valref-code, integers-give, equals-give, truths-give, operator-code, truth-only}
 use Rattle.checker.specs.Rows.{ScopeAt}
 use Rattle.checker.specs.Answers.{FoundAs, found-nothing, found-binding, found-register, answer, code-answer, meaning-answer, Numbered, numbered-code, numbered-function}

@@ -7,9 +7,8 @@ use native.Mathlib.Omega.{arith}
 use lib.Dec.{T, ltb→lt, lt→ltb}
 use lib.ListN.{getD}
 use Rattle.rules.specs.proofs.Basics.{true-test, false-test}
-use Rattle.rules.specs.paper.Kinds.{Kind, kind-of, operand-bound, operand-fits, num, boo, id, deref, valref, binary, negation, assign, loop, cseq, blk, call, bind, dseq, expression-kind, command-kind, declaration-kind, ref, abs, formal}
+use Rattle.rules.specs.paper.Kinds.{Kind, kind-of, operand-bound, operand-fits, num, boo, id, deref, valref, binary, negation, assign, loop, cseq, blk, call, bind, dseq, expression-kind, command-kind, declaration-kind, ref, abs, formal, kind-number}
 use Rattle.rules.specs.paper.Tree.{arithmetic, Eq, order, logic, Sum, Sub, Mul, Div, Lt, Le, Gt, Ge, And, Or}
-use Rattle.rules.specs.proofs.reading.ReaderComplete.{kind-number}
 use Rattle.rules.specs.proofs.reading.ReaderNodes.{number-of}
 use Rattle.reader.specs.Scan.{accepts}
 use Rattle.reader.specs.Tables.{want-of, fault-by, fault-of}

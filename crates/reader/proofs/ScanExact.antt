@@ -7,9 +7,9 @@ use lib.Dec.{T, eqb, ltb, ltb→lt}
 use lib.ListN.{length, replicate}
 use Rattle.rules.specs.paper.Tree.{Num, Boo, Id, DeRef, ValRef, Binary, Not, Assign, Loop, CSeq, block, Call, Blk, Bind, DSeq, plain, Ref, Abs, expression, command}
 use Rattle.rules.specs.paper.Limits.{names}
-use Rattle.rules.specs.paper.Kinds.{Kind, ExpressionKind, CommandKind, DeclarationKind, num, boo, id, deref, valref, binary, negation, assign, loop, cseq, blk, call, bind, dseq, expression-kind, command-kind, declaration-kind, ref, abs, formal, operand-fits}
-use Rattle.rules.specs.paper.Reader.{Node, got, then, _>>=_, give, wants-expression, wants-command, wants-declaration, wants-blk, wants-bound, wants-formal, wants-root, BlkKind, blk-kind, BoundKind, plain-kind, ref-kind, abs-kind, FormalKind, formal-kind, RootKind, root-expression, root-command, expression-by, command-by, declaration-by, bound-by, root-by, name-part, upper-part, read-expression, read-many, read-formal, read-command, read-block, read-declaration, read-bound, read-root}
-use Rattle.rules.specs.claims.Listing.{operator-number, truth-word}
+use Rattle.rules.specs.paper.Kinds.{Kind, ExpressionKind, CommandKind, DeclarationKind, num, boo, id, deref, valref, binary, negation, assign, loop, cseq, blk, call, bind, dseq, expression-kind, command-kind, declaration-kind, ref, abs, formal, operand-fits, operator-number, upper-part}
+use Rattle.rules.specs.paper.Reader.{Node, got, then, _>>=_, give, wants-expression, wants-command, wants-declaration, wants-blk, wants-bound, wants-formal, wants-root, BlkKind, blk-kind, BoundKind, plain-kind, ref-kind, abs-kind, FormalKind, formal-kind, RootKind, root-expression, root-command, expression-by, command-by, declaration-by, bound-by, root-by, name-part, read-expression, read-many, read-formal, read-command, read-block, read-declaration, read-bound, read-root}
+use Rattle.rules.specs.claims.Listing.{truth-word}
 use Rattle.reader.specs.Pack.{node-words, expression-words, formal-words, all-words, command-words, block-words, declaration-words, bound-words, root-words}
 use Rattle.reader.specs.Scan.{an-expression, a-command, a-declaration, a-bound, a-formal, a-block, a-root, accepting, scan-list, scan}
 use Rattle.reader.proofs.ScanLaws.{map-got, then-same, then-assoc, then-wrapped, then-same-with, option-map, finish, below, one-child, two-children, no-child, many-same, many-counted, list-append, sorted-same, deep-same}

@@ -10,9 +10,8 @@ use lib.ListN.{length, replicate}
 use Rattle.rules.specs.proofs.Basics.{append-nothing, append-assoc, passed-test}
 use Rattle.rules.specs.paper.Refusals.{Refusal}
 use Rattle.rules.specs.paper.Refusals as Refusals
-use Rattle.rules.specs.paper.Kinds.{Kind, kind-of, operand-fits}
+use Rattle.rules.specs.paper.Kinds.{Kind, kind-of, operand-fits, kind-number}
 use Rattle.rules.specs.paper.Reader.{Node, Got, refused, got, Read, then, _>>=_, give, refuse, Header, or-refuse, node, read-many}
-use Rattle.rules.specs.proofs.reading.ReaderComplete.{kind-number}
 use Rattle.reader.specs.Pack.{node-words, all-words}
 use Rattle.reader.specs.Scan.{Want, accepts, accepting, child-wants, scan-list, scan}
 

@@ -2,9 +2,10 @@
 use Prim.Native.Nat.{ℕ, suc, _+_, _*_, _/_, _%_}
 use mathlib.Core.List.{List, [], _∷_, _++_}
 use lib.ListN.{length}
+use Rattle.rules.specs.paper.Kinds.{operator-number}
 use Rattle.rules.specs.paper.Tree.{Expression, Num, Boo, Id, DeRef, ValRef, Binary, Not, Formal, Command, Assign, Loop, CSeq, block, Call, Block, Blk, Declaration, Bind, DSeq, Bound, plain, Ref, Abs, Root, expression, command}
 use Rattle.rules.specs.paper.Limits.{names}
-use Rattle.rules.specs.claims.Listing.{operator-number, truth-word}
+use Rattle.rules.specs.claims.Listing.{truth-word}
 
 -- kind + 2^6 × end + 2^17 × operand
 abbrev pub pack : (kind operand end : ℕ) → ℕ

@@ -6,9 +6,8 @@ use mathlib.Core.List.{List, [], _∷_, _++_}
 use mathlib.Core.Option.{Option, none, some}
 use lib.ListN.{replicate}
 use Rattle.rules.specs.paper.Refusals as Refusals
-use Rattle.rules.specs.paper.Kinds.{Kind, num, boo, id, deref, valref, binary, negation, assign, loop, cseq, blk, call, bind, dseq, expression-kind, command-kind, declaration-kind, ref, abs, formal}
-use Rattle.rules.specs.paper.Reader.{Read, _>>=_, give, refuse, node, upper-part}
-use Rattle.rules.specs.proofs.reading.ReaderComplete.{kind-number}
+use Rattle.rules.specs.paper.Kinds.{Kind, num, boo, id, deref, valref, binary, negation, assign, loop, cseq, blk, call, bind, dseq, expression-kind, command-kind, declaration-kind, ref, abs, formal, kind-number, upper-part}
+use Rattle.rules.specs.paper.Reader.{Read, _>>=_, give, refuse, node}
 use Rattle.reader.specs.Pack.{node-words}
 
 -- What is wanted where a node stands.

@@ -1,7 +1,7 @@
 -- From the image's words to the tree, or the first shape refusal with its place, in the paper's order ("The image", its last paragraph).
 -- A node's checks are all made before anything of the next node. The recursion runs on the levels of depth that are left,
 -- so it needs no other measure: where no level is left, the answer is refusal 6.
-use Prim.Native.Nat.{ℕ, zero, suc, _+_, _*_, _/_, _%_}
+use Prim.Native.Nat.{ℕ, zero, suc, _+_, _*_, _%_}
 use mathlib.Core.Bool.{Bool, true, false, cond, _&&_}
 use mathlib.Core.List.{List, [], _∷_}
 use mathlib.Core.Option.{Option, none, some}
@@ -11,7 +11,7 @@ use Rattle.rules.specs.paper.Tree.{Expression, Num, Boo, Id, DeRef, ValR
 use Rattle.rules.specs.paper.Refusals.{Refusal}
 use Rattle.rules.specs.paper.Refusals as Refusals
 use Rattle.rules.specs.paper.Limits.{names, most-nodes, most-registers, most-depth}
-use Rattle.rules.specs.paper.Kinds.{Kind, ExpressionKind, CommandKind, DeclarationKind, num, boo, id, deref, valref, binary, negation, assign, loop, cseq, blk, call, bind, dseq, expression-kind, command-kind, declaration-kind, ref, abs, formal, kind-of, operand-fits}
+use Rattle.rules.specs.paper.Kinds.{Kind, ExpressionKind, CommandKind, DeclarationKind, num, boo, id, deref, valref, binary, negation, assign, loop, cseq, blk, call, bind, dseq, expression-kind, command-kind, declaration-kind, ref, abs, formal, upper-part, kind-of, operand-fits}
 
 -- A node as it stands in the image: the words of the two parallel arrays.
 pub record Node : Type 0 where
@@ -139,12 +139,9 @@ node wants i (n ∷ ns) =
     (got (record { place = i; kind = s; operand = n .operand }) (suc i) ns)
     (refused Refusals.Operand i)))
 
--- A name, and a count or a code, in one operand: name + 64 × the other.
+-- The name in an operand that holds a count or a code too (upper-part of Kinds).
 abbrev pub name-part : ℕ → ℕ
 name-part w = w % names
-
-abbrev pub upper-part : ℕ → ℕ
-upper-part w = w / names
 
 -- An expression whose own node is read: its children are read by `child`.
 abbrev pub expression-by : ExpressionKind → (place operand : ℕ) → Read Expression → Read Expression

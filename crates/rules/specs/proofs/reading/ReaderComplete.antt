@@ -10,34 +10,11 @@ use lib.ListN.{length}
 use Rattle.rules.specs.proofs.Basics.{append-assoc, true-test}
 use Rattle.rules.specs.paper.Tree.{Operator, arithmetic, Eq, order, logic, Sum, Sub, Mul, Div, Lt, Le, Gt, Ge, And, Or, Expression, Boo, Formal, Command, block, Block, Declaration, Bound, plain, Root, expression, command}
 use Rattle.rules.specs.paper.Limits.{words, names, codes, most-parameters}
-use Rattle.rules.specs.paper.Kinds.{Kind, ExpressionKind, CommandKind, DeclarationKind, num, boo, id, deref, valref, binary, negation, assign, loop, cseq, blk, call, bind, dseq, expression-kind, command-kind, declaration-kind, ref, abs, formal, kind-of, operand-fits}
-use Rattle.rules.specs.paper.Reader.{Node, Got, refused, got, Read, then, _>>=_, give, Header, node, wants-expression, wants-command, wants-declaration, wants-blk, wants-bound, wants-formal, wants-root, read-expression, read-many, read-formal, read-command, read-block, read-declaration, read-bound, read-root, name-part, upper-part, expression-by, command-by, blk-kind, plain-kind, root-expression, root-command}
-use Rattle.rules.specs.claims.Listing.{a-node, operator-number, truth-word, expression-nodes, formal-nodes, all-nodes, command-nodes, block-nodes, declaration-nodes, bound-nodes, root-nodes}
+use Rattle.rules.specs.paper.Kinds.{Kind, ExpressionKind, CommandKind, DeclarationKind, num, boo, id, deref, valref, binary, negation, assign, loop, cseq, blk, call, bind, dseq, expression-kind, command-kind, declaration-kind, ref, abs, formal, kind-of, operand-fits, operator-number, upper-part, kind-number}
+use Rattle.rules.specs.paper.Reader.{Node, Got, refused, got, Read, then, _>>=_, give, Header, node, wants-expression, wants-command, wants-declaration, wants-blk, wants-bound, wants-formal, wants-root, read-expression, read-many, read-formal, read-command, read-block, read-declaration, read-bound, read-root, name-part, expression-by, command-by, blk-kind, plain-kind, root-expression, root-command}
+use Rattle.rules.specs.claims.Listing.{a-node, truth-word, expression-nodes, formal-nodes, all-nodes, command-nodes, block-nodes, declaration-nodes, bound-nodes, root-nodes}
 use Rattle.rules.specs.claims.Shape.{ShapedExpression, ShapedFormal, Many, none-left, one-more, ShapedCommand, ShapedBlock, ShapedDeclaration, ShapedBound, ShapedRoot}
 use Rattle.rules.specs.claims.Shape as Shape
-
--- The number that the table has for a kind.
-abbrev pub expression-number : ExpressionKind → ℕ
-expression-number num = 1
-expression-number boo = 2
-expression-number id = 3
-expression-number (binary o) = operator-number o
-expression-number negation = 15
-expression-number deref = 16
-expression-number valref = 17
-
-abbrev pub kind-number : Kind → ℕ
-kind-number (expression-kind k) = expression-number k
-kind-number (command-kind assign) = 20
-kind-number (command-kind loop) = 21
-kind-number (command-kind cseq) = 22
-kind-number (command-kind blk) = 23
-kind-number (command-kind call) = 24
-kind-number (declaration-kind bind) = 30
-kind-number (declaration-kind dseq) = 31
-kind-number ref = 40
-kind-number abs = 41
-kind-number formal = 42
 
 operator-known : (o : Operator) → kind-of (operator-number o) ≡ some (expression-kind (binary o))
 unfolding kind-of
@@ -101,7 +78,7 @@ record Opened (d i j : ℕ) (e : Expression) (rest : List Node) : Type 0 where
   kind : ExpressionKind
   operand : ℕ
   children : List Node
-  listed : expression-nodes e ++ rest ≡ a-node (expression-number kind) operand ∷ children
+  listed : expression-nodes e ++ rest ≡ a-node (kind-number (expression-kind kind)) operand ∷ children
   fits : T (operand-fits (expression-kind kind) operand)
   reads : expression-by kind i operand (read-expression levels) (suc i) children ≡ got e j rest
 

@@ -7,10 +7,9 @@ use mathlib.Core.Option.{Option, none, some, Option·some-injective}
 use lib.Dec.{T, eqb, eqb→eq}
 use Rattle.rules.specs.proofs.Basics.{missing, passed-test}
 use Rattle.rules.specs.paper.Refusals.{Refusal}
-use Rattle.rules.specs.paper.Kinds.{Kind, ExpressionKind, CommandKind, DeclarationKind, assign, loop, cseq, blk, call, expression-kind, command-kind, declaration-kind, ref, abs, formal, Row, kinds, kind-in, kind-of, operand-fits}
+use Rattle.rules.specs.paper.Kinds.{Kind, ExpressionKind, CommandKind, DeclarationKind, assign, loop, cseq, blk, call, expression-kind, command-kind, declaration-kind, ref, abs, formal, kind-number, every-kind, kind-in, kind-of, operand-fits}
 use Rattle.rules.specs.paper.Reader.{Node, Got, refused, got, Read, then, Header, node, wants-expression, wants-command, wants-declaration, BlkKind, wants-blk, BoundKind, plain-kind, ref-kind, abs-kind, wants-bound, FormalKind, wants-formal, RootKind, root-expression, root-command, wants-root, or-refuse}
 use Rattle.rules.specs.claims.Listing.{a-node}
-use Rattle.rules.specs.proofs.reading.ReaderComplete.{kind-number}
 
 -- What is asked for holds of the answer, if there is one.
 abbrev pub Answers : {A : Type 0} → (A → ℕ → List Node → Type 0) → Got A → Type 0
@@ -24,77 +23,18 @@ then-answers P Q (got a j rest) f h k = k a j rest h
 
 -- ---- The table of kinds, from a number to its kind and back.
 
-abbrev pub Numbered : List Row → Type 0
-Numbered [] = Unit {0}
-Numbered (r ∷ rs) = (kind-number (r .kind) ≡ r .number) × Numbered rs
-
-numbered : Numbered kinds
-unfolding kinds
-numbered = (
-  refl,
-  (
-    refl,
-    (
-      refl,
-      (
-        refl,
-        (
-          refl,
-          (
-            refl,
-            (
-              refl,
-              (
-                refl,
-                (
-                  refl,
-                  (
-                    refl,
-                    (
-                      refl,
-                      (
-                        refl,
-                        (
-                          refl,
-                          (
-                            refl,
-                            (
-                              refl,
-                              (
-                                refl,
-                                (
-                                  refl,
-                                  (refl, (refl, (refl, (refl, (refl, (refl, (refl, (refl, (refl, (refl, tt)))))))))),
-                                ),
-                              ),
-                            ),
-                          ),
-                        ),
-                      ),
-                    ),
-                  ),
-                ),
-              ),
-            ),
-          ),
-        ),
-      ),
-    ),
-  ),
-)
-
-found-in : (rs : List Row) (w : ℕ) (k : Kind) → Numbered rs → kind-in rs w ≡ some k → kind-number k ≡ w
+found-in : (ks : List Kind) (w : ℕ) (k : Kind) → kind-in ks w ≡ some k → kind-number k ≡ w
 unfolding kind-in
-found-in [] w k h q = missing q
-found-in (r ∷ rs) w k h q = choose (eqb (r .number) w) refl q (found-in rs w k (h .1))
+found-in [] w k q = missing q
+found-in (h ∷ ks) w k q = choose (eqb (kind-number h) w) refl q (found-in ks w k)
   where
-    choose : (t : Bool) → eqb (r .number) w ≡ t → cond t (some (r .kind)) (kind-in rs w) ≡ some k → (kind-in rs w ≡ some k → kind-number k ≡ w) → kind-number k ≡ w
-    choose true t p later = ap kind-number (sym (Option·some-injective (r .kind) k p)) ∙ h .0 ∙ eqb→eq (r .number) w (passed-test t)
+    choose : (t : Bool) → eqb (kind-number h) w ≡ t → cond t (some h) (kind-in ks w) ≡ some k → (kind-in ks w ≡ some k → kind-number k ≡ w) → kind-number k ≡ w
+    choose true t p later = ap kind-number (sym (Option·some-injective h k p)) ∙ eqb→eq (kind-number h) w (passed-test t)
     choose false t p later = later p
 
 pub number-of : (w : ℕ) (k : Kind) → kind-of w ≡ some k → kind-number k ≡ w
 unfolding kind-of
-number-of w k q = found-in kinds w k numbered q
+number-of w k q = found-in every-kind w k q
 
 -- A node that is read, and what follows it.
 or-refuse-then : {A B C : Type 0} (r : Refusal) (p : ℕ) (o : Option A) (g : A → Got B) (f : B → Read C) (Q : C → ℕ → List Node → Type 0) →

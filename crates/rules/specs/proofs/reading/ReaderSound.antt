@@ -8,12 +8,11 @@ use lib.ListN.{length}
 use Rattle.rules.specs.proofs.Basics.{append-assoc}
 use Rattle.rules.specs.paper.Tree.{Expression, Formal, Command, Block, Blk, Declaration, Bound, Root}
 use Rattle.rules.specs.paper.Limits.{words, names, codes, most-parameters}
-use Rattle.rules.specs.paper.Kinds.{ExpressionKind, CommandKind, DeclarationKind, num, boo, id, deref, valref, binary, negation, assign, loop, cseq, blk, call, bind, dseq, expression-kind, command-kind, declaration-kind, ref, abs, formal, operand-fits}
-use Rattle.rules.specs.paper.Reader.{Node, Read, then, _>>=_, give, node, wants-expression, wants-command, wants-declaration, wants-blk, BoundKind, plain-kind, ref-kind, abs-kind, wants-bound, wants-formal, RootKind, root-expression, root-command, wants-root, name-part, upper-part, expression-by, command-by, declaration-by, bound-by, root-by, read-expression, read-many, read-formal, read-command, read-block, read-declaration, read-bound, read-root}
-use Rattle.rules.specs.claims.Listing.{a-node, operator-number, truth-word, expression-nodes, formal-nodes, all-nodes, command-nodes, block-nodes, declaration-nodes, bound-nodes, root-nodes}
+use Rattle.rules.specs.paper.Kinds.{ExpressionKind, CommandKind, DeclarationKind, num, boo, id, deref, valref, binary, negation, assign, loop, cseq, blk, call, bind, dseq, expression-kind, command-kind, declaration-kind, ref, abs, formal, operand-fits, operator-number, kind-number, upper-part}
+use Rattle.rules.specs.paper.Reader.{Node, Read, then, _>>=_, give, node, wants-expression, wants-command, wants-declaration, wants-blk, BoundKind, plain-kind, ref-kind, abs-kind, wants-bound, wants-formal, RootKind, root-expression, root-command, wants-root, name-part, expression-by, command-by, declaration-by, bound-by, root-by, read-expression, read-many, read-formal, read-command, read-block, read-declaration, read-bound, read-root}
+use Rattle.rules.specs.claims.Listing.{a-node, truth-word, expression-nodes, formal-nodes, all-nodes, command-nodes, block-nodes, declaration-nodes, bound-nodes, root-nodes}
 use Rattle.rules.specs.claims.Shape.{ShapedExpression, ShapedFormal, Many, none-left, one-more, ShapedCommand, ShapedBlock, ShapedDeclaration, ShapedBound, ShapedRoot}
 use Rattle.rules.specs.claims.Shape as Shape
-use Rattle.rules.specs.proofs.reading.ReaderComplete.{expression-number, kind-number}
 use Rattle.rules.specs.proofs.reading.ReaderNodes.{Answers, then-answers, is-expression, is-command, is-declaration, is-blk, is-formal, kind-of-bound, is-bound, kind-of-root, is-root, sorted-then}
 
 -- ---- What was read, as a listing.
@@ -41,7 +40,7 @@ abbrev ExpressionRead : (d i : ℕ) → List Node → Expression → ℕ → Lis
 ExpressionRead d i ns e j rest = ShapedExpression d i j e × (ns ≡ expression-nodes e ++ rest)
 
 expression-by-answers : (d i : ℕ) (ns : List Node) → ((j : ℕ) (ms : List Node) → Answers (ExpressionRead d j ms) (read-expression d j ms)) →
-    (k : ExpressionKind) (w : ℕ) (rest : List Node) → T (operand-fits (expression-kind k) w) → ns ≡ a-node (expression-number k) w ∷ rest →
+    (k : ExpressionKind) (w : ℕ) (rest : List Node) → T (operand-fits (expression-kind k) w) → ns ≡ a-node (kind-number (expression-kind k)) w ∷ rest →
     Answers (ExpressionRead (suc d) i ns) (expression-by k i w (read-expression d) (suc i) rest)
 unfolding operand-fits expression-nodes
 expression-by-answers d i ns child num w rest t q = (Shape.num (ltb→lt w words t), q)
