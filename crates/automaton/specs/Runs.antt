@@ -7,9 +7,9 @@ use Rattle.rules.specs.paper.Refusals.{Reason, reason-number}
 use Rattle.rules.specs.paper.States.{Environment, Store, Entry, Item, State, state}
 use Rattle.rules.specs.paper.Rules.{Rule, Effect, Table}
 use Rattle.rules.specs.paper.Run.{judge, Ending, ended, stopped, lost}
-use Rattle.automaton.specs.Steps.{Stands, Holds, Untouched, StepAnswer, AtExtendMark}
-use Rattle.automaton.specs.declared.machine.Machine.{Machine}
-use Rattle.automaton.specs.declared.machine.Stepped.{Stepped}
+use Rattle.machine.specs.Steps.{Stands, Holds, Untouched, StepAnswer, AtExtendMark}
+use Rattle.machine.specs.declared.Machine.{Machine}
+use Rattle.machine.specs.declared.Stepped.{Stepped}
 use Rattle.automaton.specs.declared.Ending as Endings
 use Rattle.automaton.specs.declared.Ending.the-variants.{Ended, Stopped}
 

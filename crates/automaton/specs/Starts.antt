@@ -7,8 +7,8 @@ use Rattle.rules.specs.paper.Engine.{start}
 use Rattle.rules.specs.claims.Listing.{truth-word}
 use Rattle.rules.specs.paper.States.{Value, integer, truth, location, Environment, Store, Entry, val, Item}
 use Rattle.integers.specs.Words.{word-of, integers-of}
-use Rattle.automaton.specs.Steps.{Stands, Holds, Untouched}
-use Rattle.automaton.specs.declared.machine.Machine.{Machine}
+use Rattle.machine.specs.Steps.{Stands, Holds, Untouched}
+use Rattle.machine.specs.declared.Machine.{Machine}
 
 -- The machine holds the start of the tree's run, with these words in the registers.
 pub record StartsAt (t : Root) (registers : List ℕ) (m : Machine) (before after : List ℕ) : Type 0 where

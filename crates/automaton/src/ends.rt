@@ -7,9 +7,9 @@ ghost use Rattle.rules.specs.paper.States.{Value, Item, Entry, Environment, Sto
 ghost use Rattle.rules.specs.claims.Ends.{RegisterHolds};
 ghost use Rattle.rules.specs.paper.Engine.{registers-from};
 ghost use Rattle.integers.specs.Words.{words-of};
-ghost use Rattle.automaton.specs.Steps.{Stands, Holds};
+ghost use Rattle.machine.specs.Steps.{Stands, Holds};
 ghost use Rattle.automaton.specs.Starts.{value-word, ValueLeft};
-use crate::machine::Machine;
+use machine::Machine;
 
 // The registers are the contents of the first cells.
 pub fn take_registers(work: &[u64], registers: &mut [u64])

@@ -1,13 +1,6 @@
 // The automaton: one step, and the run.
-mod commands;
-mod declarations;
 pub mod ends;
-mod expressions;
-mod frames;
-pub mod machine;
 mod marks;
-mod operators;
-mod shared;
 pub mod start;
 
 ghost use mathlib.Core.Path.{_≡_};
@@ -19,15 +12,15 @@ ghost use Rattle.rules.specs.paper.Rules.{Rule, Effect, Table};
 ghost use Rattle.rules.specs.claims.History.{History};
 ghost use Rattle.rules.specs.proofs.running.Continuation.{Invariant};
 ghost use Rattle.rules.specs.paper.Run.{run, judge};
-ghost use Rattle.automaton.specs.Steps.{Holds};
+ghost use Rattle.machine.specs.Steps.{Holds};
 ghost use Rattle.automaton.specs.Runs.{Enabled, StepsFrom, RunAnswer};
-use crate::commands::command_rule;
-use crate::declarations::close;
-use crate::declarations::declaration_rule;
-use crate::declarations::make_cell;
-use crate::expressions::expression_rule;
-use crate::machine::Machine;
-use crate::machine::Stepped;
+use commands::nodes::command_rule;
+use commands::declarations::close;
+use commands::declarations::declaration_rule;
+use commands::declarations::make_cell;
+use expressions::nodes::expression_rule;
+use machine::Machine;
+use machine::Stepped;
 use crate::marks::mark_rule;
 use reader::kind;
 

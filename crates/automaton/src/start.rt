@@ -4,10 +4,10 @@ ghost use lib.ListN.{length};
 ghost use Rattle.rules.specs.paper.Tree.{Root};
 ghost use Rattle.reader.specs.Stored.{RootAt};
 ghost use Rattle.automaton.specs.Starts.{StartsAt};
-use crate::machine::Machine;
-use crate::machine::put_cell;
-use crate::machine::put_control;
-use crate::machine::put_row;
+use machine::Machine;
+use machine::memory::put_cell;
+use machine::memory::put_control;
+use machine::memory::put_row;
 
 // The root on control, and a cell and a name for each register.
 pub fn start(work: &mut [u64], registers: &[u64]) -> Machine

@@ -17,10 +17,10 @@ use Rattle.rules.specs.paper.Engine.{check-image, passed, start, registers-from
 use Rattle.rules.specs.proofs.checking.ImageExact.{check-exact}
 use Rattle.integers.specs.Words.{integers-of, words-of}
 use Rattle.integers.specs.WordLaws.{integers-length}
-use Rattle.automaton.specs.Steps.{Holds, Untouched}
+use Rattle.machine.specs.Steps.{Holds, Untouched}
 use Rattle.automaton.specs.Runs.{RunAnswer}
 use Rattle.automaton.specs.Starts.{StartsAt}
-use Rattle.automaton.specs.declared.machine.Machine.{Machine}
+use Rattle.machine.specs.declared.Machine.{Machine}
 use Rattle.automaton.specs.declared.Ending as Endings
 use Rattle.reader.specs.Put.{KeptBeyond}
 use Rattle.engine.specs.Delivered.{all-in-range}

@@ -16,9 +16,9 @@ use Rattle.rules.specs.paper.Run.{Ending, ended, stopped, lost, run}
 use Rattle.rules.specs.claims.Ends.{EndsWell, normally, withheld-for}
 use Rattle.rules.specs.paper.Engine.{check-image, passed, start, registers-from, outcome, outcome-of, outcome-of-value, finish}
 use Rattle.integers.specs.Words.{integers-of, words-of}
-use Rattle.automaton.specs.Steps.{Stands, Holds}
+use Rattle.machine.specs.Steps.{Stands, Holds}
 use Rattle.automaton.specs.Starts.{value-word}
-use Rattle.automaton.specs.declared.machine.Machine.{Machine}
+use Rattle.machine.specs.declared.Machine.{Machine}
 use Rattle.automaton.specs.declared.Ending as Endings
 use Rattle.automaton.specs.declared.Ending.the-variants.{Ended, Stopped}
 use Rattle.reader.specs.Put.{KeptBeyond}

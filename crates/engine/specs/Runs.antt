@@ -11,8 +11,8 @@ use Rattle.rules.specs.paper.States.{Value, integer, truth, location, Environme
 use Rattle.rules.specs.paper.Run.{Ending, ended, stopped, lost, run}
 use Rattle.rules.specs.paper.Engine.{Outcome, number, truth-of, cell, nothing, Answer, outcome, refused, Reply, registers-from, Called, finish, start}
 use Rattle.integers.specs.Words.{word-of, integers-of, words-of}
-use Rattle.automaton.specs.Steps.{Stands, Holds}
-use Rattle.automaton.specs.declared.machine.Machine.{Machine}
+use Rattle.machine.specs.Steps.{Stands, Holds}
+use Rattle.machine.specs.declared.Machine.{Machine}
 use Rattle.automaton.specs.declared.Ending as Endings
 use Rattle.automaton.specs.declared.Ending.the-variants.{Ended, Stopped}
 use Rattle.reader.specs.Put.{KeptBeyond}

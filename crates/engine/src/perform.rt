@@ -17,7 +17,7 @@ use crate::examine;
 use automaton::Ending;
 use automaton::ends::take_registers;
 use automaton::ends::value_left;
-use automaton::machine::Machine;
+use machine::Machine;
 use automaton::start::start;
 
 // The tree that stands in the work words is run from the registers, which take what it leaves in them.

@@ -9,9 +9,9 @@ use Rattle.rules.specs.paper.Checker.{Passed}
 use Rattle.rules.specs.paper.States.{State}
 use Rattle.rules.specs.claims.History.{History}
 use Rattle.rules.specs.proofs.running.Continuation.{Invariant}
-use Rattle.automaton.specs.Steps.{Holds}
-use Rattle.automaton.specs.declared.machine.Machine.{Machine}
-use Rattle.automaton.proofs.RunLaws.{Reached, at-start, enabled-here, ends-here, spent-here, goes-round, stops-here}
+use Rattle.machine.specs.Steps.{Holds}
+use Rattle.machine.specs.declared.Machine.{Machine}
+use Rattle.automaton.proofs.run_laws.RunLaws.{Reached, at-start, enabled-here, ends-here, spent-here, goes-round, stops-here}
 use Rattle.automaton.proofs.run.Statement.{statement}
 use Rattle.automaton.proofs.run.Tie as tie
 use Rattle.automaton.proofs.run.Reads as reads

@@ -7,19 +7,19 @@ use denote.Ref.{now}
 use lib.ListN.{getD}
 use Rattle.rules.specs.paper.Tree.{Expression, Formal, Command, Block, Declaration}
 use Rattle.rules.specs.paper.States.{Mark, expression, command, declaration, reference, abstraction, mark}
-use Rattle.automaton.specs.Steps.{Applicable, Steps}
-use Rattle.automaton.proofs.StepLaws.{lowered, some-control}
-use Rattle.automaton.proofs.DispatchLaws.{select-mark, select-expression, select-command, select-declaration, select-reference, select-abstraction, applicable, answered}
+use Rattle.machine.specs.Steps.{Applicable, Steps}
+use Rattle.automaton.proofs.step_laws.StepLaws.{lowered, some-control}
+use Rattle.automaton.proofs.step_laws.DispatchLaws.{select-mark, select-expression, select-command, select-declaration, select-reference, select-abstraction, applicable, answered}
 use borrow.Author.Needs.{needs}
 use Rattle.automaton.proofs.step.Statement.{statement}
 use Rattle.automaton.proofs.step.Tie as tie
 use Rattle.automaton.proofs.step.Reads as reads
 use Rattle.automaton.proofs.step.Lts as lts
-use Rattle.automaton.proofs.declarations.close.Reads as close-reads
-use Rattle.automaton.proofs.commands.command_rule.Reads as command-rule-reads
-use Rattle.automaton.proofs.declarations.declaration_rule.Reads as declaration-rule-reads
-use Rattle.automaton.proofs.expressions.expression_rule.Reads as expression-rule-reads
-use Rattle.automaton.proofs.declarations.make_cell.Reads as make-cell-reads
+use Rattle.commands.proofs.declarations.close.Reads as close-reads
+use Rattle.commands.proofs.nodes.command_rule.Reads as command-rule-reads
+use Rattle.commands.proofs.declarations.declaration_rule.Reads as declaration-rule-reads
+use Rattle.expressions.proofs.nodes.expression_rule.Reads as expression-rule-reads
+use Rattle.commands.proofs.declarations.make_cell.Reads as make-cell-reads
 use Rattle.automaton.proofs.marks.mark_rule.Reads as mark-rule-reads
 use Rattle.reader.proofs.kind.Reads as kind-reads
 

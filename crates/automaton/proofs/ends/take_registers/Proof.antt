@@ -7,8 +7,8 @@ use denote.Ref.{now}
 use borrow.Author.Needs.{needs}
 use lib.ListN.{length, getD, set, drop, length-drop}
 use lib.Seq.{paste, paste-zero, getD-drop}
-use Rattle.automaton.proofs.ResultLaws.{registers-taken}
-use Rattle.automaton.proofs.CopyLaws.{copy-next, copy-length, copy-end}
+use Rattle.automaton.proofs.run_laws.ResultLaws.{registers-taken}
+use Rattle.automaton.proofs.run_laws.CopyLaws.{copy-next, copy-length, copy-end}
 use Rattle.automaton.proofs.ends.take_registers.Statement.{statement}
 use Rattle.automaton.proofs.ends.take_registers.Tie as tie
 use Rattle.automaton.proofs.ends.take_registers.Reads as reads

@@ -1,6 +1,6 @@
 -- value_left: the top of the value stack.
 use denote.Ref.{now}
-use Rattle.automaton.proofs.ResultLaws.{left-top}
+use Rattle.automaton.proofs.run_laws.ResultLaws.{left-top}
 use borrow.Author.Needs.{needs}
 use Rattle.automaton.proofs.ends.value_left.Statement.{statement}
 use Rattle.automaton.proofs.ends.value_left.Tie as tie

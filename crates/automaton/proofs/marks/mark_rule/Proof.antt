@@ -2,25 +2,25 @@
 use mathlib.Core.Path.{ap}
 use Rattle.rules.specs.paper.Tree.{Eq}
 use Rattle.rules.specs.paper.States.{operator-mark, not-mark, assign-mark, loop-mark, ref-mark, bind-mark, dseq-mark, extend-mark}
-use Rattle.automaton.proofs.MarkRuleLaws.{arm-of, on-equal, on-not, on-assign, on-loop, on-extend, on-bind, on-dseq, on-ref, is-arithmetic, is-order, is-logic, is-ref, plain-needs, arithmetic-needs, order-needs, logic-needs, leave-needs, call-needs, plain-steps, arithmetic-steps, order-steps, logic-steps, leave-steps, call-steps}
+use Rattle.automaton.proofs.step_laws.MarkRuleLaws.{arm-of, on-equal, on-not, on-assign, on-loop, on-extend, on-bind, on-dseq, on-ref, is-arithmetic, is-order, is-logic, is-ref, plain-needs, arithmetic-needs, order-needs, logic-needs, leave-needs, call-needs, plain-steps, arithmetic-steps, order-steps, logic-steps, leave-steps, call-steps}
 use borrow.Author.Needs.{needs}
 use Rattle.automaton.proofs.marks.mark_rule.Statement.{statement}
 use Rattle.automaton.proofs.marks.mark_rule.Tie as tie
 use Rattle.automaton.proofs.marks.mark_rule.Reads as reads
 use Rattle.automaton.proofs.marks.mark_rule.Lts as lts
-use Rattle.automaton.proofs.frames.bind_mark.Reads as bind-mark-reads
-use Rattle.automaton.proofs.frames.call_mark.Reads as call-mark-reads
-use Rattle.automaton.proofs.frames.dseq_mark.Reads as dseq-mark-reads
-use Rattle.automaton.proofs.frames.extend_mark.Reads as extend-mark-reads
-use Rattle.automaton.proofs.frames.leave_mark.Reads as leave-mark-reads
-use Rattle.automaton.proofs.marks.assign_mark.Reads as assign-mark-reads
-use Rattle.automaton.proofs.marks.loop_mark.Reads as loop-mark-reads
-use Rattle.automaton.proofs.marks.ref_mark.Reads as ref-mark-reads
-use Rattle.automaton.proofs.operators.arithmetic_mark.Reads as arithmetic-mark-reads
-use Rattle.automaton.proofs.operators.equal_mark.Reads as equal-mark-reads
-use Rattle.automaton.proofs.operators.logic_mark.Reads as logic-mark-reads
-use Rattle.automaton.proofs.operators.not_mark.Reads as not-mark-reads
-use Rattle.automaton.proofs.operators.order_mark.Reads as order-mark-reads
+use Rattle.commands.proofs.frames.bind_mark.Reads as bind-mark-reads
+use Rattle.commands.proofs.frames.call_mark.Reads as call-mark-reads
+use Rattle.commands.proofs.frames.dseq_mark.Reads as dseq-mark-reads
+use Rattle.commands.proofs.frames.extend_mark.Reads as extend-mark-reads
+use Rattle.commands.proofs.frames.leave_mark.Reads as leave-mark-reads
+use Rattle.commands.proofs.marks.assign_mark.Reads as assign-mark-reads
+use Rattle.commands.proofs.marks.loop_mark.Reads as loop-mark-reads
+use Rattle.commands.proofs.marks.ref_mark.Reads as ref-mark-reads
+use Rattle.expressions.proofs.marks.arithmetic_mark.Reads as arithmetic-mark-reads
+use Rattle.expressions.proofs.marks.equal_mark.Reads as equal-mark-reads
+use Rattle.expressions.proofs.marks.logic_mark.Reads as logic-mark-reads
+use Rattle.expressions.proofs.marks.not_mark.Reads as not-mark-reads
+use Rattle.expressions.proofs.marks.order_mark.Reads as order-mark-reads
 
 arithmetic-mark-requires : tie.Need-arithmetic-mark-requires
 arithmetic-mark-requires c κs = arithmetic-needs _ _ _ (c .before .before .before .pre) (is-arithmetic _ (c .before .if1 .taken))

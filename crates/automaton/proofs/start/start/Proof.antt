@@ -6,15 +6,15 @@ use native.Mathlib.Omega.{arith}
 use denote.Ref.{now}
 use borrow.Author.Needs.{needs}
 use lib.ListN.{length, getD}
-use Rattle.automaton.specs.Regions.{regions}
-use Rattle.automaton.proofs.StartLaws.{RegistersSet, none-set, row-fits, one-set, ready, ready-fits, started}
+use Rattle.machine.specs.Regions.{regions}
+use Rattle.automaton.proofs.run_laws.StartLaws.{RegistersSet, none-set, row-fits, one-set, ready, ready-fits, started}
 use Rattle.automaton.proofs.start.start.Statement.{statement}
 use Rattle.automaton.proofs.start.start.Tie as tie
 use Rattle.automaton.proofs.start.start.Reads as reads
 use Rattle.automaton.proofs.start.start.Lts as lts
-use Rattle.automaton.proofs.machine.put_cell.Reads as put-cell-reads
-use Rattle.automaton.proofs.machine.put_control.Reads as put-control-reads
-use Rattle.automaton.proofs.machine.put_row.Reads as put-row-reads
+use Rattle.machine.proofs.memory.put_cell.Reads as put-cell-reads
+use Rattle.machine.proofs.memory.put_control.Reads as put-control-reads
+use Rattle.machine.proofs.memory.put_row.Reads as put-row-reads
 
 abbrev Inv-loop : tie.InvT-loop
 Inv-loop work₀ registers m₀ i₀ work m i = (i ≤ length registers) × RegistersSet work₀ registers work m i

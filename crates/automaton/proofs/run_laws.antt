@@ -1,0 +1,4 @@
+pub mod RunLaws
+pub mod StartLaws
+pub mod ResultLaws
+pub mod CopyLaws

@@ -1,0 +1,175 @@
+-- The start of a run: the registers' rows and cells, one by one, and the root on control.
+use Prim.Native.Nat.{ℕ, zero, suc, _+_, _*_, _<_, _≤_}
+use mathlib.Core.Path.{_≡_, refl, sym, ap, _∙_, subst}
+use mathlib.Core.Bool.{true}
+use mathlib.Core.List.{List, [], _∷_}
+use mathlib.Core.Option.{some}
+use native.Mathlib.Omega.{arith}
+use lib.Dec.{eqb, eqb-refl}
+use lib.IntN.{ℤ, pos}
+use lib.ListN.{length, getD, take, drop}
+use lib.Seq.{getD-take}
+use Rattle.rules.specs.proofs.Basics.{true-test}
+use Rattle.rules.specs.paper.Tree.{Root, expression, command}
+use Rattle.rules.specs.paper.States.{value, location, bound}
+use Rattle.rules.specs.paper.Engine.{register-environment, register-store, root-item, start}
+use Rattle.reader.specs.Stored.{StoredRoot, root-expression, root-command, RootAt}
+use Rattle.reader.specs.StoredLaws.{same-expression, same-command}
+use Rattle.integers.specs.Words.{integer-of, integers-of}
+use Rattle.integers.specs.WordLaws.{integers-at}
+use Rattle.machine.specs.Regions.{stack, Slot, slot, slots, slot-at, Regions, regions, Fits, with-control, with-row, with-cells, raised-control, raised-rows, raised-cells}
+use Rattle.machine.specs.Represents.{ValueAs, integer-as, location-as, SegmentAs, no-row, one-row, value-as, StoreAs, no-cell, one-cell, Since, none-since, running, ControlAs, nothing-left, expression-on, command-on, nothing-on, Models, link}
+use Rattle.machine.specs.Steps.{Stands, Holds, Untouched}
+use Rattle.automaton.specs.Starts.{StartsAt}
+use Rattle.machine.specs.declared.Machine.{Machine}
+use Rattle.machine.proofs.memory_laws.RegionLaws.{slots-length}
+use Rattle.machine.proofs.memory_laws.EnvironmentLaws.{segment-new, segment-low}
+use Rattle.machine.proofs.state_laws.ModelLaws.{fits-still}
+
+-- A machine with nothing but the rows and cells of this many registers.
+abbrev pub with-registers : ℕ → Machine
+with-registers i = record { control = 0; values = 0; environment = 0; declared = 0; cells = i; base = 0; bindings = i }
+
+-- The first so many registers have their rows and cells.
+pub record RegistersSet (before : List ℕ) (registers : List ℕ) (words : List ℕ) (m : Machine) (i : ℕ) : Type 0 where
+  pub machine-is : m ≡ with-registers i
+  pub fits : Fits words m
+  pub names-as : (nodes : List ℕ) → SegmentAs nodes (regions words m .rows) i 0 (register-environment i)
+  pub cells-as : StoreAs (regions words m .cells) (register-store i (integers-of registers))
+  pub same-nodes : regions words m .nodes ≡ take 2000 before
+  pub same-beyond : regions words m .beyond ≡ drop 8192 before
+  pub same-size : regions words m .size ≡ length before
+
+pub none-set : (before registers : List ℕ) → 8192 ≤ length before → RegistersSet before registers before (with-registers 0) 0
+unfolding regions register-environment register-store slots
+none-set before registers h =
+    record {
+      machine-is = refl;
+      fits = record { room = h; few-control = omega arith; few-values = omega arith; few-bindings = omega arith; few-cells = omega arith };
+      names-as = λ nodes. no-row;
+      cells-as = no-cell;
+      same-nodes = refl;
+      same-beyond = refl;
+      same-size = refl;
+    }
+
+rows-height : (words : List ℕ) (m : Machine) → length (regions words m .rows) ≡ m .bindings
+unfolding regions
+rows-height words m = slots-length 3584 4096 (m .bindings) words
+
+cells-height : (words : List ℕ) (m : Machine) → length (regions words m .cells) ≡ m .cells
+unfolding regions
+cells-height words m = slots-length 4864 4608 (m .cells) words
+
+pub row-fits : (words : List ℕ) (m : Machine) (after : List ℕ) (r : Machine) {s : Slot} → Fits words m → m .bindings < 512 → r ≡ raised-rows m → regions after (raised-rows m) ≡ with-row s (regions words m) → Fits after r
+row-fits words m after r f low q e =
+    subst (Fits after) (sym q)
+    (fits-still words after m (raised-rows m) f (ap (λ κ. κ .size) e) (f .few-control) (f .few-values) (omega (arith, low)) (f .few-cells))
+
+-- One register more: its name is bound to its cell's location.
+module _ (before registers words named after : List ℕ) (m r s : Machine) (i : ℕ) (so-far : RegistersSet before registers words m i) (some-left : i < length registers) (few : length registers ≤ 16)
+    (low : getD registers i 0 < 18446744073709551616)
+    (row-is : r ≡ raised-rows m) (rows-are : regions named (raised-rows m) ≡ with-row (slot (64 + 129 * i) i) (regions words m))
+    (cell-is : s ≡ raised-cells r) (cells-are : regions after (raised-cells r) ≡ with-cells (slot 0 (getD registers i 0) ∷ regions named r .cells) (regions named r)) where
+  all : regions after s ≡ with-cells (slot 0 (getD registers i 0) ∷ regions words m .cells) (with-row (slot (64 + 129 * i) i) (regions words m))
+  all = ap (regions after) cell-is ∙ cells-are ∙ ap (λ κ. with-cells (slot 0 (getD registers i 0) ∷ κ .cells) κ) (ap (regions named) row-is ∙ rows-are)
+
+  machine : s ≡ with-registers (i + 1)
+  machine = cell-is ∙ ap raised-cells (row-is ∙ ap raised-rows (so-far .machine-is))
+
+  bindings-are : m .bindings ≡ i
+  bindings-are = ap (λ k. k .bindings) (so-far .machine-is)
+
+  cells-so-far : m .cells ≡ i
+  cells-so-far = ap (λ k. k .cells) (so-far .machine-is)
+
+  names : (nodes : List ℕ) → SegmentAs nodes (slot (64 + 129 * i) i ∷ regions words m .rows) (suc i) 0 (register-environment (suc i))
+  unfolding register-environment
+  names nodes =
+      segment-new (suc i) (64 + 129 * i) (ap suc (sym bindings-are ∙ sym (rows-height words m))) (packed i) (omega (arith, some-left, few)) (omega arith) (omega (arith, rows-height words m, bindings-are))
+      (value-as location-as) (so-far .names-as nodes)
+    where
+      packed : (i : ℕ) → 64 + 129 * i ≡ link i 1 i
+      packed i = omega arith
+
+  stored : StoreAs (slot 0 (getD registers i 0) ∷ regions words m .cells) (register-store (suc i) (integers-of registers))
+  unfolding register-store
+  stored = one-cell (sym cells-so-far ∙ sym (cells-height words m)) (integer-as (integers-at registers i some-left) low) (so-far .cells-as)
+
+  one-more : (i : ℕ) → suc i ≡ i + 1
+  one-more i = omega arith
+
+  pub one-set : RegistersSet before registers after s (i + 1)
+  one-set =
+      record {
+        machine-is = machine;
+        fits =
+            fits-still words after m s (so-far .fits) (ap (λ κ. κ .size) all) (omega (arith, ap (λ k. k .control) machine)) (omega (arith, ap (λ k. k .values) machine))
+            (omega (arith, ap (λ k. k .bindings) machine, some-left, few)) (omega (arith, ap (λ k. k .cells) machine, some-left, few));
+        names-as = λ nodes. subst (λ k. SegmentAs nodes (regions after s .rows) k 0 (register-environment k)) (one-more i) (subst (λ κ. SegmentAs nodes (κ .rows) (suc i) 0 (register-environment (suc i))) (sym all) (names nodes));
+        cells-as = subst (λ k. StoreAs (regions after s .cells) (register-store k (integers-of registers))) (one-more i) (subst (λ κ. StoreAs (κ .cells) (register-store (suc i) (integers-of registers))) (sym all) stored);
+        same-nodes = ap (λ κ. κ .nodes) all ∙ so-far .same-nodes;
+        same-beyond = ap (λ κ. κ .beyond) all ∙ so-far .same-beyond;
+        same-size = ap (λ κ. κ .size) all ∙ so-far .same-size;
+      }
+
+-- ---- The root on control.
+
+abbrev pub ready : ℕ → Machine
+ready i = record { control = 0; values = 0; environment = i; declared = i; cells = i; base = i; bindings = i }
+
+pub ready-fits : (before registers words : List ℕ) (m : Machine) (i : ℕ) → RegistersSet before registers words m i → Fits words (ready i)
+ready-fits before registers words m i so-far =
+    let f = subst (Fits words) (so-far .machine-is) (so-far .fits) in
+    record { room = f .room; few-control = omega arith; few-values = omega arith; few-bindings = f .few-bindings; few-cells = f .few-cells }
+
+root-on : (nodes : List ℕ) (t : Root) {d j : ℕ} → StoredRoot nodes d 0 j t → ControlAs nodes (running []) (0 ∷ []) (root-item t ∷ [])
+root-on nodes (expression e) (root-expression h) = expression-on h nothing-left
+root-on nodes (command c) (root-command h) = command-on h nothing-left
+
+in-nodes : (before : List ℕ) (t : Root) {d j : ℕ} → StoredRoot before d 0 j t → StoredRoot (take 2000 before) d 0 j t
+in-nodes before (expression e) (root-expression h) = root-expression (same-expression before (take 2000 before) (λ i l. getD-take 2000 before i 0 l) h)
+in-nodes before (command c) (root-command h) = root-command (same-command before (take 2000 before) (λ i l. getD-take 2000 before i 0 l) h)
+
+module _ (before registers words after : List ℕ) (m r : Machine) (i : ℕ) (so-far : RegistersSet before registers words m i) (all-set : i ≡ length registers)
+    (control-is : r ≡ raised-control (ready i)) (control-are : regions after (raised-control (ready i)) ≡ with-control 0 (regions words (ready i))) (t : Root) (stands : RootAt before t) where
+  regions-ready : regions words (ready i) ≡
+      record { nodes = take 2000 before; control = []; values = []; rows = regions words (with-registers i) .rows; cells = regions words (with-registers i) .cells; environment = i; declared = i; base = i; beyond = drop 8192 before; size = length before }
+  unfolding regions stack slots
+  regions-ready =
+      let same = subst (λ k. RegistersSet before registers words k i) (so-far .machine-is) so-far in
+      rw (same .same-nodes, same .same-beyond, same .same-size)
+
+  whole : regions after r ≡
+      record { nodes = take 2000 before; control = 0 ∷ []; values = []; rows = regions words (with-registers i) .rows; cells = regions words (with-registers i) .cells; environment = i; declared = i; base = i; beyond = drop 8192 before; size = length before }
+  whole = ap (regions after) control-is ∙ control-are ∙ ap (with-control 0) regions-ready
+
+  models : Models
+      (record { nodes = take 2000 before; control = 0 ∷ []; values = []; rows = regions words (with-registers i) .rows; cells = regions words (with-registers i) .cells; environment = i; declared = i; base = i; beyond = drop 8192 before; size = length before })
+      (root-item t ∷ []) [] (register-environment i) (register-store i (integers-of registers)) [] i
+  models =
+      let same = subst (λ k. RegistersSet before registers words k i) (so-far .machine-is) so-far in
+      record {
+        mode = running [];
+        control-as = root-on (take 2000 before) t (in-nodes before t (stands .stored));
+        values-as = nothing-on;
+        environment-as = same .names-as (take 2000 before);
+        store-as = same .cells-as;
+        locations-as = subst (λ k. Since i k []) (sym (cells-height words (with-registers i))) none-since;
+        bindings-as = sym (rows-height words (with-registers i));
+      }
+
+  holds : Holds after r (start i t (integers-of registers))
+  unfolding start
+  holds =
+      record {
+        fits = subst (Fits after) (sym control-is) (fits-still words after (ready i) (raised-control (ready i)) (ready-fits before registers words m i so-far) (ap (λ κ. κ .size) control-are) (omega arith) (omega arith) (ready-fits before registers words m i so-far .few-bindings) (ready-fits before registers words m i so-far .few-cells));
+        models = subst (λ κ. Models κ (root-item t ∷ []) [] (register-environment i) (register-store i (integers-of registers)) [] i) (sym whole) models;
+      }
+
+  kept : Untouched before after
+  unfolding regions
+  kept = record { same-nodes = ap (λ κ. κ .nodes) whole; same-beyond = ap (λ κ. κ .beyond) whole; same-length = ap (λ κ. κ .size) whole }
+
+  pub started : StartsAt t registers r before after
+  started = record { holds = subst (λ k. Holds after r (start k t (integers-of registers))) all-set holds; untouched = kept }

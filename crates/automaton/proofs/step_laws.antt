@@ -1,0 +1,3 @@
+pub mod DispatchLaws
+pub mod StepLaws
+pub mod MarkRuleLaws

@@ -1,0 +1,167 @@
+-- Which rule a mark has: the number of its kind is the low part of its word and fixes the mark.
+use Prim.Native.Nat.{ℕ, _+_, _*_, _%_, _<_, _≤_}
+use mathlib.Core.Path.{_≡_, refl, sym, subst}
+use mathlib.Core.Bool.{cond}
+use mathlib.Core.List.{List, _∷_}
+use native.Mathlib.Omega.{arith}
+use borrow.Author.Tests.{lt-ltb, le-ltb, ne-eqb}
+use lib.Dec.{eqb, ltb}
+use Rattle.rules.specs.paper.Kinds.{operator-number}
+use Rattle.rules.specs.paper.Tree.{Arithmetic, Sum, Sub, Mul, Div, Order, Lt, Le, Gt, Ge, Logic, And, Or, Operator, arithmetic, Eq, order, logic}
+use Rattle.rules.specs.paper.Limits.{names}
+use Rattle.rules.specs.paper.States.{Item, mark, Mark, operator-mark, not-mark, assign-mark, loop-mark, ref-mark, bind-mark, dseq-mark, extend-mark, leave-mark, call-mark}
+use Rattle.machine.specs.Represents.{Mode, ControlAs, operator-on, not-on, assign-on, loop-on, ref-on, bind-on, dseq-on, extend-on, leave-on, call-on}
+use Rattle.machine.specs.Steps.{Applicable, Steps}
+use Rattle.machine.specs.declared.Machine.{Machine}
+use Rattle.machine.specs.declared.Stepped.{Stepped}
+
+-- The rules of marks.
+pub data Arm : Type 0 where
+  on-arithmetic on-equal on-order on-logic on-not on-assign on-loop on-leave on-extend on-call on-bind on-dseq on-ref : Arm
+
+-- By the number of the kind, in the order of the code's tests.
+abbrev pub arm-of : ℕ → Arm
+arm-of k =
+    cond (ltb k 8) on-arithmetic
+    (cond (eqb k 8) on-equal
+    (cond (ltb k 13) on-order
+    (cond (ltb k 15) on-logic
+    (cond (eqb k 15) on-not
+    (cond (eqb k 20) on-assign
+    (cond (eqb k 21) on-loop
+    (cond (eqb k 22) on-leave (cond (eqb k 23) on-extend (cond (eqb k 24) on-call (cond (eqb k 30) on-bind (cond (eqb k 31) on-dseq on-ref)))))))))))
+
+-- Which marks have the rule.
+abbrev pub Has : (w : ℕ) → Arm → Mark → Type 0
+Has w on-arithmetic k = (o : Arithmetic) × (w ≡ 2048 + operator-number (arithmetic o)) × (k ≡ operator-mark (arithmetic o))
+Has w on-equal k = k ≡ operator-mark Eq
+Has w on-order k = (o : Order) × (w ≡ 2048 + operator-number (order o)) × (k ≡ operator-mark (order o))
+Has w on-logic k = (o : Logic) × (w ≡ 2048 + operator-number (logic o)) × (k ≡ operator-mark (logic o))
+Has w on-not k = k ≡ not-mark
+Has w on-assign k = k ≡ assign-mark
+Has w on-loop k = k ≡ loop-mark
+Has w on-leave k = (p n : ℕ) × (k ≡ leave-mark p n)
+Has w on-extend k = k ≡ extend-mark
+Has w on-call k = (p x n : ℕ) × (k ≡ call-mark p x n)
+Has w on-bind k = k ≡ bind-mark
+Has w on-dseq k = k ≡ dseq-mark
+Has w on-ref k = k ≡ ref-mark
+
+-- ---- The mark's word.
+
+by-kind : (w c : ℕ) (k : Mark) → w % 64 ≡ c → Has w (arm-of c) k → Has w (arm-of (w % 64)) k
+by-kind w c k q h = subst (λ n. Has w (arm-of n) k) (sym q) h
+
+operator-has : (w : ℕ) (o : Operator) → w ≡ 2048 + operator-number o → Has w (arm-of (w % 64)) (operator-mark o)
+operator-has w (arithmetic Sum) q = by-kind w 4 (operator-mark (arithmetic Sum)) (omega arith) (Sum, q, refl)
+operator-has w (arithmetic Sub) q = by-kind w 5 (operator-mark (arithmetic Sub)) (omega arith) (Sub, q, refl)
+operator-has w (arithmetic Mul) q = by-kind w 6 (operator-mark (arithmetic Mul)) (omega arith) (Mul, q, refl)
+operator-has w (arithmetic Div) q = by-kind w 7 (operator-mark (arithmetic Div)) (omega arith) (Div, q, refl)
+operator-has w Eq q = by-kind w 8 (operator-mark Eq) (omega arith) refl
+operator-has w (order Lt) q = by-kind w 9 (operator-mark (order Lt)) (omega arith) (Lt, q, refl)
+operator-has w (order Le) q = by-kind w 10 (operator-mark (order Le)) (omega arith) (Le, q, refl)
+operator-has w (order Gt) q = by-kind w 11 (operator-mark (order Gt)) (omega arith) (Gt, q, refl)
+operator-has w (order Ge) q = by-kind w 12 (operator-mark (order Ge)) (omega arith) (Ge, q, refl)
+operator-has w (logic And) q = by-kind w 13 (operator-mark (logic And)) (omega arith) (And, q, refl)
+operator-has w (logic Or) q = by-kind w 14 (operator-mark (logic Or)) (omega arith) (Or, q, refl)
+
+second-kind : (w m : ℕ) → w ≡ 2070 + 4096 * m → w % 64 ≡ 22
+second-kind w m q = omega arith
+
+call-kind : (w m : ℕ) → w ≡ 2072 + 4096 * m → w % 64 ≡ 24
+call-kind w m q = omega arith
+
+has : {nodes : List ℕ} {m : Mode} {w : ℕ} {ws : List ℕ} {C : List Item} {k : Mark} → ControlAs nodes m (w ∷ ws) (mark k ∷ C) → Has w (arm-of (w % 64)) k
+has (operator-on {w = w} {o = o} q h) = operator-has w o q
+has (not-on {w = w} q h) = by-kind w 15 not-mark (omega (arith, q)) refl
+has (assign-on {w = w} q h) = by-kind w 20 assign-mark (omega (arith, q)) refl
+has (loop-on {w = w} q h) = by-kind w 21 loop-mark (omega (arith, q)) refl
+has (ref-on {w = w} q h) = by-kind w 40 ref-mark (omega (arith, q)) refl
+has (bind-on {w = w} q h) = by-kind w 30 bind-mark (omega (arith, q)) refl
+has (dseq-on {w = w} q h) = by-kind w 31 dseq-mark (omega (arith, q)) refl
+has (extend-on {w = w} q h) = by-kind w 23 extend-mark (omega (arith, q)) refl
+has (leave-on {m = m} {w = w} {p = p} q h) = by-kind w 22 (leave-mark p m) (second-kind w m q) (p, m, refl)
+has (call-on {w = w} {p = p} {x = x} {k = k} q l g h) = by-kind w 24 (call-mark p x k) (call-kind w (x + names * k) q) (p, x, k, refl)
+
+-- ---- The tests that are no equation.
+
+module _ (k : ℕ) where
+  pub is-arithmetic : k < 8 → arm-of k ≡ on-arithmetic
+  is-arithmetic a = rw (lt-ltb k 8 a)
+
+  pub is-order : 8 ≤ k → (k ≡ 8 → ⊥) → k < 13 → arm-of k ≡ on-order
+  is-order a b c = rw (le-ltb k 8 a, ne-eqb k 8 b, lt-ltb k 13 c)
+
+  pub is-logic : 13 ≤ k → k < 15 → arm-of k ≡ on-logic
+  is-logic c d = rw (le-ltb k 8 (omega arith), ne-eqb k 8 (λ q. omega (arith, q, c)), le-ltb k 13 c, lt-ltb k 15 d)
+
+  pub is-ref : 15 ≤ k → (k ≡ 15 → ⊥) → (k ≡ 20 → ⊥) → (k ≡ 21 → ⊥) → (k ≡ 22 → ⊥) → (k ≡ 23 → ⊥) → (k ≡ 24 → ⊥) → (k ≡ 30 → ⊥) → (k ≡ 31 → ⊥) → arm-of k ≡ on-ref
+  is-ref d e f g h i j l m =
+      rw (
+        le-ltb k 8 (omega arith),
+        ne-eqb k 8 (λ q. omega (arith, q, d)),
+        le-ltb k 13 (omega arith),
+        le-ltb k 15 d,
+        ne-eqb k 15 e,
+        ne-eqb k 20 f,
+        ne-eqb k 21 g,
+        ne-eqb k 22 h,
+        ne-eqb k 23 i,
+        ne-eqb k 24 j,
+        ne-eqb k 30 l,
+        ne-eqb k 31 m,
+      )
+
+-- ---- What the rule's function needs.
+
+module _ (words : List ℕ) (m : Machine) (w : ℕ) (s : (k : Mark) × Applicable words m w (mark k)) where
+  has-there : (a : Arm) → arm-of (w % 64) ≡ a → Has w a (s .0)
+  has-there a q = subst (λ b. Has w b (s .0)) q (has (s .1 .ready .models .control-as))
+
+  as-mark : {k : Mark} → s .0 ≡ k → Applicable words m w (mark k)
+  as-mark e = subst (λ k. Applicable words m w (mark k)) e (s .1)
+
+  pub plain-needs : (a : Arm) (k : Mark) → ((j : Mark) → Has w a j → j ≡ k) → arm-of (w % 64) ≡ a → Applicable words m w (mark k)
+  plain-needs a k only q = as-mark (only (s .0) (has-there a q))
+
+  pub arithmetic-needs : arm-of (w % 64) ≡ on-arithmetic → (o : Arithmetic) × (w ≡ 2048 + operator-number (arithmetic o)) × Applicable words m w (mark (operator-mark (arithmetic o)))
+  arithmetic-needs q = let h = has-there on-arithmetic q in (h .0, h .1, as-mark (h .2))
+
+  pub order-needs : arm-of (w % 64) ≡ on-order → (o : Order) × (w ≡ 2048 + operator-number (order o)) × Applicable words m w (mark (operator-mark (order o)))
+  order-needs q = let h = has-there on-order q in (h .0, h .1, as-mark (h .2))
+
+  pub logic-needs : arm-of (w % 64) ≡ on-logic → (o : Logic) × (w ≡ 2048 + operator-number (logic o)) × Applicable words m w (mark (operator-mark (logic o)))
+  logic-needs q = let h = has-there on-logic q in (h .0, h .1, as-mark (h .2))
+
+  pub leave-needs : arm-of (w % 64) ≡ on-leave → (p n : ℕ) × Applicable words m w (mark (leave-mark p n))
+  leave-needs q = let h = has-there on-leave q in (h .0, h .1, as-mark (h .2))
+
+  pub call-needs : arm-of (w % 64) ≡ on-call → (p x k : ℕ) × Applicable words m w (mark (call-mark p x k))
+  call-needs q = let h = has-there on-call q in (h .0, h .1, h .2, as-mark (h .3))
+
+-- ---- What it answers.
+
+module _ (before : List ℕ) (m : Machine) (w : ℕ) (answer : Stepped) (after : List ℕ) where
+  abbrev At : Mark → Type 0
+  At k = Steps before m w (mark k) answer after
+
+  steps-by : (a : Arm) → arm-of (w % 64) ≡ a → ((k : Mark) → Has w a k → At k) → (k : Mark) → At k
+  steps-by a q h k C X E S L n r e ready = h k (subst (λ b. Has w b k) q (has (ready .models .control-as))) C X E S L n r e ready
+
+  pub plain-steps : (a : Arm) (k : Mark) → ((j : Mark) → Has w a j → j ≡ k) → arm-of (w % 64) ≡ a → At k → (j : Mark) → At j
+  plain-steps a k only q h = steps-by a q (λ j e. subst At (sym (only j e)) h)
+
+  pub arithmetic-steps : arm-of (w % 64) ≡ on-arithmetic → ((o : Arithmetic) → w ≡ 2048 + operator-number (arithmetic o) → At (operator-mark (arithmetic o))) → (k : Mark) → At k
+  arithmetic-steps q h = steps-by on-arithmetic q (λ k e. subst At (sym (e .2)) (h (e .0) (e .1)))
+
+  pub order-steps : arm-of (w % 64) ≡ on-order → ((o : Order) → w ≡ 2048 + operator-number (order o) → At (operator-mark (order o))) → (k : Mark) → At k
+  order-steps q h = steps-by on-order q (λ k e. subst At (sym (e .2)) (h (e .0) (e .1)))
+
+  pub logic-steps : arm-of (w % 64) ≡ on-logic → ((o : Logic) → w ≡ 2048 + operator-number (logic o) → At (operator-mark (logic o))) → (k : Mark) → At k
+  logic-steps q h = steps-by on-logic q (λ k e. subst At (sym (e .2)) (h (e .0) (e .1)))
+
+  pub leave-steps : arm-of (w % 64) ≡ on-leave → ((p n : ℕ) → At (leave-mark p n)) → (k : Mark) → At k
+  leave-steps q h = steps-by on-leave q (λ k e. subst At (sym (e .2)) (h (e .0) (e .1)))
+
+  pub call-steps : arm-of (w % 64) ≡ on-call → ((p x n : ℕ) → At (call-mark p x n)) → (k : Mark) → At k
+  call-steps q h = steps-by on-call q (λ k e. subst At (sym (e .3)) (h (e .0) (e .1) (e .2)))

@@ -1,0 +1,148 @@
+-- The item on top of control: where its word stands, and of which sort it is by its word.
+use Prim.Native.Nat.{ℕ, zero, suc, _+_, _-_, _<_, _≤_}
+use mathlib.Core.Path.{_≡_, refl, sym, ap, _∙_, subst}
+use mathlib.Core.List.{List, [], _∷_}
+use native.Mathlib.Omega.{arith}
+use lib.Dec.{lit<}
+use lib.ListN.{length, getD}
+use Rattle.rules.specs.paper.Kinds.{operator-number}
+use Rattle.rules.specs.paper.Tree.{Operator, arithmetic, Eq, order, logic, Arithmetic, Sum, Sub, Mul, Div, Order, Lt, Le, Gt, Ge, Logic, And, Or, Expression, Formal, Command, Block, Declaration}
+use Rattle.rules.specs.paper.States.{Environment, Store, Entry, Item, Mark, expression, command, declaration, reference, abstraction, mark}
+use Rattle.rules.specs.paper.Rules.{Rule, Effect}
+use Rattle.reader.specs.Pack.{packed-kind}
+use Rattle.reader.specs.Stored.{HasWord, kind-is, StoredExpression, StoredCommand, StoredBlock, StoredDeclaration, StoredBound}
+use Rattle.reader.specs.Stored as Stored
+use Rattle.machine.specs.Regions.{stack, Regions, regions, Fits, with-control}
+use Rattle.machine.specs.Represents.{Mode, ControlAs, expression-on, command-on, declaration-on, reference-on, abstraction-on, operator-on, not-on, assign-on, loop-on, ref-on, bind-on, dseq-on, extend-on, leave-on, call-on, Models}
+use Rattle.machine.specs.Steps.{Stands, Ready}
+use Rattle.automaton.specs.Runs.{EnabledAt}
+use Rattle.machine.specs.declared.Machine.{Machine}
+use Rattle.machine.proofs.state_laws.ModelLaws.{sizes}
+use Rattle.machine.proofs.state_laws.NodeLaws.{node-word}
+
+-- The machine without the top of control.
+abbrev pub lowered : Machine → Machine
+lowered m =
+    record {
+      control = m .control - 1;
+      values = m .values;
+      environment = m .environment;
+      declared = m .declared;
+      cells = m .cells;
+      base = m .base;
+      bindings = m .bindings;
+    }
+
+pub some-control : (words : List ℕ) (m : Machine) {i : Item} {C : List Item} {X : List Entry} {E : Environment} {S : Store} {L : List ℕ} {n : ℕ} → Models (regions words m) (i ∷ C) X E S L n → 1 ≤ m .control
+some-control words m μ = omega (arith, sizes words m μ .control-height)
+
+stack-top : (base height : ℕ) (words : List ℕ) (k : ℕ) → height ≡ suc k → stack (suc base) height words ≡ getD words (base + height) 0 ∷ stack (suc base) (height - 1) words
+unfolding stack
+stack-top base height words k q =
+    ap (λ h. stack (suc base) h words) q
+    ∙ ap {B = List ℕ} (λ i. getD words i 0 ∷ stack (suc base) k words) (place q)
+    ∙ ap {B = List ℕ} (λ h. getD words (base + height) 0 ∷ stack (suc base) h words) (less q)
+  where
+    place : height ≡ suc k → suc base + k ≡ base + height
+    place e = omega arith
+
+    less : height ≡ suc k → k ≡ height - 1
+    less e = omega arith
+
+-- The regions are those of the lowered machine with the top word on control.
+pub taken-off : (words : List ℕ) (m : Machine) → 1 ≤ m .control → regions words m ≡ with-control (getD words (2047 + m .control) 0) (regions words (lowered m))
+unfolding regions
+taken-off words m h = rw (stack-top 2047 (m .control) words (m .control - 1) (one-less (m .control) h))
+  where
+    one-less : (k : ℕ) → 1 ≤ k → k ≡ suc (k - 1)
+    one-less k l = omega arith
+
+-- ---- The item's sort.
+
+pub data ItemSort (words : List ℕ) (w : ℕ) : Item → Type 0 where
+  expression-sort : {e : Expression} → w < 2000 → packed-kind (getD words w 0) < 20 → ItemSort words w (expression e)
+  command-sort : {c : Command} → w < 2000 → 20 ≤ packed-kind (getD words w 0) → packed-kind (getD words w 0) < 30 → ItemSort words w (command c)
+  declaration-sort : {d : Declaration} → w < 2000 → 30 ≤ packed-kind (getD words w 0) → packed-kind (getD words w 0) < 40 → ItemSort words w (declaration d)
+  reference-sort : {p : ℕ} {e : Expression} → w < 2000 → packed-kind (getD words w 0) ≡ 40 → ItemSort words w (reference p e)
+  abstraction-sort : {p : ℕ} {fs : List Formal} {b : Block} → w < 2000 → packed-kind (getD words w 0) ≡ 41 → ItemSort words w (abstraction p fs b)
+  mark-sort : {k : Mark} → 2048 ≤ w → ItemSort words w (mark k)
+
+operator-low : (o : Operator) → operator-number o < 15
+operator-low (arithmetic Sum) = omega arith
+operator-low (arithmetic Sub) = omega arith
+operator-low (arithmetic Mul) = omega arith
+operator-low (arithmetic Div) = omega arith
+operator-low Eq = omega arith
+operator-low (order Lt) = omega arith
+operator-low (order Le) = omega arith
+operator-low (order Gt) = omega arith
+operator-low (order Ge) = omega arith
+operator-low (logic And) = omega arith
+operator-low (logic Or) = omega arith
+
+module _ (words : List ℕ) (m : Machine) where
+  kind-of-node : {i k w e : ℕ} → HasWord (regions words m .nodes) i k w e → k < 64 → packed-kind (getD words i 0) ≡ k
+  kind-of-node h low = kind-is (node-word words m h) low
+
+  expression-kind : {d i j : ℕ} {e : Expression} → StoredExpression (regions words m .nodes) d i j e → (i < 2000) × (packed-kind (getD words i 0) < 20)
+  expression-kind (Stored.num h) = (h .place-low, omega (arith, kind-of-node h (lit< tt)))
+  expression-kind (Stored.boo h) = (h .place-low, omega (arith, kind-of-node h (lit< tt)))
+  expression-kind (Stored.id l h) = (h .place-low, omega (arith, kind-of-node h (lit< tt)))
+  expression-kind (Stored.deref l h) = (h .place-low, omega (arith, kind-of-node h (lit< tt)))
+  expression-kind (Stored.valref l h) = (h .place-low, omega (arith, kind-of-node h (lit< tt)))
+  expression-kind (Stored.binary {o = o} h a b) = (h .place-low, omega (arith, kind-of-node h (omega (arith, operator-low o)), operator-low o))
+  expression-kind (Stored.negation h a) = (h .place-low, omega (arith, kind-of-node h (lit< tt)))
+
+  command-kind : {d i j : ℕ} {c : Command} → StoredCommand (regions words m .nodes) d i j c → (i < 2000) × (20 ≤ packed-kind (getD words i 0)) × (packed-kind (getD words i 0) < 30)
+  command-kind (Stored.assign l h a) = let q = kind-of-node h (lit< tt) in (h .place-low, omega (arith, q), omega (arith, q))
+  command-kind (Stored.loop h a b) = let q = kind-of-node h (lit< tt) in (h .place-low, omega (arith, q), omega (arith, q))
+  command-kind (Stored.cseq h a b) = let q = kind-of-node h (lit< tt) in (h .place-low, omega (arith, q), omega (arith, q))
+  command-kind (Stored.block-of (Stored.blk h a b)) = let q = kind-of-node h (lit< tt) in (h .place-low, omega (arith, q), omega (arith, q))
+  command-kind (Stored.call l g h a) = let q = kind-of-node h (lit< tt) in (h .place-low, omega (arith, q), omega (arith, q))
+
+  declaration-kind : {d i j : ℕ} {c : Declaration} → StoredDeclaration (regions words m .nodes) d i j c → (i < 2000) × (30 ≤ packed-kind (getD words i 0)) × (packed-kind (getD words i 0) < 40)
+  declaration-kind (Stored.bind l h a) = let q = kind-of-node h (lit< tt) in (h .place-low, omega (arith, q), omega (arith, q))
+  declaration-kind (Stored.dseq h a b) = let q = kind-of-node h (lit< tt) in (h .place-low, omega (arith, q), omega (arith, q))
+
+  item-sort : {mode : Mode} {w : ℕ} {ws : List ℕ} {i : Item} {C : List Item} → ControlAs (regions words m .nodes) mode (w ∷ ws) (i ∷ C) → ItemSort words w i
+  item-sort (expression-on s h) = let k = expression-kind s in expression-sort (k .0) (k .1)
+  item-sort (command-on s h) = let k = command-kind s in command-sort (k .0) (k .1) (k .2)
+  item-sort (declaration-on s h) = let k = declaration-kind s in declaration-sort (k .0) (k .1) (k .2)
+  item-sort (reference-on (Stored.ref k s) h) = reference-sort (k .place-low) (kind-of-node k (lit< tt))
+  item-sort (abstraction-on (Stored.abs l k f s) h) = abstraction-sort (k .place-low) (kind-of-node k (lit< tt))
+  item-sort (operator-on q h) = mark-sort (omega (arith, q))
+  item-sort (not-on q h) = mark-sort (omega (arith, q))
+  item-sort (assign-on q h) = mark-sort (omega (arith, q))
+  item-sort (loop-on q h) = mark-sort (omega (arith, q))
+  item-sort (ref-on q h) = mark-sort (omega (arith, q))
+  item-sort (bind-on q h) = mark-sort (omega (arith, q))
+  item-sort (dseq-on q h) = mark-sort (omega (arith, q))
+  item-sort (extend-on q h) = mark-sort (omega (arith, q))
+  item-sort (leave-on q h) = mark-sort (omega (arith, q))
+  item-sort (call-on q x k h) = mark-sort (omega (arith, q))
+
+-- ---- The item taken off control.
+
+pub record Taken (words : List ℕ) (m : Machine) (i : Item) (C : List Item) (X : List Entry) (E : Environment) (S : Store) (L : List ℕ) (n : ℕ) (r : Rule) (e : Effect) : Type 0 where
+  pub some-left : 1 ≤ m .control
+  pub ready : Ready words (lowered m) (getD words (2047 + m .control) 0) i C X E S L n r e
+  pub sort : ItemSort words (getD words (2047 + m .control) 0) i
+
+pub taken : (words : List ℕ) (m : Machine) {i : Item} {C : List Item} {X : List Entry} {E : Environment} {S : Store} {L : List ℕ} {n : ℕ} {r : Rule} {e : Effect} →
+    EnabledAt words m i C X E S L n r e → Taken words m i C X E S L n r e
+taken words m {i} {C} {X} {E} {S} {L} {n} h =
+    let f = h .stands .fits in
+    let one = some-control words m (h .stands .models) in
+    let top = getD words (2047 + m .control) 0 in
+    let μ = subst (λ κ. Models κ (i ∷ C) X E S L n) (taken-off words m one) (h .stands .models) in
+    record {
+      some-left = one;
+      ready =
+          record {
+            fits = record { room = f .room; few-control = omega (arith, f .few-control); few-values = f .few-values; few-bindings = f .few-bindings; few-cells = f .few-cells };
+            models = μ;
+            applies = h .applies;
+            at-extend-mark = h .at-extend-mark;
+          };
+      sort = item-sort words (lowered m) (μ .control-as);
+    }

@@ -1,0 +1,3 @@
+pub mod command_laws
+pub mod call_laws
+pub mod declaration_laws

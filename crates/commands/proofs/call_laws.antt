@@ -1,0 +1,5 @@
+pub mod CallLaws
+pub mod CallMarkLaws
+pub mod CallFrameLaws
+pub mod FormalsLaws
+pub mod FormalsLoopLaws

@@ -1,0 +1,173 @@
+-- The rule of Blk: the location set is saved on the value stack and becomes empty; the declaration, the first mark, the command and the
+-- second mark go on control.
+use Prim.Native.Nat.{ℕ, _+_, _*_, _<_, _≤_}
+use mathlib.Core.Path.{_≡_, refl, sym, ap, _∙_, subst}
+use mathlib.Core.Bool.{false}
+use mathlib.Core.List.{List, [], _∷_}
+use native.Mathlib.Omega.{arith}
+use lib.ListN.{length, getD}
+use Rattle.rules.specs.paper.Tree.{Command, block, Blk, Declaration}
+use Rattle.rules.specs.paper.Refusals.{ValueEntries, ControlEntries, reason-number}
+use Rattle.rules.specs.paper.States.{Environment, Store, Entry, locations, Item, command, declaration, mark, extend-mark, leave-mark, state}
+use Rattle.rules.specs.paper.Rules.{Rule, Effect, goes, Table}
+use Rattle.rules.specs.paper.Rules as Rules
+use Rattle.rules.specs.paper.Run.{judge}
+use Rattle.reader.specs.Pack.{packed-end}
+use Rattle.reader.specs.Stored.{StoredCommand, block-of, blk, StoredDeclaration}
+use Rattle.machine.specs.Regions.{slot, Regions, regions, Fits, with-control, with-values, raised-values}
+use Rattle.machine.specs.Represents.{Since, none-since, no-more, declaring, declaration-on, command-on, extend-on, leave-on, opened-on, Models}
+use Rattle.machine.specs.Steps.{StepAnswer, Applicable, Steps}
+use Rattle.machine.specs.declared.Machine.{Machine}
+use Rattle.machine.specs.declared.Stepped.the-variants.{Made, Withheld}
+use Rattle.machine.proofs.memory_laws.RegionLaws.{slots-length}
+use Rattle.machine.proofs.state_laws.JudgeLaws.{judged-values, judged-control}
+use Rattle.machine.proofs.state_laws.ModelLaws.{sizes, step-made, step-withheld}
+use Rattle.machine.proofs.stack_laws.SharedLaws.{Put, put-regions, value-fits}
+use Rattle.machine.proofs.stack_laws.RoomLaws.{Room, room-after}
+use Rattle.machine.proofs.state_laws.ItemLaws.{after-node, declaration-root, root-end, lowered, command-top}
+
+-- ---- The tree.
+
+record BlockAt (nodes : List ℕ) (i : ℕ) (d : Declaration) (c : Command) : Type 0 where
+  depth : ℕ
+  middle : ℕ
+  next : ℕ
+  declared : StoredDeclaration nodes depth (i + 1) middle d
+  body : StoredCommand nodes depth middle next c
+
+block-at : {nodes : List ℕ} {h i j p : ℕ} {d : Declaration} {c : Command} → StoredCommand nodes h i j (block (Blk p d c)) → BlockAt nodes i d c
+block-at {nodes} {d = dec} (block-of (blk {d = d} {i = i} {j = j} {k = k} h a b)) =
+    record { depth = d; middle = j; next = k; declared = subst (λ l. StoredDeclaration nodes d l j dec) (after-node i) a; body = b }
+
+block-effect : {C : List Item} {E : Environment} {S : Store} {L : List ℕ} {n : ℕ} {r : Rule} {p : ℕ} {d : Declaration} {c : Command} {X : List Entry} {f : Effect} →
+    Table C E S L n r (command (block (Blk p d c))) X f → goes (state (declaration d ∷ mark extend-mark ∷ command c ∷ mark (leave-mark p n) ∷ C) (locations L ∷ X) E S [] n) ≡ f
+block-effect Rules.blk = refl
+
+-- The declaration's place is a node's.
+pub block-low : (words : List ℕ) (m : Machine) (i : ℕ) (d : Declaration) (c : Command) → Applicable words m i (command (block (Blk i d c))) → i + 1 < 2000
+block-low words m i d c a = declaration-root (block-at (command-top (regions words m) i (block (Blk i d c)) (a .ready .models) .stored) .declared) .word .place-low
+
+-- ---- The machine of the block.
+
+-- No name is declared yet, and no cell made.
+abbrev pub opened : Machine → Machine
+opened m =
+    record {
+      control = m .control;
+      values = m .values;
+      environment = m .environment;
+      declared = m .environment;
+      cells = m .cells;
+      base = m .cells;
+      bindings = m .bindings;
+    }
+
+abbrev opened-at : ℕ → Regions → Regions
+opened-at base κ =
+    record {
+      nodes = κ .nodes;
+      control = κ .control;
+      values = κ .values;
+      rows = κ .rows;
+      cells = κ .cells;
+      environment = κ .environment;
+      declared = κ .environment;
+      base = base;
+      beyond = κ .beyond;
+      size = κ .size;
+    }
+
+opened-regions : (words : List ℕ) (m : Machine) → regions words (opened m) ≡ opened-at (m .cells) (regions words m)
+unfolding regions
+opened-regions words m = refl
+
+cells-counted : (words : List ℕ) (m : Machine) → length (regions words m .cells) ≡ m .cells
+unfolding regions
+cells-counted words m = slots-length 4864 4608 (m .cells) words
+
+base-is : (words : List ℕ) (m : Machine) → m .base ≡ regions words m .base
+unfolding regions
+base-is words m = refl
+
+opened-fits : {words : List ℕ} {m : Machine} → Fits words m → Fits words (opened m)
+opened-fits f = record { room = f .room; few-control = f .few-control; few-values = f .few-values; few-bindings = f .few-bindings; few-cells = f .few-cells }
+
+-- ---- The answers.
+
+pub block-values-withheld : (words : List ℕ) (m : Machine) (i : ℕ) → m .values ≡ 512 → (d : Declaration) (c : Command) → Steps words m i (command (block (Blk i d c))) (Withheld 35) words
+unfolding reason-number
+block-values-withheld words m i q d c C X E S L n rule f ready =
+    let t = command-top (regions words m) i (block (Blk i d c)) (ready .models) in
+    let z = sizes words m (lowered (t .rest)) in
+    let fits = ready .fits in
+    subst (λ g. StepAnswer (judge false g) (Withheld 35) words words) (block-effect (ready .applies))
+    (step-withheld words ValueEntries _ _
+    (judged-values (declaration d ∷ mark extend-mark ∷ command c ∷ mark (leave-mark i n) ∷ C) (locations L ∷ X) E S [] n (omega (arith, z .cells-height, fits .few-cells)) (omega (arith, z .bindings-height, fits .few-bindings)) (omega (arith, z .values-height, q)))
+    refl)
+
+pub block-control-withheld : (words : List ℕ) (m : Machine) (i : ℕ) → (m .values ≡ 512 → ⊥) → 508 < m .control →
+    (d : Declaration) (c : Command) → Steps words m i (command (block (Blk i d c))) (Withheld 36) words
+unfolding reason-number
+block-control-withheld words m i few q d c C X E S L n rule f ready =
+    let t = command-top (regions words m) i (block (Blk i d c)) (ready .models) in
+    let z = sizes words m (lowered (t .rest)) in
+    let fits = ready .fits in
+    subst (λ g. StepAnswer (judge false g) (Withheld 36) words words) (block-effect (ready .applies))
+    (step-withheld words ControlEntries _ _
+    (judged-control (declaration d ∷ mark extend-mark ∷ command c ∷ mark (leave-mark i n) ∷ C) (locations L ∷ X) E S [] n (omega (arith, z .cells-height, fits .few-cells)) (omega (arith, z .bindings-height, fits .few-bindings)) (omega (arith, z .values-height, fits .few-values, few)) (omega (arith, z .control-height, q)))
+    refl)
+
+-- What `enter_block` does.
+module _ (words : List ℕ) (m : Machine) (fits : Fits words m) (few : m .values ≡ 512 → ⊥) (low : m .control ≤ 508) (saved : List ℕ) (u : Machine) (q : u ≡ raised-values m)
+    (e : regions saved (raised-values m) ≡ with-values (slot 0 (m .base) ∷ regions words m .values) (regions words m)) where
+  pub block-room : Room 4 saved (opened u)
+  block-room = record { fits = opened-fits (value-fits words m fits saved u few q e); left = omega (arith, low, ap (λ k. k .control) q) }
+
+  module _ (i body : ℕ) (first second third after : List ℕ) (a b k r : Machine)
+      (one : Put saved (opened u) (2070 + 4096 * u .bindings) first a) (two : Put first a body second b) (three : Put second b 2071 third k) (four : Put third k (i + 1) after r) where
+    bindings-kept : u .bindings ≡ m .bindings
+    bindings-kept = ap (λ k. k .bindings) q
+
+    cells-kept : u .cells ≡ m .cells
+    cells-kept = ap (λ k. k .cells) q
+
+    after-fits : Fits after r
+    after-fits = room-after 0 (room-after 1 (room-after 2 (room-after 3 block-room one) two) three) four .fits
+
+    abbrev after-regions : Regions
+    after-regions =
+        with-control (i + 1)
+        (with-control 2071 (with-control body (with-control (2070 + 4096 * u .bindings) (opened-at (u .cells) (with-values (slot 0 (m .base) ∷ regions words m .values) (regions words m))))))
+
+    all : regions after r ≡ after-regions
+    all =
+        put-regions four
+        ∙ ap (with-control (i + 1))
+        (put-regions three
+        ∙ ap (with-control 2071)
+        (put-regions two
+        ∙ ap (with-control body)
+        (put-regions one ∙ ap (with-control (2070 + 4096 * u .bindings)) (opened-regions saved u ∙ ap (opened-at (u .cells)) (ap (regions saved) q ∙ e)))))
+
+    pub block-made : body ≡ packed-end (getD words (i + 1) 0) → (d : Declaration) (c : Command) → Steps words m i (command (block (Blk i d c))) (Made r) after
+    block-made place d c C X E S L n rule f ready =
+        let t = command-top (regions words m) i (block (Blk i d c)) (ready .models) in
+        let tree = block-at (t .stored) in
+        let v = t .rest in
+        let z = sizes words m (lowered v) in
+        let κ = regions words m in
+        let body-is = place ∙ root-end words m (declaration-root (tree .declared)) in
+        let cells-are = cells-counted words m ∙ sym cells-kept in
+        subst (λ g. StepAnswer (judge false g) (Made r) words after) (block-effect (ready .applies))
+        (step-made words after m r (Made r) (declaration d ∷ mark extend-mark ∷ command c ∷ mark (leave-mark i n) ∷ C) (locations L ∷ X) E S [] n refl after-fits
+        (subst (λ κ′. Models κ′ (declaration d ∷ mark extend-mark ∷ command c ∷ mark (leave-mark i n) ∷ C) (locations L ∷ X) E S [] n) (sym all)
+        (record {
+          mode = declaring n (t .blocks);
+          control-as = declaration-on (tree .declared) (extend-on refl (command-on (subst (λ l. StoredCommand (κ .nodes) (tree .depth) l (tree .next) c) (sym body-is) (tree .body)) (leave-on (ap (λ l. 2070 + 4096 * l) (bindings-kept ∙ sym (z .bindings-height))) (v .control-as))));
+          values-as = opened-on refl no-more (sym (v .bindings-as)) (v .environment-as) (subst (λ l. Since (κ .base) l L) cells-are (v .locations-as)) (base-is words m) (v .values-as);
+          environment-as = v .environment-as;
+          store-as = v .store-as;
+          locations-as = subst (λ l. Since (u .cells) l []) (sym cells-are) none-since;
+          bindings-as = v .bindings-as;
+        }))
+        (ap (λ κ′. κ′ .nodes) all) (ap (λ κ′. κ′ .beyond) all) (ap (λ κ′. κ′ .size) all))

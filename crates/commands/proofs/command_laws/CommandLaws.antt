@@ -1,0 +1,108 @@
+-- The rules of Assign, Loop and CSeq, and which command stands at a place by its kind.
+use Prim.Native.Nat.{ℕ, _+_, _<_}
+use mathlib.Core.Path.{_≡_, refl, sym, _∙_, subst}
+use mathlib.Core.Bool.{false}
+use mathlib.Core.List.{List, _∷_}
+use native.Mathlib.Omega.{arith}
+use lib.ListN.{getD}
+use Rattle.rules.specs.paper.Tree.{Expression, Command, Assign, Loop, CSeq}
+use Rattle.rules.specs.paper.Limits.{names}
+use Rattle.rules.specs.paper.States.{Environment, Store, Entry, name, node, Item, expression, command, mark, assign-mark, loop-mark, state}
+use Rattle.rules.specs.paper.Rules.{Rule, Effect, goes, Table}
+use Rattle.rules.specs.paper.Rules as Rules
+use Rattle.rules.specs.paper.Run.{judge}
+use Rattle.reader.specs.Pack.{packed-operand, packed-end}
+use Rattle.reader.specs.Stored.{HasWord, operand-is, StoredExpression, StoredCommand, assign, loop, cseq}
+use Rattle.machine.specs.Regions.{regions}
+use Rattle.machine.specs.Represents.{expression-on, command-on, assign-on, loop-on, name-on, node-on}
+use Rattle.machine.specs.Steps.{StepAnswer, Applicable, Steps, PutsTwo, Enters}
+use Rattle.machine.specs.declared.Machine.{Machine}
+use Rattle.machine.specs.declared.Stepped.{Stepped}
+use Rattle.machine.proofs.state_laws.NodeLaws.{node-word}
+use Rattle.machine.proofs.state_laws.ItemLaws.{after-node, command-root, root-end, lowered, command-top}
+
+-- The place of a command on top of control is a node's.
+pub command-low : (words : List ℕ) (m : Machine) (w : ℕ) (c : Command) → Applicable words m w (command c) → w < 2000
+command-low words m w c a = command-root (command-top (regions words m) w c (a .ready .models) .stored) .word .place-low
+
+-- ---- Assign.
+
+record AssignAt (nodes : List ℕ) (i x : ℕ) (e : Expression) : Type 0 where
+  depth : ℕ
+  next : ℕ
+  name-low : x < names
+  word : HasWord nodes i 20 x next
+  assigned : StoredExpression nodes depth (i + 1) next e
+
+assign-at : {nodes : List ℕ} {d i j p x : ℕ} {e : Expression} → StoredCommand nodes d i j (Assign p x e) → AssignAt nodes i x e
+assign-at {nodes} {e = e} (assign {d = d} {i = i} {j = j} l h a) =
+    record { depth = d; next = j; name-low = l; word = h; assigned = subst (λ k. StoredExpression nodes d k j e) (after-node i) a }
+
+assign-effect : {C : List Item} {E : Environment} {S : Store} {L : List ℕ} {n : ℕ} {r : Rule} {p x : ℕ} {e : Expression} {X : List Entry} {f : Effect} →
+    Table C E S L n r (command (Assign p x e)) X f → goes (state (expression e ∷ mark assign-mark ∷ C) (name x ∷ X) E S L n) ≡ f
+assign-effect Rules.assign = refl
+
+pub assign-steps : (words : List ℕ) (m : Machine) (i : ℕ) (r : Stepped) (after : List ℕ) (x′ : ℕ) → x′ ≡ packed-operand (getD words i 0) → Enters words m x′ 2068 (i + 1) r after →
+    (x : ℕ) (e : Expression) → Steps words m i (command (Assign i x e)) r after
+assign-steps words m i r after x′ q enters x e C X E S L n rule f ready =
+    let t = command-top (regions words m) i (Assign i x e) (ready .models) in
+    let a = assign-at (t .stored) in
+    let u = t .rest in
+    subst (λ g. StepAnswer (judge false g) r words after) (assign-effect (ready .applies))
+    (enters C X E S L n (expression e) (mark assign-mark) (name x) (lowered u) (expression-on (a .assigned) (assign-on refl (u .control-as)))
+    (λ label. name-on (q ∙ operand-is (node-word words m (a .word)) (omega arith)) (a .name-low) (u .values-as)))
+
+-- ---- Loop.
+
+record LoopAt (nodes : List ℕ) (i : ℕ) (e : Expression) : Type 0 where
+  depth : ℕ
+  next : ℕ
+  test : StoredExpression nodes depth (i + 1) next e
+
+loop-at : {nodes : List ℕ} {d i j p : ℕ} {e : Expression} {c : Command} → StoredCommand nodes d i j (Loop p e c) → LoopAt nodes i e
+loop-at {nodes} {e = e} (loop {d = d} {i = i} {j = j} h a b) = record { depth = d; next = j; test = subst (λ k. StoredExpression nodes d k j e) (after-node i) a }
+
+loop-effect : {C : List Item} {E : Environment} {S : Store} {L : List ℕ} {n : ℕ} {r : Rule} {p : ℕ} {e : Expression} {c : Command} {X : List Entry} {f : Effect} →
+    Table C E S L n r (command (Loop p e c)) X f → goes (state (expression e ∷ mark loop-mark ∷ C) (node (Loop p e c) ∷ X) E S L n) ≡ f
+loop-effect Rules.loop = refl
+
+pub loop-steps : (words : List ℕ) (m : Machine) (i : ℕ) (r : Stepped) (after : List ℕ) → Enters words m i 2069 (i + 1) r after →
+    (e : Expression) (c : Command) → Steps words m i (command (Loop i e c)) r after
+loop-steps words m i r after enters e c C X E S L n rule f ready =
+    let t = command-top (regions words m) i (Loop i e c) (ready .models) in
+    let u = t .rest in
+    subst (λ g. StepAnswer (judge false g) r words after) (loop-effect (ready .applies))
+    (enters C X E S L n (expression e) (mark loop-mark) (node (Loop i e c)) (lowered u) (expression-on (loop-at (t .stored) .test) (loop-on refl (u .control-as)))
+    (λ label. node-on (t .stored) (u .values-as)))
+
+-- ---- CSeq.
+
+record SequenceAt (nodes : List ℕ) (i : ℕ) (c₁ c₂ : Command) : Type 0 where
+  depth : ℕ
+  middle : ℕ
+  next : ℕ
+  first : StoredCommand nodes depth (i + 1) middle c₁
+  second : StoredCommand nodes depth middle next c₂
+
+sequence-at : {nodes : List ℕ} {d i j p : ℕ} {c₁ c₂ : Command} → StoredCommand nodes d i j (CSeq p c₁ c₂) → SequenceAt nodes i c₁ c₂
+sequence-at {nodes} {c₁ = c₁} (cseq {d = d} {i = i} {j = j} {k = k} h a b) =
+    record { depth = d; middle = j; next = k; first = subst (λ l. StoredCommand nodes d l j c₁) (after-node i) a; second = b }
+
+sequence-effect : {C : List Item} {E : Environment} {S : Store} {L : List ℕ} {n : ℕ} {r : Rule} {p : ℕ} {c₁ c₂ : Command} {X : List Entry} {f : Effect} →
+    Table C E S L n r (command (CSeq p c₁ c₂)) X f → goes (state (command c₁ ∷ command c₂ ∷ C) X E S L n) ≡ f
+sequence-effect Rules.cseq = refl
+
+-- The first command's place is a node's.
+pub sequence-low : (words : List ℕ) (m : Machine) (i : ℕ) (c₁ c₂ : Command) → Applicable words m i (command (CSeq i c₁ c₂)) → i + 1 < 2000
+sequence-low words m i c₁ c₂ a = command-root (sequence-at (command-top (regions words m) i (CSeq i c₁ c₂) (a .ready .models) .stored) .first) .word .place-low
+
+pub sequence-steps : (words : List ℕ) (m : Machine) (i : ℕ) (r : Stepped) (after : List ℕ) (second : ℕ) → second ≡ packed-end (getD words (i + 1) 0) → PutsTwo words m second (i + 1) r after →
+    (c₁ c₂ : Command) → Steps words m i (command (CSeq i c₁ c₂)) r after
+sequence-steps words m i r after second q puts c₁ c₂ C X E S L n rule f ready =
+    let t = command-top (regions words m) i (CSeq i c₁ c₂) (ready .models) in
+    let a = sequence-at (t .stored) in
+    let u = t .rest in
+    let place = q ∙ root-end words m (command-root (a .first)) in
+    subst (λ g. StepAnswer (judge false g) r words after) (sequence-effect (ready .applies))
+    (puts C X E S L n (command c₁) (command c₂) (lowered u)
+    (command-on (a .first) (command-on (subst (λ k. StoredCommand (regions words m .nodes) (a .depth) k (a .next) c₂) (sym place) (a .second)) (u .control-as))))

@@ -1,0 +1,4 @@
+pub mod DeclarationLaws
+pub mod RefLaws
+pub mod FrameLaws
+pub mod EndLaws

@@ -1,0 +1,63 @@
+// The rules of declarations, and of what a Bind binds.
+ghost use mathlib.Core.Path.{_≡_};
+ghost use mathlib.Core.List.{List};
+ghost use Prim.Native.Nat.{ℕ};
+ghost use lib.ListN.{getD};
+ghost use Rattle.rules.specs.paper.Tree.{Expression, Formal, Block, Declaration, Bind, DSeq, Bound};
+ghost use Rattle.rules.specs.paper.States.{declaration, reference, abstraction};
+ghost use Rattle.reader.specs.Pack.{packed-kind};
+ghost use Rattle.machine.specs.Steps.{Applicable, Steps};
+use machine::Machine;
+use machine::Stepped;
+use machine::stacks::enter;
+use machine::stacks::push;
+use machine::stacks::put_three;
+use machine::stacks::put_two;
+use reader::end;
+use reader::operand;
+
+// Bind: its name, the value, the mark.
+fn bind(work: &mut [u64], m: Machine, node: usize) -> Stepped
+    requires { ⌜ ((x : ℕ) × (b : Bound) × Applicable (now work) m node (declaration (Bind node x b))) ⌝ }
+    ensures { λ r. ⌜ ((x : ℕ) (b : Bound) → Steps (now (work .entry)) m node (declaration (Bind node x b)) r (now (work .exit))) ⌝ }
+{
+    let name = operand(work, node);
+    enter(work, m, name as u64, 2078, node as u64 + 1)
+}
+
+// DSeq: both declarations, the mark.
+fn join(work: &mut [u64], m: Machine, node: usize) -> Stepped
+    requires { ⌜ ((d₁ d₂ : Declaration) × Applicable (now work) m node (declaration (DSeq node d₁ d₂))) ⌝ }
+    ensures { λ r. ⌜ ((d₁ d₂ : Declaration) → Steps (now (work .entry)) m node (declaration (DSeq node d₁ d₂)) r (now (work .exit))) ⌝ }
+{
+    let second = end(work, node + 1);
+    put_three(work, m, 2079, second as u64, node as u64 + 1)
+}
+
+// Ref: the value, the mark.
+pub fn make_cell(work: &mut [u64], m: Machine, node: usize) -> Stepped
+    requires { ⌜ ((p : ℕ) × (e : Expression) × Applicable (now work) m node (reference p e)) ⌝ }
+    ensures { λ r. ⌜ ((p : ℕ) (e : Expression) → Steps (now (work .entry)) m node (reference p e) r (now (work .exit))) ⌝ }
+{
+    put_two(work, m, 2088, node as u64 + 1)
+}
+
+// Abs: the closure of its Formals, its Blk and the environment.
+pub fn close(work: &mut [u64], m: Machine, node: usize) -> Stepped
+    requires { ⌜ ((p : ℕ) × (fs : List Formal) × (b : Block) × Applicable (now work) m node (abstraction p fs b)) ⌝ }
+    ensures { λ r. ⌜ ((p : ℕ) (fs : List Formal) (b : Block) → Steps (now (work .entry)) m node (abstraction p fs b) r (now (work .exit))) ⌝ }
+{
+    push(work, m, 0, node as u64 + 2048 * m.environment as u64)
+}
+
+// The rule of a declaration, by its kind.
+pub fn declaration_rule(work: &mut [u64], m: Machine, node: usize, which: usize) -> Stepped
+    requires { ⌜ which ≡ packed-kind (getD (now work) node 0) ⌝ }
+    requires { ⌜ ((d : Declaration) × Applicable (now work) m node (declaration d)) ⌝ }
+    ensures { λ r. ⌜ ((d : Declaration) → Steps (now (work .entry)) m node (declaration d) r (now (work .exit))) ⌝ }
+{
+    if which == 30 {
+        return bind(work, m, node);
+    }
+    join(work, m, node)
+}

@@ -1,0 +1,147 @@
+// The rules of the marks that make, save and restore environments: those of Bind, DSeq, blocks and calls.
+ghost use mathlib.Core.Path.{_≡_};
+ghost use Prim.Native.Nat.{ℕ, _+_, _-_, _≤_};
+ghost use Rattle.rules.specs.paper.States.{bind-mark, dseq-mark, extend-mark, leave-mark, call-mark, mark};
+ghost use Rattle.machine.specs.Regions.{regions, Fits};
+ghost use Rattle.machine.specs.Steps.{Applicable, Steps};
+ghost use Rattle.commands.specs.Formals.{with-formals, CanBind, Binds, framed, with-frame};
+use machine::Machine;
+use machine::Stepped;
+use machine::memory::put_control;
+use machine::memory::put_row;
+use machine::memory::put_value;
+use machine::lookup::row_of;
+use reader::operand;
+
+// Bind's: a row for the name, on those that the declaration made before.
+pub fn bind_mark(work: &mut [u64], m: Machine, word: u64) -> Stepped
+    requires { ⌜ Applicable (now work) m word (mark bind-mark) ⌝ }
+    ensures { λ r. ⌜ Steps (now (work .entry)) m word (mark bind-mark) r (now (work .exit)) ⌝ }
+{
+    if m.bindings == 512 {
+        return Stepped::Withheld(34);
+    }
+    let height = m.values;
+    let label = work[3071 + height];
+    let payload = work[2559 + height];
+    let name = work[2558 + height];
+    let mut next = put_row(
+        work,
+        m,
+        name + 64 * label + 128 * m.declared as u64,
+        payload,
+    );
+    next.declared = next.bindings;
+    next.values = height - 1;
+    Stepped::Made(next)
+}
+
+// DSeq's: the second declaration's rows stand on the first's already.
+pub fn dseq_mark(work: &mut [u64], mut m: Machine, word: u64) -> Stepped
+    requires { ⌜ Applicable (now work) m word (mark dseq-mark) ⌝ }
+    ensures { λ r. ⌜ Steps (now (work .entry)) m word (mark dseq-mark) r (now (work .exit)) ⌝ }
+{
+    m.values = m.values - 1;
+    Stepped::Made(m)
+}
+
+// A block's first: the environment is saved, and the declared names are added to it.
+pub fn extend_mark(work: &mut [u64], mut m: Machine, word: u64) -> Stepped
+    requires { ⌜ Applicable (now work) m word (mark extend-mark) ⌝ }
+    ensures { λ r. ⌜ Steps (now (work .entry)) m word (mark extend-mark) r (now (work .exit)) ⌝ }
+{
+    let outer = m.environment;
+    m.environment = m.declared;
+    m.values = m.values - 1;
+    Stepped::Made(put_value(work, m, 0, outer as u64))
+}
+
+// A block's second, and a call's: what was saved is taken back, and the block's own cells are removed.
+pub fn leave_mark(work: &mut [u64], mut m: Machine, word: u64) -> Stepped
+    requires { ⌜ ((p n : ℕ) × Applicable (now work) m word (mark (leave-mark p n))) ⌝ }
+    ensures { λ r. ⌜ ((p n : ℕ) → Steps (now (work .entry)) m word (mark (leave-mark p n)) r (now (work .exit))) ⌝ }
+{
+    let height = m.values;
+    m.values = height - 2;
+    m.environment = work[2559 + height] as usize;
+    m.cells = m.base;
+    m.base = work[2558 + height] as usize;
+    m.bindings = (word / 4096) as usize;
+    Stepped::Made(m)
+}
+
+// A row for each Formal from the first one to the block, with the values on top of the value stack, on the closure's environment.
+fn bind_formals(work: &mut [u64], mut m: Machine, first: usize, block: usize) -> Machine
+    requires { ⌜ Fits (now work) m ⌝ }
+    requires { ⌜ m .bindings + (block - first) ≤ 512 ⌝ }
+    requires { ⌜ CanBind (now work) m first block ⌝ }
+    ensures { λ r. ⌜ r ≡ with-formals (block - first) (r .environment) m ⌝ }
+    ensures { λ r. ⌜ Binds (now (work .entry)) m first block r (now (work .exit)) ⌝ }
+{
+    let mut formal = first;
+    while formal < block {
+        let height = m.values;
+        let label = work[3071 + height];
+        let payload = work[2559 + height];
+        let name = operand(work, formal) % 64;
+        m = put_row(
+            work,
+            m,
+            name as u64 + 64 * label + 128 * m.environment as u64,
+            payload,
+        );
+        m.environment = m.bindings;
+        m.values = height - 1;
+        formal = formal + 1;
+    }
+    m
+}
+
+// A call's frame: the caller's cells and environment are saved, and the block goes on control over its second mark.
+fn put_frame(
+    work: &mut [u64],
+    m: Machine,
+    base: usize,
+    environment: usize,
+    below: u64,
+    top: u64,
+) -> Machine
+    requires { ⌜ Fits (now work) m ⌝ }
+    requires { ⌜ m .values ≤ 510 ⌝ }
+    requires { ⌜ m .control ≤ 510 ⌝ }
+    ensures { λ r. ⌜ r ≡ framed m ⌝ }
+    ensures { λ r. ⌜ regions (now (work .exit)) (framed m) ≡ with-frame base environment below top (regions (now (work .entry)) m) ⌝ }
+{
+    let once = put_value(work, m, 0, base as u64);
+    let saved = put_value(work, once, 0, environment as u64);
+    let under = put_control(work, saved, below);
+    put_control(work, under, top)
+}
+
+// Call's: the closure's environment with the Formals bound to the actuals, and its block to run.
+pub fn call_mark(work: &mut [u64], mut m: Machine, word: u64) -> Stepped
+    requires { ⌜ ((p x k : ℕ) × Applicable (now work) m word (mark (call-mark p x k))) ⌝ }
+    ensures { λ r. ⌜ ((p x k : ℕ) → Steps (now (work .entry)) m word (mark (call-mark p x k)) r (now (work .exit))) ⌝ }
+{
+    let count = (word / 262144) as usize;
+    if 512 < m.bindings + count {
+        return Stepped::Withheld(34);
+    }
+    if 510 + count < m.values {
+        return Stepped::Withheld(35);
+    }
+    if 510 < m.control {
+        return Stepped::Withheld(36);
+    }
+    let row = row_of(work, m, word / 4096 % 64);
+    let closure = work[4096 + row];
+    let first = (closure % 2048) as usize + 1;
+    let block = first + count;
+    let base = m.base;
+    let caller = m.environment;
+    let below = 2070 + 4096 * m.bindings as u64;
+    m.environment = (closure / 2048) as usize;
+    m.base = m.cells;
+    let called = bind_formals(work, m, first, block);
+    Stepped::Made(put_frame(work, called, base, caller, below, block as u64))
+}

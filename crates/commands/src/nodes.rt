@@ -1,0 +1,107 @@
+// The rules of commands.
+ghost use mathlib.Core.Path.{_≡_};
+ghost use mathlib.Core.List.{List};
+ghost use Prim.Native.Nat.{ℕ};
+ghost use lib.ListN.{getD};
+ghost use Rattle.rules.specs.paper.Tree.{Expression, Command, Assign, Loop, CSeq, block, Call, Blk, Declaration};
+ghost use Rattle.rules.specs.paper.States.{command};
+ghost use Rattle.reader.specs.Pack.{packed-kind};
+ghost use Rattle.machine.specs.Steps.{Applicable, Steps};
+use machine::Machine;
+use machine::Stepped;
+use machine::memory::put_control;
+use machine::memory::put_value;
+use machine::stacks::enter;
+use machine::stacks::put_two;
+use reader::end;
+use reader::operand;
+
+// Assign: its name, the value, the mark.
+fn assign(work: &mut [u64], m: Machine, node: usize) -> Stepped
+    requires { ⌜ ((x : ℕ) × (e : Expression) × Applicable (now work) m node (command (Assign node x e))) ⌝ }
+    ensures { λ r. ⌜ ((x : ℕ) (e : Expression) → Steps (now (work .entry)) m node (command (Assign node x e)) r (now (work .exit))) ⌝ }
+{
+    let name = operand(work, node);
+    enter(work, m, name as u64, 2068, node as u64 + 1)
+}
+
+// Loop: itself, the test, the mark.
+fn repeat(work: &mut [u64], m: Machine, node: usize) -> Stepped
+    requires { ⌜ ((e : Expression) × (c : Command) × Applicable (now work) m node (command (Loop node e c))) ⌝ }
+    ensures { λ r. ⌜ ((e : Expression) (c : Command) → Steps (now (work .entry)) m node (command (Loop node e c)) r (now (work .exit))) ⌝ }
+{
+    enter(work, m, node as u64, 2069, node as u64 + 1)
+}
+
+// CSeq: both commands.
+fn sequence(work: &mut [u64], m: Machine, node: usize) -> Stepped
+    requires { ⌜ ((c₁ c₂ : Command) × Applicable (now work) m node (command (CSeq node c₁ c₂))) ⌝ }
+    ensures { λ r. ⌜ ((c₁ c₂ : Command) → Steps (now (work .entry)) m node (command (CSeq node c₁ c₂)) r (now (work .exit))) ⌝ }
+{
+    let second = end(work, node + 1);
+    put_two(work, m, second as u64, node as u64 + 1)
+}
+
+// Blk: the location set, which becomes empty; the declaration, the first mark, the command, the second mark.
+fn enter_block(work: &mut [u64], m: Machine, node: usize) -> Stepped
+    requires { ⌜ ((d : Declaration) × (c : Command) × Applicable (now work) m node (command (block (Blk node d c)))) ⌝ }
+    ensures { λ r. ⌜ ((d : Declaration) (c : Command) → Steps (now (work .entry)) m node (command (block (Blk node d c))) r (now (work .exit))) ⌝ }
+{
+    if m.values == 512 {
+        return Stepped::Withheld(35);
+    }
+    if 508 < m.control {
+        return Stepped::Withheld(36);
+    }
+    let body = end(work, node + 1);
+    let saved = put_value(work, m, 0, m.base as u64);
+    let opened = Machine {
+        control: saved.control,
+        values: saved.values,
+        environment: saved.environment,
+        declared: saved.environment,
+        cells: saved.cells,
+        base: saved.cells,
+        bindings: saved.bindings,
+    };
+    let first = put_control(work, opened, 2070 + 4096 * opened.bindings as u64);
+    let second = put_control(work, first, body as u64);
+    let third = put_control(work, second, 2071);
+    Stepped::Made(put_control(work, third, node as u64 + 1))
+}
+
+// Call: the mark, then the actuals, the last on top.
+fn call(work: &mut [u64], m: Machine, node: usize) -> Stepped
+    requires { ⌜ ((x : ℕ) × (es : List Expression) × Applicable (now work) m node (command (Call node x es))) ⌝ }
+    ensures { λ r. ⌜ ((x : ℕ) (es : List Expression) → Steps (now (work .entry)) m node (command (Call node x es)) r (now (work .exit))) ⌝ }
+{
+    let word = operand(work, node);
+    let count = word / 64;
+    if 511 < m.control + count {
+        return Stepped::Withheld(36);
+    }
+    let mut machine = put_control(work, m, 2072 + 4096 * word as u64);
+    let mut left = count;
+    let mut at = node + 1;
+    while 0 < left {
+        machine = put_control(work, machine, at as u64);
+        at = end(work, at);
+        left = left - 1;
+    }
+    Stepped::Made(machine)
+}
+
+// The rule of a command, by its kind.
+pub fn command_rule(work: &mut [u64], m: Machine, node: usize, which: usize) -> Stepped
+    requires { ⌜ which ≡ packed-kind (getD (now work) node 0) ⌝ }
+    requires { ⌜ ((c : Command) × Applicable (now work) m node (command c)) ⌝ }
+    ensures { λ r. ⌜ ((c : Command) → Steps (now (work .entry)) m node (command c) r (now (work .exit))) ⌝ }
+{
+    match which {
+        20 => assign(work, m, node),
+        21 => repeat(work, m, node),
+        22 => sequence(work, m, node),
+        23 => enter_block(work, m, node),
+        _ => call(work, m, node),
+    }
+}

@@ -1,0 +1,2 @@
+pub mod expression_laws
+pub mod operator_laws

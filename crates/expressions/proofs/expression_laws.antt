@@ -1,0 +1,3 @@
+pub mod ExpressionLaws
+pub mod ExpressionKindLaws
+pub mod NameLaws

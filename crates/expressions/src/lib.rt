@@ -1,0 +1,3 @@
+// The rules of expressions, and of the operators' marks.
+pub mod marks;
+pub mod nodes;

@@ -1,0 +1,131 @@
+// The rules of the operators' marks.
+ghost use mathlib.Core.Path.{_≡_};
+ghost use Prim.Native.Nat.{_+_, _≤_};
+ghost use Rattle.rules.specs.paper.Kinds.{operator-number};
+ghost use Rattle.rules.specs.paper.Tree.{Arithmetic, Order, Logic, arithmetic, Eq, order, logic};
+ghost use Rattle.rules.specs.paper.Integers.{compute, compare};
+ghost use Rattle.rules.specs.paper.States.{operator-mark, not-mark, mark};
+ghost use Rattle.integers.specs.Words.{integer-of, computed};
+ghost use Rattle.machine.specs.Regions.{Fits};
+ghost use Rattle.expressions.specs.Replaced.{Replaces};
+ghost use Rattle.machine.specs.Steps.{Applicable, Steps};
+use machine::Machine;
+use machine::Stepped;
+use machine::memory::put_value;
+use integers::Computed;
+
+// What an arithmetic operator makes of two integers.
+fn computed(which: u64, first: u64, second: u64) -> Computed
+    ensures { λ r. ⌜ ((o : Arithmetic) → which ≡ 2048 + operator-number (arithmetic o) → r ≡ computed (compute o (integer-of first) (integer-of second))) ⌝ }
+{
+    if which == 2052 {
+        return integers::sum(first, second);
+    }
+    if which == 2053 {
+        return integers::difference(first, second);
+    }
+    if which == 2054 {
+        return integers::product(first, second);
+    }
+    integers::quotient(first, second)
+}
+
+// What stands in place of the two operands.
+fn replace_two(work: &mut [u64], mut m: Machine, payload: u64) -> Stepped
+    requires { ⌜ Fits (now work) m ⌝ }
+    requires { ⌜ 2 ≤ m .values ⌝ }
+    ensures { λ r. ⌜ Replaces (now (work .entry)) m payload r (now (work .exit)) ⌝ }
+{
+    m.values = m.values - 2;
+    Stepped::Made(put_value(work, m, 0, payload))
+}
+
+// Sum to Div.
+pub fn arithmetic_mark(work: &mut [u64], m: Machine, word: u64) -> Stepped
+    requires { ⌜ ((o : Arithmetic) × (word ≡ 2048 + operator-number (arithmetic o)) × Applicable (now work) m word (mark (operator-mark (arithmetic o)))) ⌝ }
+    ensures { λ r. ⌜ ((o : Arithmetic) → word ≡ 2048 + operator-number (arithmetic o) → Steps (now (work .entry)) m word (mark (operator-mark (arithmetic o))) r (now (work .exit))) ⌝ }
+{
+    let height = m.values;
+    let first = work[2558 + height];
+    let second = work[2559 + height];
+    match computed(word, first, second) {
+        Computed::Number(result) => replace_two(work, m, result),
+        Computed::Failed(reason) => Stepped::Withheld(reason),
+    }
+}
+
+// Eq.
+pub fn equal_mark(work: &mut [u64], m: Machine, word: u64) -> Stepped
+    requires { ⌜ Applicable (now work) m word (mark (operator-mark Eq)) ⌝ }
+    ensures { λ r. ⌜ Steps (now (work .entry)) m word (mark (operator-mark Eq)) r (now (work .exit)) ⌝ }
+{
+    let height = m.values;
+    let first = work[2558 + height];
+    let second = work[2559 + height];
+    if first == second {
+        return replace_two(work, m, 1);
+    }
+    replace_two(work, m, 0)
+}
+
+// Lt to Ge.
+pub fn order_mark(work: &mut [u64], m: Machine, word: u64) -> Stepped
+    requires { ⌜ ((o : Order) × (word ≡ 2048 + operator-number (order o)) × Applicable (now work) m word (mark (operator-mark (order o)))) ⌝ }
+    ensures { λ r. ⌜ ((o : Order) → word ≡ 2048 + operator-number (order o) → Steps (now (work .entry)) m word (mark (operator-mark (order o))) r (now (work .exit))) ⌝ }
+{
+    let height = m.values;
+    let first = work[2558 + height];
+    let second = work[2559 + height];
+    let holds = compared(word, first, second);
+    if holds {
+        return replace_two(work, m, 1);
+    }
+    replace_two(work, m, 0)
+}
+
+// Whether an order holds of two integers.
+fn compared(which: u64, first: u64, second: u64) -> bool
+    ensures { λ r. ⌜ ((o : Order) → which ≡ 2048 + operator-number (order o) → r ≡ compare o (integer-of first) (integer-of second)) ⌝ }
+{
+    if which == 2057 {
+        return integers::less(first, second);
+    }
+    if which == 2058 {
+        return !integers::less(second, first);
+    }
+    if which == 2059 {
+        return integers::less(second, first);
+    }
+    !integers::less(first, second)
+}
+
+// And, Or.
+pub fn logic_mark(work: &mut [u64], m: Machine, word: u64) -> Stepped
+    requires { ⌜ ((o : Logic) × (word ≡ 2048 + operator-number (logic o)) × Applicable (now work) m word (mark (operator-mark (logic o)))) ⌝ }
+    ensures { λ r. ⌜ ((o : Logic) → word ≡ 2048 + operator-number (logic o) → Steps (now (work .entry)) m word (mark (operator-mark (logic o))) r (now (work .exit))) ⌝ }
+{
+    let height = m.values;
+    let first = work[2558 + height];
+    let second = work[2559 + height];
+    if word == 2061 {
+        if first == 0 {
+            return replace_two(work, m, 0);
+        }
+        return replace_two(work, m, second);
+    }
+    if first == 0 {
+        return replace_two(work, m, second);
+    }
+    replace_two(work, m, 1)
+}
+
+// Not.
+pub fn not_mark(work: &mut [u64], mut m: Machine, word: u64) -> Stepped
+    requires { ⌜ Applicable (now work) m word (mark not-mark) ⌝ }
+    ensures { λ r. ⌜ Steps (now (work .entry)) m word (mark not-mark) r (now (work .exit)) ⌝ }
+{
+    let height = m.values;
+    let truth = work[2559 + height];
+    m.values = height - 1;
+    Stepped::Made(put_value(work, m, 0, 1 - truth))
+}

@@ -1,0 +1,4 @@
+pub mod RegionLaws
+pub mod StoreLaws
+pub mod EnvironmentLaws
+pub mod LookupLaws

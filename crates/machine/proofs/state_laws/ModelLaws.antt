@@ -1,0 +1,99 @@
+-- The heights of the machine are the sizes of the state it holds; and a state that a step leaves, put together from its parts.
+use Prim.Native.Nat.{ℕ, zero, suc, _+_, _<_, _≤_}
+use mathlib.Core.Path.{_≡_, refl, sym, ap, _∙_, subst}
+use mathlib.Core.Bool.{false}
+use mathlib.Core.List.{List, [], _∷_}
+use native.Mathlib.Omega.{arith}
+use lib.ListN.{length, take, drop}
+use Rattle.rules.specs.paper.Refusals.{Reason, reason-number}
+use Rattle.rules.specs.paper.States.{Environment, Store, Entry, Item, State, state}
+use Rattle.rules.specs.paper.Rules.{goes}
+use Rattle.rules.specs.paper.Run.{Verdict, made, withheld, judge}
+use Rattle.machine.specs.Regions.{stack, Slot, slots, Regions, regions, Fits}
+use Rattle.machine.specs.Represents.{StoreAs, no-cell, one-cell, Mode, ControlAs, nothing-left, expression-on, command-on, declaration-on, reference-on, abstraction-on, operator-on, not-on, assign-on, loop-on, ref-on, bind-on, dseq-on, extend-on, leave-on, call-on, ValuesAs, nothing-on, bindable-on, name-on, node-on, declared-on, opened-on, frame-on, Models}
+use Rattle.machine.specs.Steps.{Stands, Untouched, IsMade, IsWithheld, StepAnswer}
+use Rattle.machine.specs.declared.Machine.{Machine}
+use Rattle.machine.specs.declared.Stepped.{Stepped}
+use Rattle.machine.specs.declared.Stepped.the-variants.{Made, Withheld}
+use Rattle.machine.proofs.memory_laws.RegionLaws.{stack-length, slots-length}
+use Rattle.machine.proofs.state_laws.JudgeLaws.{judged-made}
+
+-- ---- Sizes.
+
+pub control-size : {nodes : List ℕ} {m : Mode} {ws : List ℕ} {C : List Item} → ControlAs nodes m ws C → length C ≡ length ws
+control-size nothing-left = refl
+control-size (expression-on s h) = ap suc (control-size h)
+control-size (command-on s h) = ap suc (control-size h)
+control-size (declaration-on s h) = ap suc (control-size h)
+control-size (reference-on s h) = ap suc (control-size h)
+control-size (abstraction-on s h) = ap suc (control-size h)
+control-size (operator-on q h) = ap suc (control-size h)
+control-size (not-on q h) = ap suc (control-size h)
+control-size (assign-on q h) = ap suc (control-size h)
+control-size (loop-on q h) = ap suc (control-size h)
+control-size (ref-on q h) = ap suc (control-size h)
+control-size (bind-on q h) = ap suc (control-size h)
+control-size (dseq-on q h) = ap suc (control-size h)
+control-size (extend-on q h) = ap suc (control-size h)
+control-size (leave-on q h) = ap suc (control-size h)
+control-size (call-on q x k h) = ap suc (control-size h)
+
+pub values-size : {nodes : List ℕ} {rows : List Slot} {base d p : ℕ} {E : Environment} {m : Mode} {ws : List Slot} {X : List Entry} →
+    ValuesAs nodes rows base d p E m ws X → length X ≡ length ws
+values-size nothing-on = refl
+values-size (bindable-on b h) = ap suc (values-size h)
+values-size (name-on q l h) = ap suc (values-size h)
+values-size (node-on s h) = ap suc (values-size h)
+values-size (declared-on s h) = ap suc (values-size h)
+values-size (opened-on q x l s k w h) = ap suc (values-size h)
+values-size (frame-on q x l s k w h) = ap (λ n. suc (suc n)) (values-size h)
+
+pub store-size : {cells : List Slot} {S : Store} → StoreAs cells S → length S ≡ length cells
+store-size no-cell = refl
+store-size (one-cell q v h) = ap suc (store-size h)
+
+pub record Sizes (m : Machine) (C : List Item) (X : List Entry) (S : Store) (n : ℕ) : Type 0 where
+  pub control-height : length C ≡ m .control
+  pub values-height : length X ≡ m .values
+  pub cells-height : length S ≡ m .cells
+  pub bindings-height : n ≡ m .bindings
+
+pub sizes : (words : List ℕ) (m : Machine) {C : List Item} {X : List Entry} {E : Environment} {S : Store} {L : List ℕ} {n : ℕ} → Models (regions words m) C X E S L n → Sizes m C X S n
+unfolding regions
+sizes words m μ =
+    record {
+      control-height = control-size (μ .control-as) ∙ stack-length 2048 (m .control) words;
+      values-height = values-size (μ .values-as) ∙ slots-length 3072 2560 (m .values) words;
+      cells-height = store-size (μ .store-as) ∙ slots-length 4864 4608 (m .cells) words;
+      bindings-height = μ .bindings-as ∙ slots-length 3584 4096 (m .bindings) words;
+    }
+
+-- ---- A step's answer.
+
+pub untouched : (before after : List ℕ) (m m′ : Machine) → regions after m′ .nodes ≡ regions before m .nodes → regions after m′ .beyond ≡ regions before m .beyond → regions after m′ .size ≡ regions before m .size →
+    Untouched before after
+unfolding regions
+untouched before after m m′ a b c = record { same-nodes = a; same-beyond = b; same-length = c }
+
+-- The machine after the step has its words, is within the limits and holds the state after the step: the step is made.
+pub step-made : (before after : List ℕ) (m m′ : Machine) (r : Stepped) (C : List Item) (X : List Entry) (E : Environment) (S : Store) (L : List ℕ) (n : ℕ) →
+    r ≡ Made m′ → Fits after m′ → Models (regions after m′) C X E S L n →
+    regions after m′ .nodes ≡ regions before m .nodes → regions after m′ .beyond ≡ regions before m .beyond → regions after m′ .size ≡ regions before m .size →
+    StepAnswer (judge false (goes (state C X E S L n))) r before after
+step-made before after m m′ r C X E S L n q f μ a b c =
+    subst (λ v. StepAnswer v r before after)
+    (sym (judged-made C X E S L n (omega (arith, z .cells-height, f .few-cells)) (omega (arith, z .bindings-height, f .few-bindings)) (omega (arith, z .values-height, f .few-values)) (omega (arith, z .control-height, f .few-control))))
+    (record { machine = m′; answer = q; holds = record { fits = f; models = μ }; untouched = untouched before after m m′ a b c })
+  where
+    z : Sizes m′ C X S n
+    z = sizes after m′ μ
+
+-- The step is withheld for this reason, and nothing is written.
+pub step-withheld : (words : List ℕ) (x : Reason) (v : Verdict) (r : Stepped) → v ≡ withheld x → r ≡ Withheld (reason-number x) → StepAnswer v r words words
+step-withheld words x v r q a = subst (λ w. StepAnswer w r words words) (sym q) (record { answer = a; unchanged = refl })
+
+-- The words have room as long as none is added or lost.
+pub fits-still : (before after : List ℕ) (m m′ : Machine) → Fits before m → regions after m′ .size ≡ regions before m .size →
+    m′ .control ≤ 512 → m′ .values ≤ 512 → m′ .bindings ≤ 512 → m′ .cells ≤ 256 → Fits after m′
+unfolding regions
+fits-still before after m m′ f q a b c d = record { room = omega (arith, f .room, q); few-control = a; few-values = b; few-bindings = c; few-cells = d }

@@ -1,0 +1,4 @@
+pub mod Regions
+pub mod Represents
+pub mod Lookup
+pub mod Steps

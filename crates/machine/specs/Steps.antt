@@ -1,0 +1,102 @@
+-- What a step of the machine answers, by the rules' table.
+use Prim.Native.Nat.{ℕ, _≤_}
+use mathlib.Core.Path.{_≡_}
+use mathlib.Core.Bool.{false}
+use mathlib.Core.List.{List, [], _∷_}
+use lib.ListN.{length, take, drop}
+use Rattle.rules.specs.paper.Refusals.{Reason, reason-number}
+use Rattle.rules.specs.paper.States.{Bindable, Environment, Store, Entry, bindable, environment, locations, Item, mark, extend-mark, State, state}
+use Rattle.rules.specs.paper.Rules.{Rule, Effect, goes, Table}
+use Rattle.rules.specs.paper.Run.{Verdict, made, withheld, judge}
+use Rattle.machine.specs.Regions.{Regions, slot, regions, Fits, with-control}
+use Rattle.machine.specs.Represents.{BindableAs, ControlAs, ValuesAs, Models}
+use Rattle.machine.specs.declared.Machine.{Machine}
+use Rattle.machine.specs.declared.Stepped.{Stepped}
+use Rattle.machine.specs.declared.Stepped.the-variants.{Made, Withheld}
+
+-- The machine and the work words hold this state.
+pub record Stands (words : List ℕ) (m : Machine) (C : List Item) (X : List Entry) (E : Environment) (S : Store) (L : List ℕ) (n : ℕ) : Type 0 where
+  pub fits : Fits words m
+  pub models : Models (regions words m) C X E S L n
+
+abbrev pub Holds : List ℕ → Machine → State → Type 0
+Holds words m (state C X E S L n) = Stands words m C X E S L n
+
+-- The tree and the words beyond the engine's are kept.
+pub record Untouched (before after : List ℕ) : Type 0 where
+  pub same-nodes : take 2000 after ≡ take 2000 before
+  pub same-beyond : drop 8192 after ≡ drop 8192 before
+  pub same-length : length after ≡ length before
+
+-- The step is made and the state after it stands; or it is withheld, and nothing is changed.
+pub record IsMade (τ : State) (r : Stepped) (before after : List ℕ) : Type 0 where
+  pub machine : Machine
+  pub answer : r ≡ Made machine
+  pub holds : Holds after machine τ
+  pub untouched : Untouched before after
+
+pub record IsWithheld (x : Reason) (r : Stepped) (before after : List ℕ) : Type 0 where
+  pub answer : r ≡ Withheld (reason-number x)
+  pub unchanged : after ≡ before
+
+abbrev pub StepAnswer : Verdict → Stepped → (before after : List ℕ) → Type 0
+StepAnswer (made τ) r before after = IsMade τ r before after
+StepAnswer (withheld x) r before after = IsWithheld x r before after
+
+-- An item was taken off control: its word, the machine without it, and the rule that applies at it. At a block's first mark the value
+-- stack has the declared names on the location set.
+abbrev pub AtExtendMark : Item → List Entry → Type 0
+AtExtendMark i X = i ≡ mark extend-mark → (D : Environment) × (K : List ℕ) × (Y : List Entry) × (X ≡ environment D ∷ locations K ∷ Y)
+
+pub record Ready (words : List ℕ) (m : Machine) (w : ℕ) (i : Item) (C : List Item) (X : List Entry) (E : Environment) (S : Store) (L : List ℕ) (n : ℕ) (r : Rule) (e : Effect) : Type 0 where
+  pub fits : Fits words m
+  pub models : Models (with-control w (regions words m)) (i ∷ C) X E S L n
+  pub applies : Table C E S L n r i X e
+  pub at-extend-mark : AtExtendMark i X
+
+-- Some rule applies at this item.
+pub record Applicable (words : List ℕ) (m : Machine) (w : ℕ) (i : Item) : Type 0 where
+  pub control : List Item
+  pub values : List Entry
+  pub environment : Environment
+  pub store : Store
+  pub locations : List ℕ
+  pub bindings : ℕ
+  pub rule : Rule
+  pub effect : Effect
+  pub ready : Ready words m w i control values environment store locations bindings rule effect
+
+-- The answer of a rule's function at this item, whatever state the words hold.
+abbrev pub Steps : (before : List ℕ) → Machine → (w : ℕ) → Item → Stepped → (after : List ℕ) → Type 0
+Steps before m w i answer after =
+    (C : List Item) (X : List Entry) (E : Environment) (S : Store) (L : List ℕ) (n : ℕ) (r : Rule) (e : Effect) →
+    Ready before m w i C X E S L n r e → StepAnswer (judge false e) answer before after
+
+-- Two or three entries more on control, the last one given on top: what the step to them answers.
+abbrev pub PutsTwo : (before : List ℕ) → Machine → (below top : ℕ) → Stepped → (after : List ℕ) → Type 0
+PutsTwo before m below top answer after =
+    (C : List Item) (X : List Entry) (E : Environment) (S : Store) (L : List ℕ) (n : ℕ) (i j : Item) (μ : Models (regions before m) C X E S L n) →
+    ControlAs (regions before m .nodes) (μ .mode) (top ∷ below ∷ regions before m .control) (i ∷ j ∷ C) →
+    StepAnswer (judge false (goes (state (i ∷ j ∷ C) X E S L n))) answer before after
+
+abbrev pub PutsThree : (before : List ℕ) → Machine → (below middle top : ℕ) → Stepped → (after : List ℕ) → Type 0
+PutsThree before m below middle top answer after =
+    (C : List Item) (X : List Entry) (E : Environment) (S : Store) (L : List ℕ) (n : ℕ) (i j k : Item) (μ : Models (regions before m) C X E S L n) →
+    ControlAs (regions before m .nodes) (μ .mode) (top ∷ middle ∷ below ∷ regions before m .control) (i ∷ j ∷ k ∷ C) →
+    StepAnswer (judge false (goes (state (i ∷ j ∷ k ∷ C) X E S L n))) answer before after
+
+-- One value or closure more on the value stack.
+abbrev pub Pushes : (before : List ℕ) → Machine → (label payload : ℕ) → Stepped → (after : List ℕ) → Type 0
+Pushes before m label payload answer after =
+    (C : List Item) (X : List Entry) (E : Environment) (S : Store) (L : List ℕ) (n : ℕ) (b : Bindable) → Models (regions before m) C X E S L n →
+    BindableAs (regions before m .nodes) (regions before m .rows) label payload b →
+    StepAnswer (judge false (goes (state C (bindable b ∷ X) E S L n))) answer before after
+
+-- A name or a node on the value stack, and two entries more on control.
+abbrev pub Enters : (before : List ℕ) → Machine → (payload below top : ℕ) → Stepped → (after : List ℕ) → Type 0
+Enters before m payload below top answer after =
+    (C : List Item) (X : List Entry) (E : Environment) (S : Store) (L : List ℕ) (n : ℕ) (i j : Item) (x : Entry) (μ : Models (regions before m) C X E S L n) →
+    ControlAs (regions before m .nodes) (μ .mode) (top ∷ below ∷ regions before m .control) (i ∷ j ∷ C) →
+    ((label : ℕ) →
+    ValuesAs (regions before m .nodes) (regions before m .rows) (regions before m .base) (regions before m .declared) (regions before m .environment) E (μ .mode) (slot label payload ∷ regions before m .values) (x ∷ X)) →
+    StepAnswer (judge false (goes (state (i ∷ j ∷ C) (x ∷ X) E S L n))) answer before after

@@ -1,0 +1,1 @@
+// Where the regions of the work words begin.

@@ -1,0 +1,59 @@
+// What several rules do alike: a value more, or two or three entries more on control, each with the limits that it can reach.
+ghost use Rattle.machine.specs.Regions.{Fits};
+ghost use Rattle.machine.specs.Steps.{PutsTwo, PutsThree, Pushes, Enters};
+use crate::Machine;
+use crate::Stepped;
+use crate::memory::put_control;
+use crate::memory::put_value;
+
+// A value or a closure goes on the value stack.
+pub fn push(work: &mut [u64], m: Machine, label: u64, payload: u64) -> Stepped
+    requires { ⌜ Fits (now work) m ⌝ }
+    ensures { λ r. ⌜ Pushes (now (work .entry)) m label payload r (now (work .exit)) ⌝ }
+{
+    if m.values == 512 {
+        return Stepped::Withheld(35);
+    }
+    Stepped::Made(put_value(work, m, label, payload))
+}
+
+// Two entries go on control.
+pub fn put_two(work: &mut [u64], m: Machine, below: u64, top: u64) -> Stepped
+    requires { ⌜ Fits (now work) m ⌝ }
+    ensures { λ r. ⌜ PutsTwo (now (work .entry)) m below top r (now (work .exit)) ⌝ }
+{
+    if 510 < m.control {
+        return Stepped::Withheld(36);
+    }
+    let first = put_control(work, m, below);
+    Stepped::Made(put_control(work, first, top))
+}
+
+// Three entries go on control.
+pub fn put_three(work: &mut [u64], m: Machine, below: u64, middle: u64, top: u64) -> Stepped
+    requires { ⌜ Fits (now work) m ⌝ }
+    ensures { λ r. ⌜ PutsThree (now (work .entry)) m below middle top r (now (work .exit)) ⌝ }
+{
+    if 509 < m.control {
+        return Stepped::Withheld(36);
+    }
+    let first = put_control(work, m, below);
+    let second = put_control(work, first, middle);
+    Stepped::Made(put_control(work, second, top))
+}
+
+// A name or a node goes on the value stack and two entries on control: Assign, Loop, Bind.
+pub fn enter(work: &mut [u64], m: Machine, payload: u64, below: u64, top: u64) -> Stepped
+    requires { ⌜ Fits (now work) m ⌝ }
+    ensures { λ r. ⌜ Enters (now (work .entry)) m payload below top r (now (work .exit)) ⌝ }
+{
+    if m.values == 512 {
+        return Stepped::Withheld(35);
+    }
+    if 510 < m.control {
+        return Stepped::Withheld(36);
+    }
+    let under = put_value(work, m, 0, payload);
+    let first = put_control(work, under, below);
+    Stepped::Made(put_control(work, first, top))
+}
