@@ -14,14 +14,16 @@ ghost use Rattle.rules.specs.proofs.running.Continuation.{Invariant};
 ghost use Rattle.rules.specs.paper.Run.{run, judge};
 ghost use Rattle.machine.specs.Steps.{Holds};
 ghost use Rattle.automaton.specs.Runs.{Enabled, StepsFrom, RunAnswer};
-use commands::nodes::command_rule;
+use crate::marks::mark_rule;
 use commands::declarations::close;
 use commands::declarations::declaration_rule;
 use commands::declarations::make_cell;
+use commands::nodes::command_rule;
 use expressions::nodes::expression_rule;
 use machine::Machine;
 use machine::Stepped;
-use crate::marks::mark_rule;
+use machine::layout::MARK;
+use machine::layout::TOP_CONTROL;
 use reader::kind;
 
 // How a run ends, with the steps made and the machine in its last state: control is empty, or a step is withheld, with the number of the
@@ -37,9 +39,9 @@ fn step(work: &mut [u64], mut m: Machine) -> Stepped
     ensures { λ r. ⌜ StepsFrom (now (work .entry)) m r (now (work .exit)) ⌝ }
 {
     let height = m.control;
-    let word = work[2047 + height];
+    let word = work[TOP_CONTROL + height];
     m.control = height - 1;
-    if 2048 <= word {
+    if MARK <= word {
         return mark_rule(work, m, word);
     }
     let node = word as usize;

@@ -16,13 +16,14 @@ use expressions::marks::not_mark;
 use expressions::marks::order_mark;
 use machine::Machine;
 use machine::Stepped;
+use machine::layout::MARK_NUMBERS;
 
 // The rule of a mark, by the kind it belongs to.
 pub fn mark_rule(work: &mut [u64], m: Machine, word: u64) -> Stepped
     requires { ⌜ ((k : Mark) × Applicable (now work) m word (mark k)) ⌝ }
     ensures { λ r. ⌜ ((k : Mark) → Steps (now (work .entry)) m word (mark k) r (now (work .exit))) ⌝ }
 {
-    let kind = word % 64;
+    let kind = word % MARK_NUMBERS;
     if kind < 8 {
         return arithmetic_mark(work, m, word);
     }

@@ -2,6 +2,7 @@
 ghost use Prim.Native.Nat.{_≤_};
 ghost use lib.ListN.{length};
 ghost use Rattle.rules.specs.paper.Tree.{Root};
+ghost use Rattle.rules.specs.paper.Limits.{work-words};
 ghost use Rattle.reader.specs.Stored.{RootAt};
 ghost use Rattle.automaton.specs.Starts.{StartsAt};
 use machine::Machine;
@@ -11,7 +12,7 @@ use machine::memory::put_row;
 
 // The root on control, and a cell and a name for each register.
 pub fn start(work: &mut [u64], registers: &[u64]) -> Machine
-    requires { ⌜ 8192 ≤ length (now work) ⌝ }
+    requires { ⌜ work-words ≤ length (now work) ⌝ }
     requires { ⌜ length (now registers) ≤ 16 ⌝ }
     ensures { λ r. ⌜ ((t : Root) → RootAt (now (work .entry)) t → StartsAt t (now (registers .entry)) r (now (work .entry)) (now (work .exit))) ⌝ }
 {

@@ -9,6 +9,10 @@ ghost use Rattle.reader.specs.Pack.{packed-kind};
 ghost use Rattle.machine.specs.Steps.{Applicable, Steps};
 use machine::Machine;
 use machine::Stepped;
+use machine::layout::BIND_MARK;
+use machine::layout::CLOSURE_UNIT;
+use machine::layout::DSEQ_MARK;
+use machine::layout::REF_MARK;
 use machine::stacks::enter;
 use machine::stacks::push;
 use machine::stacks::put_three;
@@ -22,7 +26,7 @@ fn bind(work: &mut [u64], m: Machine, node: usize) -> Stepped
     ensures { λ r. ⌜ ((x : ℕ) (b : Bound) → Steps (now (work .entry)) m node (declaration (Bind node x b)) r (now (work .exit))) ⌝ }
 {
     let name = operand(work, node);
-    enter(work, m, name as u64, 2078, node as u64 + 1)
+    enter(work, m, name as u64, BIND_MARK, node as u64 + 1)
 }
 
 // DSeq: both declarations, the mark.
@@ -31,7 +35,7 @@ fn join(work: &mut [u64], m: Machine, node: usize) -> Stepped
     ensures { λ r. ⌜ ((d₁ d₂ : Declaration) → Steps (now (work .entry)) m node (declaration (DSeq node d₁ d₂)) r (now (work .exit))) ⌝ }
 {
     let second = end(work, node + 1);
-    put_three(work, m, 2079, second as u64, node as u64 + 1)
+    put_three(work, m, DSEQ_MARK, second as u64, node as u64 + 1)
 }
 
 // Ref: the value, the mark.
@@ -39,7 +43,7 @@ pub fn make_cell(work: &mut [u64], m: Machine, node: usize) -> Stepped
     requires { ⌜ ((p : ℕ) × (e : Expression) × Applicable (now work) m node (reference p e)) ⌝ }
     ensures { λ r. ⌜ ((p : ℕ) (e : Expression) → Steps (now (work .entry)) m node (reference p e) r (now (work .exit))) ⌝ }
 {
-    put_two(work, m, 2088, node as u64 + 1)
+    put_two(work, m, REF_MARK, node as u64 + 1)
 }
 
 // Abs: the closure of its Formals, its Blk and the environment.
@@ -47,7 +51,12 @@ pub fn close(work: &mut [u64], m: Machine, node: usize) -> Stepped
     requires { ⌜ ((p : ℕ) × (fs : List Formal) × (b : Block) × Applicable (now work) m node (abstraction p fs b)) ⌝ }
     ensures { λ r. ⌜ ((p : ℕ) (fs : List Formal) (b : Block) → Steps (now (work .entry)) m node (abstraction p fs b) r (now (work .exit))) ⌝ }
 {
-    push(work, m, 0, node as u64 + 2048 * m.environment as u64)
+    push(
+        work,
+        m,
+        0,
+        node as u64 + CLOSURE_UNIT * m.environment as u64,
+    )
 }
 
 // The rule of a declaration, by its kind.

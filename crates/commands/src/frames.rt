@@ -2,15 +2,29 @@
 ghost use mathlib.Core.Path.{_≡_};
 ghost use Prim.Native.Nat.{ℕ, _+_, _-_, _≤_};
 ghost use Rattle.rules.specs.paper.States.{bind-mark, dseq-mark, extend-mark, leave-mark, call-mark, mark};
+ghost use Rattle.rules.specs.paper.Limits.{most-bindings, names};
 ghost use Rattle.machine.specs.Regions.{regions, Fits};
 ghost use Rattle.machine.specs.Steps.{Applicable, Steps};
 ghost use Rattle.commands.specs.Formals.{with-formals, CanBind, Binds, framed, with-frame};
 use machine::Machine;
 use machine::Stepped;
+use machine::layout::CARRIED_UNIT;
+use machine::layout::CLOSURE_UNIT;
+use machine::layout::COUNT_UNIT;
+use machine::layout::LABEL_UNIT;
+use machine::layout::LEAVE_MARK;
+use machine::layout::MOST_BINDINGS;
+use machine::layout::NAMES;
+use machine::layout::POINTER_UNIT;
+use machine::layout::ROW_PAYLOADS;
+use machine::layout::SECOND_PAYLOAD;
+use machine::layout::TOP_LABEL;
+use machine::layout::TOP_PAYLOAD;
+use machine::lookup::row_of;
 use machine::memory::put_control;
 use machine::memory::put_row;
 use machine::memory::put_value;
-use machine::lookup::row_of;
+use machine::reasons;
 use reader::operand;
 
 // Bind's: a row for the name, on those that the declaration made before.
@@ -18,17 +32,17 @@ pub fn bind_mark(work: &mut [u64], m: Machine, word: u64) -> Stepped
     requires { ⌜ Applicable (now work) m word (mark bind-mark) ⌝ }
     ensures { λ r. ⌜ Steps (now (work .entry)) m word (mark bind-mark) r (now (work .exit)) ⌝ }
 {
-    if m.bindings == 512 {
-        return Stepped::Withheld(34);
+    if m.bindings == MOST_BINDINGS {
+        return Stepped::Withheld(reasons::BINDINGS);
     }
     let height = m.values;
-    let label = work[3071 + height];
-    let payload = work[2559 + height];
-    let name = work[2558 + height];
+    let label = work[TOP_LABEL + height];
+    let payload = work[TOP_PAYLOAD + height];
+    let name = work[SECOND_PAYLOAD + height];
     let mut next = put_row(
         work,
         m,
-        name + 64 * label + 128 * m.declared as u64,
+        name + LABEL_UNIT * label + POINTER_UNIT * m.declared as u64,
         payload,
     );
     next.declared = next.bindings;
@@ -63,17 +77,17 @@ pub fn leave_mark(work: &mut [u64], mut m: Machine, word: u64) -> Stepped
 {
     let height = m.values;
     m.values = height - 2;
-    m.environment = work[2559 + height] as usize;
+    m.environment = work[TOP_PAYLOAD + height] as usize;
     m.cells = m.base;
-    m.base = work[2558 + height] as usize;
-    m.bindings = (word / 4096) as usize;
+    m.base = work[SECOND_PAYLOAD + height] as usize;
+    m.bindings = (word / CARRIED_UNIT) as usize;
     Stepped::Made(m)
 }
 
 // A row for each Formal from the first one to the block, with the values on top of the value stack, on the closure's environment.
 fn bind_formals(work: &mut [u64], mut m: Machine, first: usize, block: usize) -> Machine
     requires { ⌜ Fits (now work) m ⌝ }
-    requires { ⌜ m .bindings + (block - first) ≤ 512 ⌝ }
+    requires { ⌜ m .bindings + (block - first) ≤ most-bindings ⌝ }
     requires { ⌜ CanBind (now work) m first block ⌝ }
     ensures { λ r. ⌜ r ≡ with-formals (block - first) (r .environment) m ⌝ }
     ensures { λ r. ⌜ Binds (now (work .entry)) m first block r (now (work .exit)) ⌝ }
@@ -81,13 +95,13 @@ fn bind_formals(work: &mut [u64], mut m: Machine, first: usize, block: usize) ->
     let mut formal = first;
     while formal < block {
         let height = m.values;
-        let label = work[3071 + height];
-        let payload = work[2559 + height];
+        let label = work[TOP_LABEL + height];
+        let payload = work[TOP_PAYLOAD + height];
         let name = operand(work, formal) % 64;
         m = put_row(
             work,
             m,
-            name as u64 + 64 * label + 128 * m.environment as u64,
+            name as u64 + LABEL_UNIT * label + POINTER_UNIT * m.environment as u64,
             payload,
         );
         m.environment = m.bindings;
@@ -123,24 +137,24 @@ pub fn call_mark(work: &mut [u64], mut m: Machine, word: u64) -> Stepped
     requires { ⌜ ((p x k : ℕ) × Applicable (now work) m word (mark (call-mark p x k))) ⌝ }
     ensures { λ r. ⌜ ((p x k : ℕ) → Steps (now (work .entry)) m word (mark (call-mark p x k)) r (now (work .exit))) ⌝ }
 {
-    let count = (word / 262144) as usize;
-    if 512 < m.bindings + count {
-        return Stepped::Withheld(34);
+    let count = (word / COUNT_UNIT) as usize;
+    if MOST_BINDINGS < m.bindings + count {
+        return Stepped::Withheld(reasons::BINDINGS);
     }
     if 510 + count < m.values {
-        return Stepped::Withheld(35);
+        return Stepped::Withheld(reasons::VALUE_ENTRIES);
     }
     if 510 < m.control {
-        return Stepped::Withheld(36);
+        return Stepped::Withheld(reasons::CONTROL_ENTRIES);
     }
-    let row = row_of(work, m, word / 4096 % 64);
-    let closure = work[4096 + row];
-    let first = (closure % 2048) as usize + 1;
+    let row = row_of(work, m, word / CARRIED_UNIT % NAMES);
+    let closure = work[ROW_PAYLOADS + row];
+    let first = (closure % CLOSURE_UNIT) as usize + 1;
     let block = first + count;
     let base = m.base;
     let caller = m.environment;
-    let below = 2070 + 4096 * m.bindings as u64;
-    m.environment = (closure / 2048) as usize;
+    let below = LEAVE_MARK + CARRIED_UNIT * m.bindings as u64;
+    m.environment = (closure / CLOSURE_UNIT) as usize;
     m.base = m.cells;
     let called = bind_formals(work, m, first, block);
     Stepped::Made(put_frame(work, called, base, caller, below, block as u64))

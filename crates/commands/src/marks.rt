@@ -4,10 +4,16 @@ ghost use Rattle.machine.specs.Steps.{Applicable, Steps};
 use machine::Location;
 use machine::Machine;
 use machine::Stepped;
+use machine::layout::MOST_CELLS;
+use machine::layout::ROW_PAYLOADS;
+use machine::layout::SECOND_PAYLOAD;
+use machine::layout::TOP_LABEL;
+use machine::layout::TOP_PAYLOAD;
+use machine::lookup::row_of;
 use machine::memory::put_cell;
 use machine::memory::put_value;
-use machine::lookup::row_of;
 use machine::memory::set_cell;
+use machine::reasons;
 use machine::stacks::put_two;
 use reader::end;
 
@@ -17,11 +23,11 @@ pub fn assign_mark(work: &mut [u64], mut m: Machine, word: u64) -> Stepped
     ensures { λ r. ⌜ Steps (now (work .entry)) m word (mark assign-mark) r (now (work .exit)) ⌝ }
 {
     let height = m.values;
-    let label = work[3071 + height];
-    let payload = work[2559 + height];
-    let name = work[2558 + height];
+    let label = work[TOP_LABEL + height];
+    let payload = work[TOP_PAYLOAD + height];
+    let name = work[SECOND_PAYLOAD + height];
     let row = row_of(work, m, name);
-    let bound = work[4096 + row];
+    let bound = work[ROW_PAYLOADS + row];
     m.values = height - 2;
     set_cell(work, m, Location(bound as usize), label, payload);
     Stepped::Made(m)
@@ -33,8 +39,8 @@ pub fn loop_mark(work: &mut [u64], mut m: Machine, word: u64) -> Stepped
     ensures { λ r. ⌜ Steps (now (work .entry)) m word (mark loop-mark) r (now (work .exit)) ⌝ }
 {
     let height = m.values;
-    let truth = work[2559 + height];
-    let node = work[2558 + height];
+    let truth = work[TOP_PAYLOAD + height];
+    let node = work[SECOND_PAYLOAD + height];
     m.values = height - 2;
     if truth == 0 {
         return Stepped::Made(m);
@@ -49,12 +55,12 @@ pub fn ref_mark(work: &mut [u64], mut m: Machine, word: u64) -> Stepped
     ensures { λ r. ⌜ Steps (now (work .entry)) m word (mark ref-mark) r (now (work .exit)) ⌝ }
 {
     let cell = m.cells;
-    if cell == 256 {
-        return Stepped::Withheld(33);
+    if cell == MOST_CELLS {
+        return Stepped::Withheld(reasons::CELLS);
     }
     let height = m.values;
-    let label = work[3071 + height];
-    let payload = work[2559 + height];
+    let label = work[TOP_LABEL + height];
+    let payload = work[TOP_PAYLOAD + height];
     m.values = height - 1;
     let made = put_cell(work, m, label, payload);
     Stepped::Made(put_value(work, made, 1, cell as u64))

@@ -9,8 +9,16 @@ ghost use Rattle.reader.specs.Pack.{packed-kind};
 ghost use Rattle.machine.specs.Steps.{Applicable, Steps};
 use machine::Machine;
 use machine::Stepped;
+use machine::layout::ASSIGN_MARK;
+use machine::layout::CALL_MARK;
+use machine::layout::CARRIED_UNIT;
+use machine::layout::EXTEND_MARK;
+use machine::layout::LEAVE_MARK;
+use machine::layout::LOOP_MARK;
+use machine::layout::MOST_VALUE_ENTRIES;
 use machine::memory::put_control;
 use machine::memory::put_value;
+use machine::reasons;
 use machine::stacks::enter;
 use machine::stacks::put_two;
 use reader::end;
@@ -22,7 +30,7 @@ fn assign(work: &mut [u64], m: Machine, node: usize) -> Stepped
     ensures { λ r. ⌜ ((x : ℕ) (e : Expression) → Steps (now (work .entry)) m node (command (Assign node x e)) r (now (work .exit))) ⌝ }
 {
     let name = operand(work, node);
-    enter(work, m, name as u64, 2068, node as u64 + 1)
+    enter(work, m, name as u64, ASSIGN_MARK, node as u64 + 1)
 }
 
 // Loop: itself, the test, the mark.
@@ -30,7 +38,7 @@ fn repeat(work: &mut [u64], m: Machine, node: usize) -> Stepped
     requires { ⌜ ((e : Expression) × (c : Command) × Applicable (now work) m node (command (Loop node e c))) ⌝ }
     ensures { λ r. ⌜ ((e : Expression) (c : Command) → Steps (now (work .entry)) m node (command (Loop node e c)) r (now (work .exit))) ⌝ }
 {
-    enter(work, m, node as u64, 2069, node as u64 + 1)
+    enter(work, m, node as u64, LOOP_MARK, node as u64 + 1)
 }
 
 // CSeq: both commands.
@@ -47,11 +55,11 @@ fn enter_block(work: &mut [u64], m: Machine, node: usize) -> Stepped
     requires { ⌜ ((d : Declaration) × (c : Command) × Applicable (now work) m node (command (block (Blk node d c)))) ⌝ }
     ensures { λ r. ⌜ ((d : Declaration) (c : Command) → Steps (now (work .entry)) m node (command (block (Blk node d c))) r (now (work .exit))) ⌝ }
 {
-    if m.values == 512 {
-        return Stepped::Withheld(35);
+    if m.values == MOST_VALUE_ENTRIES {
+        return Stepped::Withheld(reasons::VALUE_ENTRIES);
     }
     if 508 < m.control {
-        return Stepped::Withheld(36);
+        return Stepped::Withheld(reasons::CONTROL_ENTRIES);
     }
     let body = end(work, node + 1);
     let saved = put_value(work, m, 0, m.base as u64);
@@ -64,9 +72,13 @@ fn enter_block(work: &mut [u64], m: Machine, node: usize) -> Stepped
         base: saved.cells,
         bindings: saved.bindings,
     };
-    let first = put_control(work, opened, 2070 + 4096 * opened.bindings as u64);
+    let first = put_control(
+        work,
+        opened,
+        LEAVE_MARK + CARRIED_UNIT * opened.bindings as u64,
+    );
     let second = put_control(work, first, body as u64);
-    let third = put_control(work, second, 2071);
+    let third = put_control(work, second, EXTEND_MARK);
     Stepped::Made(put_control(work, third, node as u64 + 1))
 }
 
@@ -78,9 +90,9 @@ fn call(work: &mut [u64], m: Machine, node: usize) -> Stepped
     let word = operand(work, node);
     let count = word / 64;
     if 511 < m.control + count {
-        return Stepped::Withheld(36);
+        return Stepped::Withheld(reasons::CONTROL_ENTRIES);
     }
-    let mut machine = put_control(work, m, 2072 + 4096 * word as u64);
+    let mut machine = put_control(work, m, CALL_MARK + CARRIED_UNIT * word as u64);
     let mut left = count;
     let mut at = node + 1;
     while 0 < left {

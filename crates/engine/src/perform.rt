@@ -17,8 +17,8 @@ use crate::examine;
 use automaton::Ending;
 use automaton::ends::take_registers;
 use automaton::ends::value_left;
-use machine::Machine;
 use automaton::start::start;
+use machine::Machine;
 
 // The tree that stands in the work words is run from the registers, which take what it leaves in them.
 fn execute(registers: &mut [u64], budget: u64, work: &mut [u64]) -> Ending

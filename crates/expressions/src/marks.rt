@@ -5,26 +5,36 @@ ghost use Rattle.rules.specs.paper.Kinds.{operator-number};
 ghost use Rattle.rules.specs.paper.Tree.{Arithmetic, Order, Logic, arithmetic, Eq, order, logic};
 ghost use Rattle.rules.specs.paper.Integers.{compute, compare};
 ghost use Rattle.rules.specs.paper.States.{operator-mark, not-mark, mark};
+ghost use Rattle.machine.specs.Layout.{mark-base};
 ghost use Rattle.integers.specs.Words.{integer-of, computed};
 ghost use Rattle.machine.specs.Regions.{Fits};
 ghost use Rattle.expressions.specs.Replaced.{Replaces};
 ghost use Rattle.machine.specs.Steps.{Applicable, Steps};
+use integers::Computed;
 use machine::Machine;
 use machine::Stepped;
+use machine::layout::AND_MARK;
+use machine::layout::GT_MARK;
+use machine::layout::LE_MARK;
+use machine::layout::LT_MARK;
+use machine::layout::MUL_MARK;
+use machine::layout::SECOND_PAYLOAD;
+use machine::layout::SUB_MARK;
+use machine::layout::SUM_MARK;
+use machine::layout::TOP_PAYLOAD;
 use machine::memory::put_value;
-use integers::Computed;
 
 // What an arithmetic operator makes of two integers.
 fn computed(which: u64, first: u64, second: u64) -> Computed
-    ensures { λ r. ⌜ ((o : Arithmetic) → which ≡ 2048 + operator-number (arithmetic o) → r ≡ computed (compute o (integer-of first) (integer-of second))) ⌝ }
+    ensures { λ r. ⌜ ((o : Arithmetic) → which ≡ mark-base + operator-number (arithmetic o) → r ≡ computed (compute o (integer-of first) (integer-of second))) ⌝ }
 {
-    if which == 2052 {
+    if which == SUM_MARK {
         return integers::sum(first, second);
     }
-    if which == 2053 {
+    if which == SUB_MARK {
         return integers::difference(first, second);
     }
-    if which == 2054 {
+    if which == MUL_MARK {
         return integers::product(first, second);
     }
     integers::quotient(first, second)
@@ -42,12 +52,12 @@ fn replace_two(work: &mut [u64], mut m: Machine, payload: u64) -> Stepped
 
 // Sum to Div.
 pub fn arithmetic_mark(work: &mut [u64], m: Machine, word: u64) -> Stepped
-    requires { ⌜ ((o : Arithmetic) × (word ≡ 2048 + operator-number (arithmetic o)) × Applicable (now work) m word (mark (operator-mark (arithmetic o)))) ⌝ }
-    ensures { λ r. ⌜ ((o : Arithmetic) → word ≡ 2048 + operator-number (arithmetic o) → Steps (now (work .entry)) m word (mark (operator-mark (arithmetic o))) r (now (work .exit))) ⌝ }
+    requires { ⌜ ((o : Arithmetic) × (word ≡ mark-base + operator-number (arithmetic o)) × Applicable (now work) m word (mark (operator-mark (arithmetic o)))) ⌝ }
+    ensures { λ r. ⌜ ((o : Arithmetic) → word ≡ mark-base + operator-number (arithmetic o) → Steps (now (work .entry)) m word (mark (operator-mark (arithmetic o))) r (now (work .exit))) ⌝ }
 {
     let height = m.values;
-    let first = work[2558 + height];
-    let second = work[2559 + height];
+    let first = work[SECOND_PAYLOAD + height];
+    let second = work[TOP_PAYLOAD + height];
     match computed(word, first, second) {
         Computed::Number(result) => replace_two(work, m, result),
         Computed::Failed(reason) => Stepped::Withheld(reason),
@@ -60,8 +70,8 @@ pub fn equal_mark(work: &mut [u64], m: Machine, word: u64) -> Stepped
     ensures { λ r. ⌜ Steps (now (work .entry)) m word (mark (operator-mark Eq)) r (now (work .exit)) ⌝ }
 {
     let height = m.values;
-    let first = work[2558 + height];
-    let second = work[2559 + height];
+    let first = work[SECOND_PAYLOAD + height];
+    let second = work[TOP_PAYLOAD + height];
     if first == second {
         return replace_two(work, m, 1);
     }
@@ -70,12 +80,12 @@ pub fn equal_mark(work: &mut [u64], m: Machine, word: u64) -> Stepped
 
 // Lt to Ge.
 pub fn order_mark(work: &mut [u64], m: Machine, word: u64) -> Stepped
-    requires { ⌜ ((o : Order) × (word ≡ 2048 + operator-number (order o)) × Applicable (now work) m word (mark (operator-mark (order o)))) ⌝ }
-    ensures { λ r. ⌜ ((o : Order) → word ≡ 2048 + operator-number (order o) → Steps (now (work .entry)) m word (mark (operator-mark (order o))) r (now (work .exit))) ⌝ }
+    requires { ⌜ ((o : Order) × (word ≡ mark-base + operator-number (order o)) × Applicable (now work) m word (mark (operator-mark (order o)))) ⌝ }
+    ensures { λ r. ⌜ ((o : Order) → word ≡ mark-base + operator-number (order o) → Steps (now (work .entry)) m word (mark (operator-mark (order o))) r (now (work .exit))) ⌝ }
 {
     let height = m.values;
-    let first = work[2558 + height];
-    let second = work[2559 + height];
+    let first = work[SECOND_PAYLOAD + height];
+    let second = work[TOP_PAYLOAD + height];
     let holds = compared(word, first, second);
     if holds {
         return replace_two(work, m, 1);
@@ -85,15 +95,15 @@ pub fn order_mark(work: &mut [u64], m: Machine, word: u64) -> Stepped
 
 // Whether an order holds of two integers.
 fn compared(which: u64, first: u64, second: u64) -> bool
-    ensures { λ r. ⌜ ((o : Order) → which ≡ 2048 + operator-number (order o) → r ≡ compare o (integer-of first) (integer-of second)) ⌝ }
+    ensures { λ r. ⌜ ((o : Order) → which ≡ mark-base + operator-number (order o) → r ≡ compare o (integer-of first) (integer-of second)) ⌝ }
 {
-    if which == 2057 {
+    if which == LT_MARK {
         return integers::less(first, second);
     }
-    if which == 2058 {
+    if which == LE_MARK {
         return !integers::less(second, first);
     }
-    if which == 2059 {
+    if which == GT_MARK {
         return integers::less(second, first);
     }
     !integers::less(first, second)
@@ -101,13 +111,13 @@ fn compared(which: u64, first: u64, second: u64) -> bool
 
 // And, Or.
 pub fn logic_mark(work: &mut [u64], m: Machine, word: u64) -> Stepped
-    requires { ⌜ ((o : Logic) × (word ≡ 2048 + operator-number (logic o)) × Applicable (now work) m word (mark (operator-mark (logic o)))) ⌝ }
-    ensures { λ r. ⌜ ((o : Logic) → word ≡ 2048 + operator-number (logic o) → Steps (now (work .entry)) m word (mark (operator-mark (logic o))) r (now (work .exit))) ⌝ }
+    requires { ⌜ ((o : Logic) × (word ≡ mark-base + operator-number (logic o)) × Applicable (now work) m word (mark (operator-mark (logic o)))) ⌝ }
+    ensures { λ r. ⌜ ((o : Logic) → word ≡ mark-base + operator-number (logic o) → Steps (now (work .entry)) m word (mark (operator-mark (logic o))) r (now (work .exit))) ⌝ }
 {
     let height = m.values;
-    let first = work[2558 + height];
-    let second = work[2559 + height];
-    if word == 2061 {
+    let first = work[SECOND_PAYLOAD + height];
+    let second = work[TOP_PAYLOAD + height];
+    if word == AND_MARK {
         if first == 0 {
             return replace_two(work, m, 0);
         }
@@ -125,7 +135,7 @@ pub fn not_mark(work: &mut [u64], mut m: Machine, word: u64) -> Stepped
     ensures { λ r. ⌜ Steps (now (work .entry)) m word (mark not-mark) r (now (work .exit)) ⌝ }
 {
     let height = m.values;
-    let truth = work[2559 + height];
+    let truth = work[TOP_PAYLOAD + height];
     m.values = height - 1;
     Stepped::Made(put_value(work, m, 0, 1 - truth))
 }

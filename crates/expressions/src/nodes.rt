@@ -11,9 +11,14 @@ ghost use Rattle.machine.specs.Steps.{Applicable, Steps};
 use machine::Location;
 use machine::Machine;
 use machine::Stepped;
+use machine::layout::LABEL_UNIT;
+use machine::layout::MARK;
+use machine::layout::NOT_MARK;
+use machine::layout::ROW_LABELS;
+use machine::layout::ROW_PAYLOADS;
+use machine::lookup::row_of;
 use machine::memory::cell_label;
 use machine::memory::cell_payload;
-use machine::lookup::row_of;
 use machine::stacks::push;
 use machine::stacks::put_three;
 use machine::stacks::put_two;
@@ -45,8 +50,8 @@ fn id(work: &mut [u64], m: Machine, node: usize) -> Stepped
 {
     let name = operand(work, node);
     let row = row_of(work, m, name as u64);
-    let bound = work[4096 + row];
-    if work[3584 + row] / 64 % 2 == 0 {
+    let bound = work[ROW_PAYLOADS + row];
+    if work[ROW_LABELS + row] / LABEL_UNIT % 2 == 0 {
         return push(work, m, 0, bound);
     }
     let label = cell_label(work, Location(bound as usize));
@@ -61,7 +66,7 @@ fn deref(work: &mut [u64], m: Machine, node: usize) -> Stepped
 {
     let name = operand(work, node);
     let row = row_of(work, m, name as u64);
-    let bound = work[4096 + row];
+    let bound = work[ROW_PAYLOADS + row];
     push(work, m, 1, bound)
 }
 
@@ -72,7 +77,7 @@ fn valref(work: &mut [u64], m: Machine, node: usize) -> Stepped
 {
     let name = operand(work, node);
     let row = row_of(work, m, name as u64);
-    let bound = work[4096 + row];
+    let bound = work[ROW_PAYLOADS + row];
     let shown = cell_payload(work, Location(bound as usize));
     let label = cell_label(work, Location(shown as usize));
     let payload = cell_payload(work, Location(shown as usize));
@@ -85,7 +90,7 @@ fn binary(work: &mut [u64], m: Machine, node: usize, which: usize) -> Stepped
     ensures { λ r. ⌜ ((o : Operator) (e₁ e₂ : Expression) → which ≡ operator-number o → Steps (now (work .entry)) m node (expression (Binary node o e₁ e₂)) r (now (work .exit))) ⌝ }
 {
     let second = end(work, node + 1);
-    put_three(work, m, 2048 + which as u64, second as u64, node as u64 + 1)
+    put_three(work, m, MARK + which as u64, second as u64, node as u64 + 1)
 }
 
 // Not.
@@ -93,7 +98,7 @@ fn negation(work: &mut [u64], m: Machine, node: usize) -> Stepped
     requires { ⌜ ((e : Expression) × Applicable (now work) m node (expression (Not node e))) ⌝ }
     ensures { λ r. ⌜ ((e : Expression) → Steps (now (work .entry)) m node (expression (Not node e)) r (now (work .exit))) ⌝ }
 {
-    put_two(work, m, 2063, node as u64 + 1)
+    put_two(work, m, NOT_MARK, node as u64 + 1)
 }
 
 // The rule of an expression, by its kind.

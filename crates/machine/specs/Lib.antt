@@ -1,3 +1,4 @@
+pub mod Layout
 pub mod Regions
 pub mod Represents
 pub mod Lookup

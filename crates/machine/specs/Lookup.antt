@@ -4,8 +4,9 @@ use mathlib.Core.Path.{_≡_}
 use mathlib.Core.List.{List}
 use lib.ListN.{length}
 use Rattle.rules.specs.paper.States.{Bindable}
+use Rattle.machine.specs.Layout.{link}
 use Rattle.machine.specs.Regions.{Slot}
-use Rattle.machine.specs.Represents.{BindableAs, link}
+use Rattle.machine.specs.Represents.{BindableAs}
 
 -- The row of a name: its words, and what it binds the name to.
 pub record RowOf (nodes : List ℕ) (rows : List Slot) (name : ℕ) (b : Bindable) (row label payload : ℕ) : Type 0 where

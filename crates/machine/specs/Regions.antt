@@ -6,6 +6,8 @@ use mathlib.Core.Option.{Option, none, some}
 use lib.Dec.{eqb}
 use lib.ListN.{length, getD, take, drop}
 use Rattle.machine.specs.declared.Machine.{Machine}
+use Rattle.machine.specs.Layout.{control-from, value-payloads, value-labels, row-labels, row-payloads, cell-payloads, cell-labels}
+use Rattle.rules.specs.paper.Limits.{most-nodes, most-cells, most-bindings, most-value-entries, most-control-entries, work-words}
 
 -- A stack of words from a base on, newest first.
 unfoldable pub stack : (base height : ℕ) → List ℕ → List ℕ
@@ -45,25 +47,25 @@ pub record Regions : Type 0 where
 unfoldable pub regions : List ℕ → Machine → Regions
 regions words m =
     record {
-      nodes = take 2000 words;
-      control = stack 2048 (m .control) words;
-      values = slots 3072 2560 (m .values) words;
-      rows = slots 3584 4096 (m .bindings) words;
-      cells = slots 4864 4608 (m .cells) words;
+      nodes = take most-nodes words;
+      control = stack control-from (m .control) words;
+      values = slots value-labels value-payloads (m .values) words;
+      rows = slots row-labels row-payloads (m .bindings) words;
+      cells = slots cell-labels cell-payloads (m .cells) words;
       environment = m .environment;
       declared = m .declared;
       base = m .base;
-      beyond = drop 8192 words;
+      beyond = drop work-words words;
       size = length words;
     }
 
 -- The regions have room for what the heights say, which are within the paper's limits.
 pub record Fits (words : List ℕ) (m : Machine) : Type 0 where
-  pub room : 8192 ≤ length words
-  pub few-control : m .control ≤ 512
-  pub few-values : m .values ≤ 512
-  pub few-bindings : m .bindings ≤ 512
-  pub few-cells : m .cells ≤ 256
+  pub room : work-words ≤ length words
+  pub few-control : m .control ≤ most-control-entries
+  pub few-values : m .values ≤ most-value-entries
+  pub few-bindings : m .bindings ≤ most-bindings
+  pub few-cells : m .cells ≤ most-cells
 
 -- One more entry of control.
 abbrev pub with-control : ℕ → Regions → Regions

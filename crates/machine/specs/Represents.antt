@@ -9,9 +9,10 @@ use lib.IntN.{ℤ}
 use lib.ListN.{length}
 use Rattle.rules.specs.paper.Kinds.{operator-number}
 use Rattle.rules.specs.paper.Tree.{Operator, Expression, Formal, Command, Loop, Block, Declaration, Bound, Ref, Abs}
-use Rattle.rules.specs.paper.Limits.{names, most-parameters}
+use Rattle.rules.specs.paper.Limits.{names, most-parameters, most-nodes}
 use Rattle.rules.specs.claims.Listing.{truth-word}
 use Rattle.rules.specs.paper.States.{Value, integer, truth, location, Bindable, value, closure, Environment, empty, bound, Cell, Store, Entry, bindable, name, node, environment, locations, operator-mark, not-mark, assign-mark, loop-mark, ref-mark, bind-mark, dseq-mark, extend-mark, leave-mark, call-mark, Item, expression, command, declaration, reference, abstraction, mark, State, state}
+use Rattle.machine.specs.Layout.{closure-unit, mark-word, link}
 use Rattle.reader.specs.Stored.{StoredExpression, StoredCommand, StoredDeclaration, StoredBound}
 use Rattle.integers.specs.Words.{integer-of}
 use Rattle.machine.specs.Regions.{Slot, slot-at, Regions}
@@ -22,10 +23,6 @@ pub data ValueAs : (label payload : ℕ) → Value → Type 0 where
   integer-as : {w : ℕ} {z : ℤ} → z ≡ integer-of w → w < 18446744073709551616 → ValueAs 0 w (integer z)
   truth-as : {w : ℕ} {b : Bool} → w ≡ truth-word b → ValueAs 0 w (truth b)
   location-as : {l : ℕ} → ValueAs 1 l (location l)
-
--- The word of a row: its name, the label of what it binds, and the pointer of the row below it.
-abbrev pub link : (name label pointer : ℕ) → ℕ
-link x t q = x + 64 * t + 128 * q
 
 mutual
   -- The rows from one pointer to another are this environment, newest first. A pointer is one more than the number of its row, and 0
@@ -38,7 +35,7 @@ mutual
   -- A closure is the place of its Abs and the pointer of its environment.
   pub data BindableAs (nodes : List ℕ) (rows : List Slot) : (label payload : ℕ) → Bindable → Type 0 where
     value-as : {t w : ℕ} {v : Value} → ValueAs t w v → BindableAs nodes rows t w (value v)
-    closure-as : {w d p j f : ℕ} {fs : List Formal} {b : Block} {F : Environment} → w ≡ p + 2048 * f → p < 2000 → StoredBound nodes d p j (Abs p fs b) →
+    closure-as : {w d p j f : ℕ} {fs : List Formal} {b : Block} {F : Environment} → w ≡ p + closure-unit * f → p < most-nodes → StoredBound nodes d p j (Abs p fs b) →
         SegmentAs nodes rows f 0 F → BindableAs nodes rows 0 w (closure fs b F)
 
 -- The live cells: each location is the number of cells that are older.
@@ -76,24 +73,24 @@ pub data ControlAs (nodes : List ℕ) : Mode → List ℕ → List Item → Type
       ControlAs nodes (declaring m ms) ws C → ControlAs nodes (declaring m ms) (i ∷ ws) (reference p e ∷ C)
   abstraction-on : {m : ℕ} {ms : List ℕ} {ws : List ℕ} {C : List Item} {d i j p : ℕ} {fs : List Formal} {b : Block} → StoredBound nodes d i j (Abs p fs b) →
       ControlAs nodes (declaring m ms) ws C → ControlAs nodes (declaring m ms) (i ∷ ws) (abstraction p fs b ∷ C)
-  operator-on : {m : Mode} {ws : List ℕ} {C : List Item} {w : ℕ} {o : Operator} → w ≡ 2048 + operator-number o →
+  operator-on : {m : Mode} {ws : List ℕ} {C : List Item} {w : ℕ} {o : Operator} → w ≡ mark-word (operator-mark o) →
       ControlAs nodes m ws C → ControlAs nodes m (w ∷ ws) (mark (operator-mark o) ∷ C)
-  not-on : {m : Mode} {ws : List ℕ} {C : List Item} {w : ℕ} → w ≡ 2063 → ControlAs nodes m ws C → ControlAs nodes m (w ∷ ws) (mark not-mark ∷ C)
-  assign-on : {ms : List ℕ} {ws : List ℕ} {C : List Item} {w : ℕ} → w ≡ 2068 →
+  not-on : {m : Mode} {ws : List ℕ} {C : List Item} {w : ℕ} → w ≡ mark-word not-mark → ControlAs nodes m ws C → ControlAs nodes m (w ∷ ws) (mark not-mark ∷ C)
+  assign-on : {ms : List ℕ} {ws : List ℕ} {C : List Item} {w : ℕ} → w ≡ mark-word assign-mark →
       ControlAs nodes (running ms) ws C → ControlAs nodes (running ms) (w ∷ ws) (mark assign-mark ∷ C)
-  loop-on : {ms : List ℕ} {ws : List ℕ} {C : List Item} {w : ℕ} → w ≡ 2069 →
+  loop-on : {ms : List ℕ} {ws : List ℕ} {C : List Item} {w : ℕ} → w ≡ mark-word loop-mark →
       ControlAs nodes (running ms) ws C → ControlAs nodes (running ms) (w ∷ ws) (mark loop-mark ∷ C)
-  ref-on : {m : ℕ} {ms : List ℕ} {ws : List ℕ} {C : List Item} {w : ℕ} → w ≡ 2088 →
+  ref-on : {m : ℕ} {ms : List ℕ} {ws : List ℕ} {C : List Item} {w : ℕ} → w ≡ mark-word ref-mark →
       ControlAs nodes (declaring m ms) ws C → ControlAs nodes (declaring m ms) (w ∷ ws) (mark ref-mark ∷ C)
-  bind-on : {m : ℕ} {ms : List ℕ} {ws : List ℕ} {C : List Item} {w : ℕ} → w ≡ 2078 →
+  bind-on : {m : ℕ} {ms : List ℕ} {ws : List ℕ} {C : List Item} {w : ℕ} → w ≡ mark-word bind-mark →
       ControlAs nodes (declaring m ms) ws C → ControlAs nodes (declaring m ms) (w ∷ ws) (mark bind-mark ∷ C)
-  dseq-on : {m : ℕ} {ms : List ℕ} {ws : List ℕ} {C : List Item} {w : ℕ} → w ≡ 2079 →
+  dseq-on : {m : ℕ} {ms : List ℕ} {ws : List ℕ} {C : List Item} {w : ℕ} → w ≡ mark-word dseq-mark →
       ControlAs nodes (declaring m ms) ws C → ControlAs nodes (declaring m ms) (w ∷ ws) (mark dseq-mark ∷ C)
-  extend-on : {m : ℕ} {ms : List ℕ} {ws : List ℕ} {C : List Item} {w : ℕ} → w ≡ 2071 →
+  extend-on : {m : ℕ} {ms : List ℕ} {ws : List ℕ} {C : List Item} {w : ℕ} → w ≡ mark-word extend-mark →
       ControlAs nodes (running (m ∷ ms)) ws C → ControlAs nodes (declaring m ms) (w ∷ ws) (mark extend-mark ∷ C)
-  leave-on : {m : ℕ} {ms : List ℕ} {ws : List ℕ} {C : List Item} {w p : ℕ} → w ≡ 2070 + 4096 * m →
+  leave-on : {m : ℕ} {ms : List ℕ} {ws : List ℕ} {C : List Item} {w p : ℕ} → w ≡ mark-word (leave-mark p m) →
       ControlAs nodes (running ms) ws C → ControlAs nodes (running (m ∷ ms)) (w ∷ ws) (mark (leave-mark p m) ∷ C)
-  call-on : {ms : List ℕ} {ws : List ℕ} {C : List Item} {w p x k : ℕ} → w ≡ 2072 + 4096 * (x + names * k) → x < names → k ≤ most-parameters →
+  call-on : {ms : List ℕ} {ws : List ℕ} {C : List Item} {w p x k : ℕ} → w ≡ mark-word (call-mark p x k) → x < names → k ≤ most-parameters →
       ControlAs nodes (running ms) ws C → ControlAs nodes (running ms) (w ∷ ws) (mark (call-mark p x k) ∷ C)
 
 -- The value stack, by the rows, the count of cells when the running block was entered, the pointer of the names declared so far, and the

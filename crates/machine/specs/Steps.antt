@@ -8,6 +8,7 @@ use Rattle.rules.specs.paper.Refusals.{Reason, reason-number}
 use Rattle.rules.specs.paper.States.{Bindable, Environment, Store, Entry, bindable, environment, locations, Item, mark, extend-mark, State, state}
 use Rattle.rules.specs.paper.Rules.{Rule, Effect, goes, Table}
 use Rattle.rules.specs.paper.Run.{Verdict, made, withheld, judge}
+use Rattle.rules.specs.paper.Limits.{most-nodes, work-words, names}
 use Rattle.machine.specs.Regions.{Regions, slot, regions, Fits, with-control}
 use Rattle.machine.specs.Represents.{BindableAs, ControlAs, ValuesAs, Models}
 use Rattle.machine.specs.declared.Machine.{Machine}
@@ -24,8 +25,8 @@ Holds words m (state C X E S L n) = Stands words m C X E S L n
 
 -- The tree and the words beyond the engine's are kept.
 pub record Untouched (before after : List ℕ) : Type 0 where
-  pub same-nodes : take 2000 after ≡ take 2000 before
-  pub same-beyond : drop 8192 after ≡ drop 8192 before
+  pub same-nodes : take most-nodes after ≡ take most-nodes before
+  pub same-beyond : drop work-words after ≡ drop work-words before
   pub same-length : length after ≡ length before
 
 -- The step is made and the state after it stands; or it is withheld, and nothing is changed.

@@ -1,1 +1,91 @@
-// Where the regions of the work words begin.
+// Where the machine's regions stand in the work words, behind the tree's nodes, and how a word of each is made up. Layout.antt has the same.
+use reader::kinds;
+
+// The paper's limits.
+pub const MOST_CELLS: usize = 256;
+
+pub const MOST_BINDINGS: usize = 512;
+
+pub const MOST_VALUE_ENTRIES: usize = 512;
+
+pub const MOST_CONTROL_ENTRIES: usize = 512;
+
+// Control, one word an entry; the value stack, the rows of the live bindings and the cells, two words each: payloads and labels.
+pub const CONTROL: usize = 2048;
+
+pub const VALUE_PAYLOADS: usize = CONTROL + MOST_CONTROL_ENTRIES;
+
+pub const VALUE_LABELS: usize = VALUE_PAYLOADS + MOST_VALUE_ENTRIES;
+
+pub const ROW_LABELS: usize = VALUE_LABELS + MOST_VALUE_ENTRIES;
+
+pub const ROW_PAYLOADS: usize = ROW_LABELS + MOST_BINDINGS;
+
+pub const CELL_PAYLOADS: usize = ROW_PAYLOADS + MOST_BINDINGS;
+
+pub const CELL_LABELS: usize = CELL_PAYLOADS + MOST_CELLS;
+
+// The entry on top of a stack stands at the height plus the word before the region, the one below it a word before that.
+pub const TOP_CONTROL: usize = CONTROL - 1;
+
+pub const TOP_PAYLOAD: usize = VALUE_PAYLOADS - 1;
+
+pub const SECOND_PAYLOAD: usize = VALUE_PAYLOADS - 2;
+
+pub const TOP_LABEL: usize = VALUE_LABELS - 1;
+
+// A pointer is one more than the number of its row.
+pub const ROW_AT_POINTER: usize = ROW_LABELS - 1;
+
+// A row's label: its name, the label of what it binds, and the pointer of the row below it.
+pub const LABEL_UNIT: u64 = 64;
+
+pub const POINTER_UNIT: u64 = 128;
+
+// A closure: the place of its Abs, and the pointer of its environment.
+pub const CLOSURE_UNIT: u64 = 2048;
+
+// An entry of control: a node is its place, and a mark is above all places, with its number and what it carries: a second mark the live
+// bindings to go back to, a Call's mark the operand of its Call, name + 64 × count.
+pub const MARK: u64 = 2048;
+
+pub const MARK_NUMBERS: u64 = 64;
+
+pub const CARRIED_UNIT: u64 = 4096;
+
+pub const NAMES: u64 = 64;
+
+pub const COUNT_UNIT: u64 = CARRIED_UNIT * NAMES;
+
+// The marks, each with the number of the kind that it belongs to; a block's second has that of CSeq, which has no mark of its own.
+pub const SUM_MARK: u64 = MARK + kinds::SUM as u64;
+
+pub const SUB_MARK: u64 = MARK + kinds::SUB as u64;
+
+pub const MUL_MARK: u64 = MARK + kinds::MUL as u64;
+
+pub const LT_MARK: u64 = MARK + kinds::LT as u64;
+
+pub const LE_MARK: u64 = MARK + kinds::LE as u64;
+
+pub const GT_MARK: u64 = MARK + kinds::GT as u64;
+
+pub const AND_MARK: u64 = MARK + kinds::AND as u64;
+
+pub const NOT_MARK: u64 = MARK + kinds::NOT as u64;
+
+pub const ASSIGN_MARK: u64 = MARK + kinds::ASSIGN as u64;
+
+pub const LOOP_MARK: u64 = MARK + kinds::LOOP as u64;
+
+pub const LEAVE_MARK: u64 = MARK + kinds::CSEQ as u64;
+
+pub const EXTEND_MARK: u64 = MARK + kinds::BLK as u64;
+
+pub const CALL_MARK: u64 = MARK + kinds::CALL as u64;
+
+pub const BIND_MARK: u64 = MARK + kinds::BIND as u64;
+
+pub const DSEQ_MARK: u64 = MARK + kinds::DSEQ as u64;
+
+pub const REF_MARK: u64 = MARK + kinds::REF as u64;

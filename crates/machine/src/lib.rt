@@ -2,6 +2,7 @@
 pub mod layout;
 pub mod lookup;
 pub mod memory;
+pub mod reasons;
 pub mod stacks;
 
 // Where a cell is: not an integer, and nothing is computed with it.

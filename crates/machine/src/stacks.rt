@@ -3,16 +3,18 @@ ghost use Rattle.machine.specs.Regions.{Fits};
 ghost use Rattle.machine.specs.Steps.{PutsTwo, PutsThree, Pushes, Enters};
 use crate::Machine;
 use crate::Stepped;
+use crate::layout::MOST_VALUE_ENTRIES;
 use crate::memory::put_control;
 use crate::memory::put_value;
+use crate::reasons;
 
 // A value or a closure goes on the value stack.
 pub fn push(work: &mut [u64], m: Machine, label: u64, payload: u64) -> Stepped
     requires { ⌜ Fits (now work) m ⌝ }
     ensures { λ r. ⌜ Pushes (now (work .entry)) m label payload r (now (work .exit)) ⌝ }
 {
-    if m.values == 512 {
-        return Stepped::Withheld(35);
+    if m.values == MOST_VALUE_ENTRIES {
+        return Stepped::Withheld(reasons::VALUE_ENTRIES);
     }
     Stepped::Made(put_value(work, m, label, payload))
 }
@@ -23,7 +25,7 @@ pub fn put_two(work: &mut [u64], m: Machine, below: u64, top: u64) -> Stepped
     ensures { λ r. ⌜ PutsTwo (now (work .entry)) m below top r (now (work .exit)) ⌝ }
 {
     if 510 < m.control {
-        return Stepped::Withheld(36);
+        return Stepped::Withheld(reasons::CONTROL_ENTRIES);
     }
     let first = put_control(work, m, below);
     Stepped::Made(put_control(work, first, top))
@@ -35,7 +37,7 @@ pub fn put_three(work: &mut [u64], m: Machine, below: u64, middle: u64, top: u64
     ensures { λ r. ⌜ PutsThree (now (work .entry)) m below middle top r (now (work .exit)) ⌝ }
 {
     if 509 < m.control {
-        return Stepped::Withheld(36);
+        return Stepped::Withheld(reasons::CONTROL_ENTRIES);
     }
     let first = put_control(work, m, below);
     let second = put_control(work, first, middle);
@@ -47,11 +49,11 @@ pub fn enter(work: &mut [u64], m: Machine, payload: u64, below: u64, top: u64) -
     requires { ⌜ Fits (now work) m ⌝ }
     ensures { λ r. ⌜ Enters (now (work .entry)) m payload below top r (now (work .exit)) ⌝ }
 {
-    if m.values == 512 {
-        return Stepped::Withheld(35);
+    if m.values == MOST_VALUE_ENTRIES {
+        return Stepped::Withheld(reasons::VALUE_ENTRIES);
     }
     if 510 < m.control {
-        return Stepped::Withheld(36);
+        return Stepped::Withheld(reasons::CONTROL_ENTRIES);
     }
     let under = put_value(work, m, 0, payload);
     let first = put_control(work, under, below);

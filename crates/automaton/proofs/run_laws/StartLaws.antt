@@ -13,12 +13,14 @@ use Rattle.rules.specs.proofs.Basics.{true-test}
 use Rattle.rules.specs.paper.Tree.{Root, expression, command}
 use Rattle.rules.specs.paper.States.{value, location, bound}
 use Rattle.rules.specs.paper.Engine.{register-environment, register-store, root-item, start}
+use Rattle.rules.specs.paper.Limits.{most-nodes, most-bindings, work-words}
+use Rattle.machine.specs.Layout.{row-labels, row-payloads, cell-payloads, cell-labels, link}
 use Rattle.reader.specs.Stored.{StoredRoot, root-expression, root-command, RootAt}
 use Rattle.reader.specs.StoredLaws.{same-expression, same-command}
 use Rattle.integers.specs.Words.{integer-of, integers-of}
 use Rattle.integers.specs.WordLaws.{integers-at}
 use Rattle.machine.specs.Regions.{stack, Slot, slot, slots, slot-at, Regions, regions, Fits, with-control, with-row, with-cells, raised-control, raised-rows, raised-cells}
-use Rattle.machine.specs.Represents.{ValueAs, integer-as, location-as, SegmentAs, no-row, one-row, value-as, StoreAs, no-cell, one-cell, Since, none-since, running, ControlAs, nothing-left, expression-on, command-on, nothing-on, Models, link}
+use Rattle.machine.specs.Represents.{ValueAs, integer-as, location-as, SegmentAs, no-row, one-row, value-as, StoreAs, no-cell, one-cell, Since, none-since, running, ControlAs, nothing-left, expression-on, command-on, nothing-on, Models}
 use Rattle.machine.specs.Steps.{Stands, Holds, Untouched}
 use Rattle.automaton.specs.Starts.{StartsAt}
 use Rattle.machine.specs.declared.Machine.{Machine}
@@ -36,11 +38,11 @@ pub record RegistersSet (before : List ℕ) (registers : List ℕ) (words : List
   pub fits : Fits words m
   pub names-as : (nodes : List ℕ) → SegmentAs nodes (regions words m .rows) i 0 (register-environment i)
   pub cells-as : StoreAs (regions words m .cells) (register-store i (integers-of registers))
-  pub same-nodes : regions words m .nodes ≡ take 2000 before
-  pub same-beyond : regions words m .beyond ≡ drop 8192 before
+  pub same-nodes : regions words m .nodes ≡ take most-nodes before
+  pub same-beyond : regions words m .beyond ≡ drop work-words before
   pub same-size : regions words m .size ≡ length before
 
-pub none-set : (before registers : List ℕ) → 8192 ≤ length before → RegistersSet before registers before (with-registers 0) 0
+pub none-set : (before registers : List ℕ) → work-words ≤ length before → RegistersSet before registers before (with-registers 0) 0
 unfolding regions register-environment register-store slots
 none-set before registers h =
     record {
@@ -55,13 +57,13 @@ none-set before registers h =
 
 rows-height : (words : List ℕ) (m : Machine) → length (regions words m .rows) ≡ m .bindings
 unfolding regions
-rows-height words m = slots-length 3584 4096 (m .bindings) words
+rows-height words m = slots-length row-labels row-payloads (m .bindings) words
 
 cells-height : (words : List ℕ) (m : Machine) → length (regions words m .cells) ≡ m .cells
 unfolding regions
-cells-height words m = slots-length 4864 4608 (m .cells) words
+cells-height words m = slots-length cell-labels cell-payloads (m .cells) words
 
-pub row-fits : (words : List ℕ) (m : Machine) (after : List ℕ) (r : Machine) {s : Slot} → Fits words m → m .bindings < 512 → r ≡ raised-rows m → regions after (raised-rows m) ≡ with-row s (regions words m) → Fits after r
+pub row-fits : (words : List ℕ) (m : Machine) (after : List ℕ) (r : Machine) {s : Slot} → Fits words m → m .bindings < most-bindings → r ≡ raised-rows m → regions after (raised-rows m) ≡ with-row s (regions words m) → Fits after r
 row-fits words m after r f low q e =
     subst (Fits after) (sym q)
     (fits-still words after m (raised-rows m) f (ap (λ κ. κ .size) e) (f .few-control) (f .few-values) (omega (arith, low)) (f .few-cells))
@@ -127,33 +129,33 @@ root-on : (nodes : List ℕ) (t : Root) {d j : ℕ} → StoredRoot nodes d 0 j t
 root-on nodes (expression e) (root-expression h) = expression-on h nothing-left
 root-on nodes (command c) (root-command h) = command-on h nothing-left
 
-in-nodes : (before : List ℕ) (t : Root) {d j : ℕ} → StoredRoot before d 0 j t → StoredRoot (take 2000 before) d 0 j t
-in-nodes before (expression e) (root-expression h) = root-expression (same-expression before (take 2000 before) (λ i l. getD-take 2000 before i 0 l) h)
-in-nodes before (command c) (root-command h) = root-command (same-command before (take 2000 before) (λ i l. getD-take 2000 before i 0 l) h)
+in-nodes : (before : List ℕ) (t : Root) {d j : ℕ} → StoredRoot before d 0 j t → StoredRoot (take most-nodes before) d 0 j t
+in-nodes before (expression e) (root-expression h) = root-expression (same-expression before (take most-nodes before) (λ i l. getD-take most-nodes before i 0 l) h)
+in-nodes before (command c) (root-command h) = root-command (same-command before (take most-nodes before) (λ i l. getD-take most-nodes before i 0 l) h)
 
 module _ (before registers words after : List ℕ) (m r : Machine) (i : ℕ) (so-far : RegistersSet before registers words m i) (all-set : i ≡ length registers)
     (control-is : r ≡ raised-control (ready i)) (control-are : regions after (raised-control (ready i)) ≡ with-control 0 (regions words (ready i))) (t : Root) (stands : RootAt before t) where
   regions-ready : regions words (ready i) ≡
-      record { nodes = take 2000 before; control = []; values = []; rows = regions words (with-registers i) .rows; cells = regions words (with-registers i) .cells; environment = i; declared = i; base = i; beyond = drop 8192 before; size = length before }
+      record { nodes = take most-nodes before; control = []; values = []; rows = regions words (with-registers i) .rows; cells = regions words (with-registers i) .cells; environment = i; declared = i; base = i; beyond = drop work-words before; size = length before }
   unfolding regions stack slots
   regions-ready =
       let same = subst (λ k. RegistersSet before registers words k i) (so-far .machine-is) so-far in
       rw (same .same-nodes, same .same-beyond, same .same-size)
 
   whole : regions after r ≡
-      record { nodes = take 2000 before; control = 0 ∷ []; values = []; rows = regions words (with-registers i) .rows; cells = regions words (with-registers i) .cells; environment = i; declared = i; base = i; beyond = drop 8192 before; size = length before }
+      record { nodes = take most-nodes before; control = 0 ∷ []; values = []; rows = regions words (with-registers i) .rows; cells = regions words (with-registers i) .cells; environment = i; declared = i; base = i; beyond = drop work-words before; size = length before }
   whole = ap (regions after) control-is ∙ control-are ∙ ap (with-control 0) regions-ready
 
   models : Models
-      (record { nodes = take 2000 before; control = 0 ∷ []; values = []; rows = regions words (with-registers i) .rows; cells = regions words (with-registers i) .cells; environment = i; declared = i; base = i; beyond = drop 8192 before; size = length before })
+      (record { nodes = take most-nodes before; control = 0 ∷ []; values = []; rows = regions words (with-registers i) .rows; cells = regions words (with-registers i) .cells; environment = i; declared = i; base = i; beyond = drop work-words before; size = length before })
       (root-item t ∷ []) [] (register-environment i) (register-store i (integers-of registers)) [] i
   models =
       let same = subst (λ k. RegistersSet before registers words k i) (so-far .machine-is) so-far in
       record {
         mode = running [];
-        control-as = root-on (take 2000 before) t (in-nodes before t (stands .stored));
+        control-as = root-on (take most-nodes before) t (in-nodes before t (stands .stored));
         values-as = nothing-on;
-        environment-as = same .names-as (take 2000 before);
+        environment-as = same .names-as (take most-nodes before);
         store-as = same .cells-as;
         locations-as = subst (λ k. Since i k []) (sym (cells-height words (with-registers i))) none-since;
         bindings-as = sym (rows-height words (with-registers i));

@@ -6,6 +6,7 @@ use native.Mathlib.Omega.{arith}
 use lib.ListN.{getD}
 use Rattle.rules.specs.paper.Tree.{Expression, Formal, Command, Block, Declaration}
 use Rattle.rules.specs.paper.States.{Item, Mark, expression, command, declaration, reference, abstraction, mark}
+use Rattle.machine.specs.Layout.{top-control, mark-base}
 use Rattle.reader.specs.Pack.{packed-kind}
 use Rattle.machine.specs.Steps.{Applicable, Steps}
 use Rattle.automaton.specs.Runs.{Enabled, EnabledAt, StepsFrom}
@@ -16,7 +17,7 @@ use Rattle.automaton.proofs.step_laws.StepLaws.{lowered, ItemSort, expr
 -- ---- What the tests say of the item.
 
 module _ (words : List ℕ) (w : ℕ) (P : Item → Type 0) where
-  pub select-mark : {i : Item} → ItemSort words w i → 2048 ≤ w → ((k : Mark) → P (mark k)) → P i
+  pub select-mark : {i : Item} → ItemSort words w i → mark-base ≤ w → ((k : Mark) → P (mark k)) → P i
   select-mark (expression-sort l k) h f = absurd (omega (arith, l, h))
   select-mark (command-sort l a b) h f = absurd (omega (arith, l, h))
   select-mark (declaration-sort l a b) h f = absurd (omega (arith, l, h))
@@ -24,7 +25,7 @@ module _ (words : List ℕ) (w : ℕ) (P : Item → Type 0) where
   select-mark (abstraction-sort l q) h f = absurd (omega (arith, l, h))
   select-mark (mark-sort {k = k} l) h f = f k
 
-  pub select-expression : {i : Item} → ItemSort words w i → w < 2048 → packed-kind (getD words w 0) < 20 → ((e : Expression) → P (expression e)) → P i
+  pub select-expression : {i : Item} → ItemSort words w i → w < mark-base → packed-kind (getD words w 0) < 20 → ((e : Expression) → P (expression e)) → P i
   select-expression (expression-sort {e = e} l k) h t f = f e
   select-expression (command-sort l a b) h t f = absurd (omega (arith, a, t))
   select-expression (declaration-sort l a b) h t f = absurd (omega (arith, a, t))
@@ -32,7 +33,7 @@ module _ (words : List ℕ) (w : ℕ) (P : Item → Type 0) where
   select-expression (abstraction-sort l q) h t f = absurd (omega (arith, q, t))
   select-expression (mark-sort l) h t f = absurd (omega (arith, l, h))
 
-  pub select-command : {i : Item} → ItemSort words w i → w < 2048 → 20 ≤ packed-kind (getD words w 0) → packed-kind (getD words w 0) < 30 → ((c : Command) → P (command c)) → P i
+  pub select-command : {i : Item} → ItemSort words w i → w < mark-base → 20 ≤ packed-kind (getD words w 0) → packed-kind (getD words w 0) < 30 → ((c : Command) → P (command c)) → P i
   select-command (expression-sort l k) h s t f = absurd (omega (arith, k, s))
   select-command (command-sort {c = c} l a b) h s t f = f c
   select-command (declaration-sort l a b) h s t f = absurd (omega (arith, a, t))
@@ -40,7 +41,7 @@ module _ (words : List ℕ) (w : ℕ) (P : Item → Type 0) where
   select-command (abstraction-sort l q) h s t f = absurd (omega (arith, q, t))
   select-command (mark-sort l) h s t f = absurd (omega (arith, l, h))
 
-  pub select-declaration : {i : Item} → ItemSort words w i → w < 2048 → 30 ≤ packed-kind (getD words w 0) → packed-kind (getD words w 0) < 40 → ((d : Declaration) → P (declaration d)) → P i
+  pub select-declaration : {i : Item} → ItemSort words w i → w < mark-base → 30 ≤ packed-kind (getD words w 0) → packed-kind (getD words w 0) < 40 → ((d : Declaration) → P (declaration d)) → P i
   select-declaration (expression-sort l k) h s t f = absurd (omega (arith, k, s))
   select-declaration (command-sort l a b) h s t f = absurd (omega (arith, b, s))
   select-declaration (declaration-sort {d = d} l a b) h s t f = f d
@@ -48,7 +49,7 @@ module _ (words : List ℕ) (w : ℕ) (P : Item → Type 0) where
   select-declaration (abstraction-sort l q) h s t f = absurd (omega (arith, q, t))
   select-declaration (mark-sort l) h s t f = absurd (omega (arith, l, h))
 
-  pub select-reference : {i : Item} → ItemSort words w i → w < 2048 → packed-kind (getD words w 0) ≡ 40 → ((p : ℕ) (e : Expression) → P (reference p e)) → P i
+  pub select-reference : {i : Item} → ItemSort words w i → w < mark-base → packed-kind (getD words w 0) ≡ 40 → ((p : ℕ) (e : Expression) → P (reference p e)) → P i
   select-reference (expression-sort l k) h t f = absurd (omega (arith, k, t))
   select-reference (command-sort l a b) h t f = absurd (omega (arith, b, t))
   select-reference (declaration-sort l a b) h t f = absurd (omega (arith, b, t))
@@ -56,7 +57,7 @@ module _ (words : List ℕ) (w : ℕ) (P : Item → Type 0) where
   select-reference (abstraction-sort l q) h t f = absurd (omega (arith, q, t))
   select-reference (mark-sort l) h t f = absurd (omega (arith, l, h))
 
-  pub select-abstraction : {i : Item} → ItemSort words w i → w < 2048 → 40 ≤ packed-kind (getD words w 0) → (packed-kind (getD words w 0) ≡ 40 → ⊥) →
+  pub select-abstraction : {i : Item} → ItemSort words w i → w < mark-base → 40 ≤ packed-kind (getD words w 0) → (packed-kind (getD words w 0) ≡ 40 → ⊥) →
       ((p : ℕ) (fs : List Formal) (b : Block) → P (abstraction p fs b)) → P i
   select-abstraction (expression-sort l k) h s t f = absurd (omega (arith, k, s))
   select-abstraction (command-sort l a b) h s t f = absurd (omega (arith, b, s))
@@ -67,7 +68,7 @@ module _ (words : List ℕ) (w : ℕ) (P : Item → Type 0) where
 
 -- ---- The state that the machine holds, at the item taken off.
 
-module _ (words : List ℕ) (m : Machine) (w : ℕ) (top : w ≡ getD words (2047 + m .control) 0) where
+module _ (words : List ℕ) (m : Machine) (w : ℕ) (top : w ≡ getD words (top-control + m .control) 0) where
   -- The rule's function may be called.
   pub applicable : (en : Enabled words m) → ItemSort words w (en .item) × Applicable words (lowered m) w (en .item)
   applicable en =

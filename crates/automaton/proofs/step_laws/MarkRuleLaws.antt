@@ -10,6 +10,7 @@ use Rattle.rules.specs.paper.Kinds.{operator-number}
 use Rattle.rules.specs.paper.Tree.{Arithmetic, Sum, Sub, Mul, Div, Order, Lt, Le, Gt, Ge, Logic, And, Or, Operator, arithmetic, Eq, order, logic}
 use Rattle.rules.specs.paper.Limits.{names}
 use Rattle.rules.specs.paper.States.{Item, mark, Mark, operator-mark, not-mark, assign-mark, loop-mark, ref-mark, bind-mark, dseq-mark, extend-mark, leave-mark, call-mark}
+use Rattle.machine.specs.Layout.{mark-base, leave-word, call-word}
 use Rattle.machine.specs.Represents.{Mode, ControlAs, operator-on, not-on, assign-on, loop-on, ref-on, bind-on, dseq-on, extend-on, leave-on, call-on}
 use Rattle.machine.specs.Steps.{Applicable, Steps}
 use Rattle.machine.specs.declared.Machine.{Machine}
@@ -33,10 +34,10 @@ arm-of k =
 
 -- Which marks have the rule.
 abbrev pub Has : (w : ℕ) → Arm → Mark → Type 0
-Has w on-arithmetic k = (o : Arithmetic) × (w ≡ 2048 + operator-number (arithmetic o)) × (k ≡ operator-mark (arithmetic o))
+Has w on-arithmetic k = (o : Arithmetic) × (w ≡ mark-base + operator-number (arithmetic o)) × (k ≡ operator-mark (arithmetic o))
 Has w on-equal k = k ≡ operator-mark Eq
-Has w on-order k = (o : Order) × (w ≡ 2048 + operator-number (order o)) × (k ≡ operator-mark (order o))
-Has w on-logic k = (o : Logic) × (w ≡ 2048 + operator-number (logic o)) × (k ≡ operator-mark (logic o))
+Has w on-order k = (o : Order) × (w ≡ mark-base + operator-number (order o)) × (k ≡ operator-mark (order o))
+Has w on-logic k = (o : Logic) × (w ≡ mark-base + operator-number (logic o)) × (k ≡ operator-mark (logic o))
 Has w on-not k = k ≡ not-mark
 Has w on-assign k = k ≡ assign-mark
 Has w on-loop k = k ≡ loop-mark
@@ -52,7 +53,7 @@ Has w on-ref k = k ≡ ref-mark
 by-kind : (w c : ℕ) (k : Mark) → w % 64 ≡ c → Has w (arm-of c) k → Has w (arm-of (w % 64)) k
 by-kind w c k q h = subst (λ n. Has w (arm-of n) k) (sym q) h
 
-operator-has : (w : ℕ) (o : Operator) → w ≡ 2048 + operator-number o → Has w (arm-of (w % 64)) (operator-mark o)
+operator-has : (w : ℕ) (o : Operator) → w ≡ mark-base + operator-number o → Has w (arm-of (w % 64)) (operator-mark o)
 operator-has w (arithmetic Sum) q = by-kind w 4 (operator-mark (arithmetic Sum)) (omega arith) (Sum, q, refl)
 operator-has w (arithmetic Sub) q = by-kind w 5 (operator-mark (arithmetic Sub)) (omega arith) (Sub, q, refl)
 operator-has w (arithmetic Mul) q = by-kind w 6 (operator-mark (arithmetic Mul)) (omega arith) (Mul, q, refl)
@@ -65,10 +66,10 @@ operator-has w (order Ge) q = by-kind w 12 (operator-mark (order Ge)) (omega ari
 operator-has w (logic And) q = by-kind w 13 (operator-mark (logic And)) (omega arith) (And, q, refl)
 operator-has w (logic Or) q = by-kind w 14 (operator-mark (logic Or)) (omega arith) (Or, q, refl)
 
-second-kind : (w m : ℕ) → w ≡ 2070 + 4096 * m → w % 64 ≡ 22
+second-kind : (w m : ℕ) → w ≡ leave-word m → w % 64 ≡ 22
 second-kind w m q = omega arith
 
-call-kind : (w m : ℕ) → w ≡ 2072 + 4096 * m → w % 64 ≡ 24
+call-kind : (w m : ℕ) → w ≡ call-word m → w % 64 ≡ 24
 call-kind w m q = omega arith
 
 has : {nodes : List ℕ} {m : Mode} {w : ℕ} {ws : List ℕ} {C : List Item} {k : Mark} → ControlAs nodes m (w ∷ ws) (mark k ∷ C) → Has w (arm-of (w % 64)) k
@@ -124,13 +125,13 @@ module _ (words : List ℕ) (m : Machine) (w : ℕ) (s : (k : Mark) × Applicabl
   pub plain-needs : (a : Arm) (k : Mark) → ((j : Mark) → Has w a j → j ≡ k) → arm-of (w % 64) ≡ a → Applicable words m w (mark k)
   plain-needs a k only q = as-mark (only (s .0) (has-there a q))
 
-  pub arithmetic-needs : arm-of (w % 64) ≡ on-arithmetic → (o : Arithmetic) × (w ≡ 2048 + operator-number (arithmetic o)) × Applicable words m w (mark (operator-mark (arithmetic o)))
+  pub arithmetic-needs : arm-of (w % 64) ≡ on-arithmetic → (o : Arithmetic) × (w ≡ mark-base + operator-number (arithmetic o)) × Applicable words m w (mark (operator-mark (arithmetic o)))
   arithmetic-needs q = let h = has-there on-arithmetic q in (h .0, h .1, as-mark (h .2))
 
-  pub order-needs : arm-of (w % 64) ≡ on-order → (o : Order) × (w ≡ 2048 + operator-number (order o)) × Applicable words m w (mark (operator-mark (order o)))
+  pub order-needs : arm-of (w % 64) ≡ on-order → (o : Order) × (w ≡ mark-base + operator-number (order o)) × Applicable words m w (mark (operator-mark (order o)))
   order-needs q = let h = has-there on-order q in (h .0, h .1, as-mark (h .2))
 
-  pub logic-needs : arm-of (w % 64) ≡ on-logic → (o : Logic) × (w ≡ 2048 + operator-number (logic o)) × Applicable words m w (mark (operator-mark (logic o)))
+  pub logic-needs : arm-of (w % 64) ≡ on-logic → (o : Logic) × (w ≡ mark-base + operator-number (logic o)) × Applicable words m w (mark (operator-mark (logic o)))
   logic-needs q = let h = has-there on-logic q in (h .0, h .1, as-mark (h .2))
 
   pub leave-needs : arm-of (w % 64) ≡ on-leave → (p n : ℕ) × Applicable words m w (mark (leave-mark p n))
@@ -151,13 +152,13 @@ module _ (before : List ℕ) (m : Machine) (w : ℕ) (answer : Stepped) (after :
   pub plain-steps : (a : Arm) (k : Mark) → ((j : Mark) → Has w a j → j ≡ k) → arm-of (w % 64) ≡ a → At k → (j : Mark) → At j
   plain-steps a k only q h = steps-by a q (λ j e. subst At (sym (only j e)) h)
 
-  pub arithmetic-steps : arm-of (w % 64) ≡ on-arithmetic → ((o : Arithmetic) → w ≡ 2048 + operator-number (arithmetic o) → At (operator-mark (arithmetic o))) → (k : Mark) → At k
+  pub arithmetic-steps : arm-of (w % 64) ≡ on-arithmetic → ((o : Arithmetic) → w ≡ mark-base + operator-number (arithmetic o) → At (operator-mark (arithmetic o))) → (k : Mark) → At k
   arithmetic-steps q h = steps-by on-arithmetic q (λ k e. subst At (sym (e .2)) (h (e .0) (e .1)))
 
-  pub order-steps : arm-of (w % 64) ≡ on-order → ((o : Order) → w ≡ 2048 + operator-number (order o) → At (operator-mark (order o))) → (k : Mark) → At k
+  pub order-steps : arm-of (w % 64) ≡ on-order → ((o : Order) → w ≡ mark-base + operator-number (order o) → At (operator-mark (order o))) → (k : Mark) → At k
   order-steps q h = steps-by on-order q (λ k e. subst At (sym (e .2)) (h (e .0) (e .1)))
 
-  pub logic-steps : arm-of (w % 64) ≡ on-logic → ((o : Logic) → w ≡ 2048 + operator-number (logic o) → At (operator-mark (logic o))) → (k : Mark) → At k
+  pub logic-steps : arm-of (w % 64) ≡ on-logic → ((o : Logic) → w ≡ mark-base + operator-number (logic o) → At (operator-mark (logic o))) → (k : Mark) → At k
   logic-steps q h = steps-by on-logic q (λ k e. subst At (sym (e .2)) (h (e .0) (e .1)))
 
   pub leave-steps : arm-of (w % 64) ≡ on-leave → ((p n : ℕ) → At (leave-mark p n)) → (k : Mark) → At k

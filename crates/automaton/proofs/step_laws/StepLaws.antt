@@ -9,6 +9,8 @@ use Rattle.rules.specs.paper.Kinds.{operator-number}
 use Rattle.rules.specs.paper.Tree.{Operator, arithmetic, Eq, order, logic, Arithmetic, Sum, Sub, Mul, Div, Order, Lt, Le, Gt, Ge, Logic, And, Or, Expression, Formal, Command, Block, Declaration}
 use Rattle.rules.specs.paper.States.{Environment, Store, Entry, Item, Mark, expression, command, declaration, reference, abstraction, mark}
 use Rattle.rules.specs.paper.Rules.{Rule, Effect}
+use Rattle.rules.specs.paper.Limits.{most-nodes}
+use Rattle.machine.specs.Layout.{top-control, mark-base}
 use Rattle.reader.specs.Pack.{packed-kind}
 use Rattle.reader.specs.Stored.{HasWord, kind-is, StoredExpression, StoredCommand, StoredBlock, StoredDeclaration, StoredBound}
 use Rattle.reader.specs.Stored as Stored
@@ -50,9 +52,9 @@ stack-top base height words k q =
     less e = omega arith
 
 -- The regions are those of the lowered machine with the top word on control.
-pub taken-off : (words : List ℕ) (m : Machine) → 1 ≤ m .control → regions words m ≡ with-control (getD words (2047 + m .control) 0) (regions words (lowered m))
+pub taken-off : (words : List ℕ) (m : Machine) → 1 ≤ m .control → regions words m ≡ with-control (getD words (top-control + m .control) 0) (regions words (lowered m))
 unfolding regions
-taken-off words m h = rw (stack-top 2047 (m .control) words (m .control - 1) (one-less (m .control) h))
+taken-off words m h = rw (stack-top top-control (m .control) words (m .control - 1) (one-less (m .control) h))
   where
     one-less : (k : ℕ) → 1 ≤ k → k ≡ suc (k - 1)
     one-less k l = omega arith
@@ -60,12 +62,12 @@ taken-off words m h = rw (stack-top 2047 (m .control) words (m .control - 1) (on
 -- ---- The item's sort.
 
 pub data ItemSort (words : List ℕ) (w : ℕ) : Item → Type 0 where
-  expression-sort : {e : Expression} → w < 2000 → packed-kind (getD words w 0) < 20 → ItemSort words w (expression e)
-  command-sort : {c : Command} → w < 2000 → 20 ≤ packed-kind (getD words w 0) → packed-kind (getD words w 0) < 30 → ItemSort words w (command c)
-  declaration-sort : {d : Declaration} → w < 2000 → 30 ≤ packed-kind (getD words w 0) → packed-kind (getD words w 0) < 40 → ItemSort words w (declaration d)
-  reference-sort : {p : ℕ} {e : Expression} → w < 2000 → packed-kind (getD words w 0) ≡ 40 → ItemSort words w (reference p e)
-  abstraction-sort : {p : ℕ} {fs : List Formal} {b : Block} → w < 2000 → packed-kind (getD words w 0) ≡ 41 → ItemSort words w (abstraction p fs b)
-  mark-sort : {k : Mark} → 2048 ≤ w → ItemSort words w (mark k)
+  expression-sort : {e : Expression} → w < most-nodes → packed-kind (getD words w 0) < 20 → ItemSort words w (expression e)
+  command-sort : {c : Command} → w < most-nodes → 20 ≤ packed-kind (getD words w 0) → packed-kind (getD words w 0) < 30 → ItemSort words w (command c)
+  declaration-sort : {d : Declaration} → w < most-nodes → 30 ≤ packed-kind (getD words w 0) → packed-kind (getD words w 0) < 40 → ItemSort words w (declaration d)
+  reference-sort : {p : ℕ} {e : Expression} → w < most-nodes → packed-kind (getD words w 0) ≡ 40 → ItemSort words w (reference p e)
+  abstraction-sort : {p : ℕ} {fs : List Formal} {b : Block} → w < most-nodes → packed-kind (getD words w 0) ≡ 41 → ItemSort words w (abstraction p fs b)
+  mark-sort : {k : Mark} → mark-base ≤ w → ItemSort words w (mark k)
 
 operator-low : (o : Operator) → operator-number o < 15
 operator-low (arithmetic Sum) = omega arith
@@ -84,7 +86,7 @@ module _ (words : List ℕ) (m : Machine) where
   kind-of-node : {i k w e : ℕ} → HasWord (regions words m .nodes) i k w e → k < 64 → packed-kind (getD words i 0) ≡ k
   kind-of-node h low = kind-is (node-word words m h) low
 
-  expression-kind : {d i j : ℕ} {e : Expression} → StoredExpression (regions words m .nodes) d i j e → (i < 2000) × (packed-kind (getD words i 0) < 20)
+  expression-kind : {d i j : ℕ} {e : Expression} → StoredExpression (regions words m .nodes) d i j e → (i < most-nodes) × (packed-kind (getD words i 0) < 20)
   expression-kind (Stored.num h) = (h .place-low, omega (arith, kind-of-node h (lit< tt)))
   expression-kind (Stored.boo h) = (h .place-low, omega (arith, kind-of-node h (lit< tt)))
   expression-kind (Stored.id l h) = (h .place-low, omega (arith, kind-of-node h (lit< tt)))
@@ -93,14 +95,14 @@ module _ (words : List ℕ) (m : Machine) where
   expression-kind (Stored.binary {o = o} h a b) = (h .place-low, omega (arith, kind-of-node h (omega (arith, operator-low o)), operator-low o))
   expression-kind (Stored.negation h a) = (h .place-low, omega (arith, kind-of-node h (lit< tt)))
 
-  command-kind : {d i j : ℕ} {c : Command} → StoredCommand (regions words m .nodes) d i j c → (i < 2000) × (20 ≤ packed-kind (getD words i 0)) × (packed-kind (getD words i 0) < 30)
+  command-kind : {d i j : ℕ} {c : Command} → StoredCommand (regions words m .nodes) d i j c → (i < most-nodes) × (20 ≤ packed-kind (getD words i 0)) × (packed-kind (getD words i 0) < 30)
   command-kind (Stored.assign l h a) = let q = kind-of-node h (lit< tt) in (h .place-low, omega (arith, q), omega (arith, q))
   command-kind (Stored.loop h a b) = let q = kind-of-node h (lit< tt) in (h .place-low, omega (arith, q), omega (arith, q))
   command-kind (Stored.cseq h a b) = let q = kind-of-node h (lit< tt) in (h .place-low, omega (arith, q), omega (arith, q))
   command-kind (Stored.block-of (Stored.blk h a b)) = let q = kind-of-node h (lit< tt) in (h .place-low, omega (arith, q), omega (arith, q))
   command-kind (Stored.call l g h a) = let q = kind-of-node h (lit< tt) in (h .place-low, omega (arith, q), omega (arith, q))
 
-  declaration-kind : {d i j : ℕ} {c : Declaration} → StoredDeclaration (regions words m .nodes) d i j c → (i < 2000) × (30 ≤ packed-kind (getD words i 0)) × (packed-kind (getD words i 0) < 40)
+  declaration-kind : {d i j : ℕ} {c : Declaration} → StoredDeclaration (regions words m .nodes) d i j c → (i < most-nodes) × (30 ≤ packed-kind (getD words i 0)) × (packed-kind (getD words i 0) < 40)
   declaration-kind (Stored.bind l h a) = let q = kind-of-node h (lit< tt) in (h .place-low, omega (arith, q), omega (arith, q))
   declaration-kind (Stored.dseq h a b) = let q = kind-of-node h (lit< tt) in (h .place-low, omega (arith, q), omega (arith, q))
 
@@ -125,15 +127,15 @@ module _ (words : List ℕ) (m : Machine) where
 
 pub record Taken (words : List ℕ) (m : Machine) (i : Item) (C : List Item) (X : List Entry) (E : Environment) (S : Store) (L : List ℕ) (n : ℕ) (r : Rule) (e : Effect) : Type 0 where
   pub some-left : 1 ≤ m .control
-  pub ready : Ready words (lowered m) (getD words (2047 + m .control) 0) i C X E S L n r e
-  pub sort : ItemSort words (getD words (2047 + m .control) 0) i
+  pub ready : Ready words (lowered m) (getD words (top-control + m .control) 0) i C X E S L n r e
+  pub sort : ItemSort words (getD words (top-control + m .control) 0) i
 
 pub taken : (words : List ℕ) (m : Machine) {i : Item} {C : List Item} {X : List Entry} {E : Environment} {S : Store} {L : List ℕ} {n : ℕ} {r : Rule} {e : Effect} →
     EnabledAt words m i C X E S L n r e → Taken words m i C X E S L n r e
 taken words m {i} {C} {X} {E} {S} {L} {n} h =
     let f = h .stands .fits in
     let one = some-control words m (h .stands .models) in
-    let top = getD words (2047 + m .control) 0 in
+    let top = getD words (top-control + m .control) 0 in
     let μ = subst (λ κ. Models κ (i ∷ C) X E S L n) (taken-off words m one) (h .stands .models) in
     record {
       some-left = one;

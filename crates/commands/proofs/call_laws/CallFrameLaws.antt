@@ -10,6 +10,8 @@ use Rattle.rules.specs.paper.Tree.{Formal, block}
 use Rattle.rules.specs.paper.States.{Environment, Store, Entry, environment, locations, call-mark, leave-mark, Item, command, mark, State, state}
 use Rattle.rules.specs.paper.Rules.{Rule, Effect, Matched, match-formals}
 use Rattle.rules.specs.paper.Run.{judge}
+use Rattle.rules.specs.paper.Limits.{most-bindings, most-value-entries}
+use Rattle.machine.specs.Layout.{row-payloads, closure-unit, count-unit, leave-word}
 use Rattle.reader.specs.Stored.{StoredCommand, block-of}
 use Rattle.machine.specs.Regions.{Slot, slot, slots, Regions, regions, Fits, with-control, with-values, raised-control, raised-values}
 use Rattle.machine.specs.Represents.{SegmentAs, Since, none-since, Extends, Mode, running, ControlAs, command-on, leave-on, ValuesAs, frame-on, Models}
@@ -34,7 +36,7 @@ pub record PutValue (before : List ℕ) (m : Machine) (payload : ℕ) (after : L
 pub value-regions : {before after : List ℕ} {m r : Machine} {w : ℕ} → PutValue before m w after r → regions after r ≡ with-values (slot 0 w ∷ regions before m .values) (regions before m)
 value-regions {after = after} v = ap (regions after) (v .machine-is) ∙ v .regions-are
 
-pub put-value-fits : (before : List ℕ) (m : Machine) (after : List ℕ) (r : Machine) (w : ℕ) → Fits before m → PutValue before m w after r → m .values < 512 → Fits after r
+pub put-value-fits : (before : List ℕ) (m : Machine) (after : List ℕ) (r : Machine) (w : ℕ) → Fits before m → PutValue before m w after r → m .values < most-value-entries → Fits after r
 put-value-fits before m after r w f v low = value-fits before m f after r (λ q. omega (arith, q, low)) (v .machine-is) (v .regions-are)
 
 module _ (words : List ℕ) (m : Machine) (base caller below top : ℕ) where
@@ -95,16 +97,16 @@ pub record Formed (after : List ℕ) (t : Machine) : Type 0 where
   pub few-control : t .control ≤ 510
 
 module _ (words : List ℕ) (m : Machine) (w row : ℕ) (found : RowFound words m w row) (after : List ℕ) (t : Machine)
-    (machine-is : t ≡ with-formals (formal-first words m row + w / 262144 - formal-first words m row) (t .environment) (called words m row))
-    (binds : Binds words (called words m row) (formal-first words m row) (formal-first words m row + w / 262144) t after)
-    (free : m .bindings + w / 262144 ≤ 512) (low : m .values ≤ 510 + w / 262144) (short : m .control ≤ 510) where
+    (machine-is : t ≡ with-formals (formal-first words m row + w / count-unit - formal-first words m row) (t .environment) (called words m row))
+    (binds : Binds words (called words m row) (formal-first words m row) (formal-first words m row + w / count-unit) t after)
+    (free : m .bindings + w / count-unit ≤ most-bindings) (low : m .values ≤ 510 + w / count-unit) (short : m .control ≤ 510) where
   abbrev κ : Regions
   κ = regions words m
 
-  values-are : t .values ≡ m .values - w / 262144
+  values-are : t .values ≡ m .values - w / count-unit
   values-are = omega (arith, ap (λ k. k .values) machine-is)
 
-  bindings-are : t .bindings ≡ m .bindings + w / 262144
+  bindings-are : t .bindings ≡ m .bindings + w / count-unit
   bindings-are = omega (arith, ap (λ k. k .bindings) machine-is)
 
   module _ (p x k : ℕ) {C : List Item} {X : List Entry} {E : Environment} {S : Store} {L : List ℕ} {n : ℕ} {r : Rule} {e : Effect} (ready : Ready words m w (mark (call-mark p x k)) C X E S L n r e) where
@@ -112,7 +114,7 @@ module _ (words : List ℕ) (m : Machine) (w row : ℕ) (found : RowFound words 
     top = call-top words m w p x k ready
 
     abbrev called-regions : Regions
-    called-regions = with-pointers (getD words (4096 + row) 0 / 2048) (κ .declared) (m .cells) κ
+    called-regions = with-pointers (getD words (row-payloads + row) 0 / closure-unit) (κ .declared) (m .cells) κ
 
     bound-all : AllBound called-regions (κ .base) (κ .declared) (κ .environment) E (running (top .outer)) (top .matched) (regions after t)
     bound-all =
@@ -136,12 +138,12 @@ module _ (words : List ℕ) (m : Machine) (w row : ℕ) (found : RowFound words 
         }
 
     module _ (last : List ℕ) (u : Machine) (framed-is : u ≡ framed t)
-        (put : regions last (framed t) ≡ with-frame (m .base) (m .environment) (2070 + 4096 * m .bindings) (formal-first words m row + w / 262144) (regions after t)) where
+        (put : regions last (framed t) ≡ with-frame (m .base) (m .environment) (leave-word (m .bindings)) (formal-first words m row + w / count-unit) (regions after t)) where
       abbrev last-regions : Regions
-      last-regions = with-frame (m .base) (m .environment) (2070 + 4096 * m .bindings) (formal-first words m row + w / 262144) bound-regions
+      last-regions = with-frame (m .base) (m .environment) (leave-word (m .bindings)) (formal-first words m row + w / count-unit) bound-regions
 
       all : regions last (framed t) ≡ last-regions
-      all = put ∙ ap (λ j. with-frame (m .base) (m .environment) (2070 + 4096 * m .bindings) (formal-first words m row + w / 262144) j) bound-are
+      all = put ∙ ap (λ j. with-frame (m .base) (m .environment) (leave-word (m .bindings)) (formal-first words m row + w / count-unit) j) bound-are
 
       abbrev control-after : List Item
       control-after = command (block (top .body)) ∷ mark (leave-mark p n) ∷ C
@@ -149,7 +151,7 @@ module _ (words : List ℕ) (m : Machine) (w row : ℕ) (found : RowFound words 
       abbrev values-after : List Entry
       values-after = environment E ∷ locations L ∷ top .matched .rest
 
-      abbrev closure : ClosureAt (κ .nodes) (κ .rows) (getD words (4096 + row) 0) (top .formals) (top .body) (top .definition)
+      abbrev closure : ClosureAt (κ .nodes) (κ .rows) (getD words (row-payloads + row) 0) (top .formals) (top .body) (top .definition)
       closure = called-closure words m w p x k ready row found
 
       bindings-before : n ≡ m .bindings
@@ -159,7 +161,7 @@ module _ (words : List ℕ) (m : Machine) (w row : ℕ) (found : RowFound words 
       control-as =
           command-on
           (subst (λ i. StoredCommand (κ .nodes) (closure .depth) i (closure .block-end) (block (top .body))) (sym (block-is words m w p x k ready row found)) (block-of (closure .block-stored)))
-          (leave-on (ap (λ i. 2070 + 4096 * i) (sym bindings-before)) (top .control-as))
+          (leave-on (ap (λ i. leave-word i) (sym bindings-before)) (top .control-as))
 
       values-as : ValuesAs (κ .nodes) (bound-all .rows) (m .cells) (κ .declared) (bound-all .pointer) (top .matched .environment-with) (running (n ∷ top .outer)) (last-regions .values) values-after
       values-as =
@@ -178,7 +180,7 @@ module _ (words : List ℕ) (m : Machine) (w row : ℕ) (found : RowFound words 
             bindings-as = counted-rows (length (bound-all .rows)) bindings-before bindings-are (call-numbers words m w p x k ready .count-is) (rows-height after t) (ap (λ j. length (j .rows)) bound-are);
           }
         where
-          counted-rows : (h : ℕ) → n ≡ m .bindings → t .bindings ≡ m .bindings + w / 262144 → w / 262144 ≡ k → length (regions after t .rows) ≡ t .bindings → length (regions after t .rows) ≡ h → n + k ≡ h
+          counted-rows : (h : ℕ) → n ≡ m .bindings → t .bindings ≡ m .bindings + w / count-unit → w / count-unit ≡ k → length (regions after t .rows) ≡ t .bindings → length (regions after t .rows) ≡ h → n + k ≡ h
           counted-rows h a b c f g = omega arith
 
       pub call-made : StepAnswer (judge false e) (Made u) words last

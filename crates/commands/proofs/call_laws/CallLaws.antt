@@ -6,12 +6,13 @@ use mathlib.Core.List.{List, [], _∷_}
 use native.Mathlib.Omega.{arith}
 use lib.ListN.{length, getD}
 use Rattle.rules.specs.paper.Tree.{Expression, Call}
-use Rattle.rules.specs.paper.Limits.{names, most-parameters}
+use Rattle.rules.specs.paper.Limits.{names, most-parameters, most-nodes}
 use Rattle.rules.specs.paper.Refusals.{ControlEntries, reason-number}
 use Rattle.rules.specs.paper.States.{Environment, Store, Entry, Item, expression, command, mark, call-mark, state}
 use Rattle.rules.specs.paper.Rules.{Rule, Effect, goes, put-actuals, Table}
 use Rattle.rules.specs.paper.Rules as Rules
 use Rattle.rules.specs.paper.Run.{judge}
+use Rattle.machine.specs.Layout.{call-word}
 use Rattle.reader.specs.Pack.{packed-operand, packed-end}
 use Rattle.reader.specs.Stored.{HasWord, operand-is, StoredActuals, no-actuals, one-actual, StoredCommand, call}
 use Rattle.machine.specs.Regions.{Regions, regions, Fits, with-control}
@@ -157,7 +158,7 @@ module _ {words : List ℕ} {m : Machine} {left₀ at₀ : ℕ} {words′ : List
   same-size = ap (λ κ. κ .size) (g .same)
 
   -- The next actual's place is a node's.
-  pub actual-low : {mode : Mode} {all : List Item} → 0 < left → Putting (regions words m .nodes) mode (regions words m .control) left₀ at₀ all → at < 2000
+  pub actual-low : {mode : Mode} {all : List Item} → 0 < left → Putting (regions words m .nodes) mode (regions words m .control) left₀ at₀ all → at < most-nodes
   actual-low {mode} {all} some p = next-actual some (g .putting mode all p) .root .word .place-low
 
   pub goes-again : (after : List ℕ) (r : Machine) (next : ℕ) → 0 < left → Put words′ m′ at after r → next ≡ packed-end (getD after at 0) → Goes words m left₀ at₀ after r (left - 1) next
@@ -178,7 +179,7 @@ module _ {words : List ℕ} {m : Machine} {left₀ at₀ : ℕ} {words′ : List
 
 -- ---- The whole.
 
-module _ (words : List ℕ) (m : Machine) (i word : ℕ) (known : word ≡ packed-operand (getD words i 0)) (first : List ℕ) (a : Machine) (put : Put words m (2072 + 4096 * word) first a) where
+module _ (words : List ℕ) (m : Machine) (i word : ℕ) (known : word ≡ packed-operand (getD words i 0)) (first : List ℕ) (a : Machine) (put : Put words m (call-word word) first a) where
   -- With the mark on control all the actuals are to be put on it.
   module _ {C : List Item} {X : List Entry} {E : Environment} {S : Store} {L : List ℕ} {n : ℕ} {rule : Rule} {f : Effect} (x : ℕ) (es : List Expression)
       (ready : Ready words m i (command (Call i x es)) C X E S L n rule f) where
@@ -199,7 +200,7 @@ module _ (words : List ℕ) (m : Machine) (i word : ℕ) (known : word ≡ packe
           next = tree .next;
           stored = tree .actuals;
           many = counted words m i word known tree;
-          control-as = call-on (ap (λ w. 2072 + 4096 * w) (operand-of words m i word known tree)) (tree .name-low) (tree .few) (top .rest .control-as);
+          control-as = call-on (ap (λ w. call-word w) (operand-of words m i word known tree)) (tree .name-low) (tree .few) (top .rest .control-as);
           come-to = refl;
         })
 

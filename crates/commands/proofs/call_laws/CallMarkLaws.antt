@@ -6,10 +6,11 @@ use mathlib.Core.Option.{some}
 use native.Mathlib.Omega.{arith}
 use lib.ListN.{length, getD}
 use Rattle.rules.specs.paper.Tree.{Formal, Block, block, Abs}
-use Rattle.rules.specs.paper.Limits.{names, most-parameters}
+use Rattle.rules.specs.paper.Limits.{names, most-parameters, most-nodes, most-bindings}
 use Rattle.rules.specs.paper.Refusals.{Bindings, ValueEntries, ControlEntries, reason-number}
 use Rattle.rules.specs.paper.States.{Bindable, closure, Environment, lookup, Store, Entry, environment, locations, call-mark, leave-mark, Item, command, mark, State, state}
 use Rattle.rules.specs.paper.Rules.{Rule, Effect, goes, Table, call-at, Matched, match-formals}
+use Rattle.machine.specs.Layout.{row-labels, row-payloads, closure-unit, carried-unit, count-unit, call-word}
 use Rattle.reader.specs.Stored.{StoredFormals, StoredBlock, StoredBound, abs}
 use Rattle.machine.specs.Regions.{Slot, Regions, regions, Fits, with-control}
 use Rattle.machine.specs.Represents.{SegmentAs, BindableAs, closure-as, Extends, no-more, Mode, running, ControlAs, call-on, ValuesAs, Models}
@@ -41,8 +42,8 @@ pub record ClosureAt (nodes : List ℕ) (rows : List Slot) (w : ℕ) (fs : List 
   pub depth : ℕ
   pub block-place : ℕ
   pub block-end : ℕ
-  pub word-is : w ≡ place + 2048 * pointer
-  pub place-low : place < 2000
+  pub word-is : w ≡ place + closure-unit * pointer
+  pub place-low : place < most-nodes
   pub formals : StoredFormals nodes (suc place) block-place fs
   pub block-stored : StoredBlock nodes depth block-place block-end b
   pub segment : SegmentAs nodes rows pointer 0 F
@@ -67,7 +68,7 @@ module _ (words : List ℕ) (m : Machine) where
     pub effect-is : e ≡ goes (state (command (block body) ∷ mark (leave-mark p n) ∷ C) (environment E ∷ locations L ∷ matched .rest) (matched .environment-with) S [] (n + k))
     pub looked : lookup x E ≡ some (closure formals body definition)
     pub matches : match-formals k formals X definition ≡ some matched
-    pub word-is : w ≡ 2072 + 4096 * (x + names * k)
+    pub word-is : w ≡ call-word (x + names * k)
     pub name-low : x < names
     pub count-low : k ≤ most-parameters
     pub control-as : ControlAs (κ .nodes) (running outer) (κ .control) C
@@ -101,23 +102,23 @@ module _ (words : List ℕ) (m : Machine) where
 
   -- The numbers in the mark's word.
   pub record CallNumbers (w x k : ℕ) : Type 0 where
-    pub name-is : w / 4096 % 64 ≡ x
-    pub count-is : w / 262144 ≡ k
+    pub name-is : w / carried-unit % 64 ≡ x
+    pub count-is : w / count-unit ≡ k
     pub few : k ≤ 8
 
   pub call-numbers : (w p x k : ℕ) {C : List Item} {X : List Entry} {E : Environment} {S : Store} {L : List ℕ} {n : ℕ} {r : Rule} {e : Effect} → Ready words m w (mark (call-mark p x k)) C X E S L n r e → CallNumbers w x k
   call-numbers w p x k ready = let top = call-top w p x k ready in record { name-is = name-in (top .word-is) (top .name-low); count-is = count-in (top .word-is) (top .name-low); few = top .count-low }
     where
-      name-in : w ≡ 2072 + 4096 * (x + names * k) → x < names → w / 4096 % 64 ≡ x
+      name-in : w ≡ call-word (x + names * k) → x < names → w / carried-unit % 64 ≡ x
       name-in q l = omega arith
 
-      count-in : w ≡ 2072 + 4096 * (x + names * k) → x < names → w / 262144 ≡ k
+      count-in : w ≡ call-word (x + names * k) → x < names → w / count-unit ≡ k
       count-in q l = omega arith
 
   -- ---- Limits.
 
   module _ (w : ℕ) where
-    pub call-bindings-withheld : 512 < m .bindings + w / 262144 → (p x k : ℕ) → Steps words m w (mark (call-mark p x k)) (Withheld 34) words
+    pub call-bindings-withheld : most-bindings < m .bindings + w / count-unit → (p x k : ℕ) → Steps words m w (mark (call-mark p x k)) (Withheld 34) words
     unfolding reason-number
     call-bindings-withheld over p x k C X E S L n r e ready =
         let top = call-top w p x k ready in
@@ -125,7 +126,7 @@ module _ (words : List ℕ) (m : Machine) where
         answered (Withheld 34) words words (top .effect-is)
         (step-withheld words Bindings _ _ (judged-bindings _ _ _ _ _ _ (omega (arith, z .cells-height, ready .fits .few-cells)) (omega (arith, z .bindings-height, call-numbers w p x k ready .count-is, over))) refl)
 
-    pub call-values-withheld : m .bindings + w / 262144 ≤ 512 → 510 + w / 262144 < m .values → (p x k : ℕ) → Steps words m w (mark (call-mark p x k)) (Withheld 35) words
+    pub call-values-withheld : m .bindings + w / count-unit ≤ most-bindings → 510 + w / count-unit < m .values → (p x k : ℕ) → Steps words m w (mark (call-mark p x k)) (Withheld 35) words
     unfolding reason-number
     call-values-withheld free over p x k C X E S L n r e ready =
         let top = call-top w p x k ready in
@@ -137,7 +138,7 @@ module _ (words : List ℕ) (m : Machine) where
         (omega (arith, z .values-height, count .entries-count, call-numbers w p x k ready .count-is, over)))
         refl)
 
-    pub call-control-withheld : m .bindings + w / 262144 ≤ 512 → m .values ≤ 510 + w / 262144 → 510 < m .control → (p x k : ℕ) → Steps words m w (mark (call-mark p x k)) (Withheld 36) words
+    pub call-control-withheld : m .bindings + w / count-unit ≤ most-bindings → m .values ≤ 510 + w / count-unit → 510 < m .control → (p x k : ℕ) → Steps words m w (mark (call-mark p x k)) (Withheld 36) words
     unfolding reason-number
     call-control-withheld free low over p x k C X E S L n r e ready =
         let top = call-top w p x k ready in
@@ -154,19 +155,19 @@ module _ (words : List ℕ) (m : Machine) where
   -- What `row_of` answers.
   abbrev pub RowFound : (w row : ℕ) → Type 0
   RowFound w row =
-      (nodes : List ℕ) (E : Environment) (b : Bindable) → SegmentAs nodes (κ .rows) (m .environment) 0 E → lookup (w / 4096 % 64) E ≡ some b →
-      RowOf nodes (κ .rows) (w / 4096 % 64) b row (getD words (3584 + row) 0) (getD words (4096 + row) 0)
+      (nodes : List ℕ) (E : Environment) (b : Bindable) → SegmentAs nodes (κ .rows) (m .environment) 0 E → lookup (w / carried-unit % 64) E ≡ some b →
+      RowOf nodes (κ .rows) (w / carried-unit % 64) b row (getD words (row-labels + row) 0) (getD words (row-payloads + row) 0)
 
   abbrev pub formal-first : ℕ → ℕ
-  formal-first row = getD words (4096 + row) 0 % 2048 + 1
+  formal-first row = getD words (row-payloads + row) 0 % closure-unit + 1
 
   abbrev pub called : ℕ → Machine
-  called row = pointed (getD words (4096 + row) 0 / 2048) (m .declared) (m .cells) m
+  called row = pointed (getD words (row-payloads + row) 0 / closure-unit) (m .declared) (m .cells) m
 
   pub called-fits : (row : ℕ) → Fits words m → Fits words (called row)
   called-fits row f = record { room = f .room; few-control = f .few-control; few-values = f .few-values; few-bindings = f .few-bindings; few-cells = f .few-cells }
 
-  pub regions-called : (row : ℕ) → regions words (called row) ≡ with-pointers (getD words (4096 + row) 0 / 2048) (κ .declared) (m .cells) κ
+  pub regions-called : (row : ℕ) → regions words (called row) ≡ with-pointers (getD words (row-payloads + row) 0 / closure-unit) (κ .declared) (m .cells) κ
   unfolding regions
   regions-called row = refl
 
@@ -177,49 +178,49 @@ module _ (words : List ℕ) (m : Machine) where
     in-environment : SegmentAs (κ .nodes) (κ .rows) (m .environment) 0 E
     in-environment = subst (λ q. SegmentAs (κ .nodes) (κ .rows) q 0 E) (environment-is words m) (ready .models .environment-as)
 
-    looked-up : lookup (w / 4096 % 64) E ≡ some (closure (top .formals) (top .body) (top .definition))
+    looked-up : lookup (w / carried-unit % 64) E ≡ some (closure (top .formals) (top .body) (top .definition))
     looked-up = ap (λ y. lookup y E) (call-numbers w p x k ready .name-is) ∙ top .looked
 
-    pub call-looked : (nodes : List ℕ) × (E : Environment) × (b : Bindable) × SegmentAs nodes (κ .rows) (m .environment) 0 E × (lookup (w / 4096 % 64) E ≡ some b)
+    pub call-looked : (nodes : List ℕ) × (E : Environment) × (b : Bindable) × SegmentAs nodes (κ .rows) (m .environment) 0 E × (lookup (w / carried-unit % 64) E ≡ some b)
     call-looked = (κ .nodes, E, closure (top .formals) (top .body) (top .definition), in-environment, looked-up)
 
     module _ (row : ℕ) (found : RowFound w row) where
-      row-is : RowOf (κ .nodes) (κ .rows) (w / 4096 % 64) (closure (top .formals) (top .body) (top .definition)) row (getD words (3584 + row) 0) (getD words (4096 + row) 0)
+      row-is : RowOf (κ .nodes) (κ .rows) (w / carried-unit % 64) (closure (top .formals) (top .body) (top .definition)) row (getD words (row-labels + row) 0) (getD words (row-payloads + row) 0)
       row-is = found (κ .nodes) E (closure (top .formals) (top .body) (top .definition)) in-environment looked-up
 
       pub row-low : row < m .bindings
       row-low = omega (arith, row-is .within, rows-height words m)
 
-      pub called-closure : ClosureAt (κ .nodes) (κ .rows) (getD words (4096 + row) 0) (top .formals) (top .body) (top .definition)
+      pub called-closure : ClosureAt (κ .nodes) (κ .rows) (getD words (row-payloads + row) 0) (top .formals) (top .body) (top .definition)
       called-closure = closure-at (row-is .bound-to)
 
       pub first-is : formal-first row ≡ suc (called-closure .place)
       first-is = plus-one _ _ _ (called-closure .word-is) (called-closure .place-low)
         where
-          plus-one : (v q f : ℕ) → v ≡ q + 2048 * f → q < 2000 → v % 2048 + 1 ≡ suc q
+          plus-one : (v q f : ℕ) → v ≡ q + closure-unit * f → q < most-nodes → v % closure-unit + 1 ≡ suc q
           plus-one v q f a l = omega arith
 
-      pub pointer-is : getD words (4096 + row) 0 / 2048 ≡ called-closure .pointer
+      pub pointer-is : getD words (row-payloads + row) 0 / closure-unit ≡ called-closure .pointer
       pointer-is = over _ _ _ (called-closure .word-is) (called-closure .place-low)
         where
-          over : (v q f : ℕ) → v ≡ q + 2048 * f → q < 2000 → v / 2048 ≡ f
+          over : (v q f : ℕ) → v ≡ q + closure-unit * f → q < most-nodes → v / closure-unit ≡ f
           over v q f a l = omega arith
 
       -- The block stands behind its Formals.
-      pub block-is : formal-first row + w / 262144 ≡ called-closure .block-place
+      pub block-is : formal-first row + w / count-unit ≡ called-closure .block-place
       block-is =
           behind _ _ _ _ _ (formals-end (called-closure .formals)) first-is (call-numbers w p x k ready .count-is) (counted k (top .formals) X (top .definition) (top .matched) (top .matches) .formals-count)
         where
           behind : (j q f c l : ℕ) → j ≡ suc q + l → f ≡ suc q → c ≡ k → k ≡ l → f + c ≡ j
           behind j q f c l a b g h = omega arith
 
-      pub call-binding : Binding (regions words (called row)) (κ .base) (κ .declared) (κ .environment) E (running (top .outer)) (top .matched) (regions words (called row)) (formal-first row) (formal-first row + w / 262144)
+      pub call-binding : Binding (regions words (called row)) (κ .base) (κ .declared) (κ .environment) E (running (top .outer)) (top .matched) (regions words (called row)) (formal-first row) (formal-first row + w / count-unit)
       call-binding =
-          subst (λ j. Binding j (κ .base) (κ .declared) (κ .environment) E (running (top .outer)) (top .matched) j (formal-first row) (formal-first row + w / 262144)) (sym (regions-called row))
+          subst (λ j. Binding j (κ .base) (κ .declared) (κ .environment) E (running (top .outer)) (top .matched) j (formal-first row) (formal-first row + w / count-unit)) (sym (regions-called row))
           (record {
             rows = κ .rows;
             values = κ .values;
-            made-pointer = getD words (4096 + row) 0 / 2048;
+            made-pointer = getD words (row-payloads + row) 0 / closure-unit;
             formals = top .formals;
             actuals = X;
             made = top .definition;
@@ -227,11 +228,11 @@ module _ (words : List ℕ) (m : Machine) where
             extends = no-more;
             matches = subst (λ j. match-formals j (top .formals) X (top .definition) ≡ some (top .matched)) (counted k (top .formals) X (top .definition) (top .matched) (top .matches) .formals-count) (top .matches);
             stored =
-                subst (λ i. StoredFormals (κ .nodes) i (formal-first row + w / 262144) (top .formals)) (sym first-is)
+                subst (λ i. StoredFormals (κ .nodes) i (formal-first row + w / count-unit) (top .formals)) (sym first-is)
                 (subst (λ j. StoredFormals (κ .nodes) (suc (called-closure .place)) j (top .formals)) (sym block-is) (called-closure .formals));
             segment = subst (λ q. SegmentAs (κ .nodes) (κ .rows) q 0 (top .definition)) (sym pointer-is) (called-closure .segment);
             values-as = top .values-as;
           })
 
-      pub call-can-bind : CanBind words (called row) (formal-first row) (formal-first row + w / 262144)
+      pub call-can-bind : CanBind words (called row) (formal-first row) (formal-first row + w / count-unit)
       call-can-bind = record { base = κ .base; declared = κ .declared; pointer = κ .environment; environment = E; mode = running (top .outer); matched = top .matched; start = call-binding }

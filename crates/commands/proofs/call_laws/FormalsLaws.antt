@@ -7,13 +7,14 @@ use native.Mathlib.Omega.{arith}
 use lib.ListN.{length, getD}
 use Rattle.rules.specs.proofs.Basics.{missing}
 use Rattle.rules.specs.paper.Tree.{Formal}
-use Rattle.rules.specs.paper.Limits.{names}
+use Rattle.rules.specs.paper.Limits.{names, most-nodes}
 use Rattle.rules.specs.paper.States.{Value, value, closure, Environment, bound, Entry, bindable, name, node, environment, locations}
 use Rattle.rules.specs.paper.Rules.{Matched, match-formals}
+use Rattle.machine.specs.Layout.{top-payload, top-label, link}
 use Rattle.reader.specs.Pack.{packed-operand}
 use Rattle.reader.specs.Stored.{HasWord, operand-is, StoredFormals, no-formals, one-formal}
 use Rattle.machine.specs.Regions.{Slot, slot, Regions, regions, Fits, with-values, with-row, raised-rows}
-use Rattle.machine.specs.Represents.{SegmentAs, BindableAs, value-as, link, Extends, no-more, one-more, Mode, ValuesAs}
+use Rattle.machine.specs.Represents.{SegmentAs, BindableAs, value-as, Extends, no-more, one-more, Mode, ValuesAs}
 use Rattle.commands.specs.Formals.{with-bound, Binding}
 use Rattle.machine.specs.declared.Machine.{Machine}
 use Rattle.machine.proofs.state_laws.NodeLaws.{node-word}
@@ -83,13 +84,13 @@ regions-environment words m e = refl
 -- The numbers that the code meets.
 pub record Numbers (words : List ℕ) (m : Machine) (formal : ℕ) : Type 0 where
   pub some-values : 1 ≤ m .values
-  pub label-low : getD words (3071 + m .values) 0 < 2
+  pub label-low : getD words (top-label + m .values) 0 < 2
   pub environment-low : m .environment ≤ m .bindings
-  pub place-low : formal < 2000
+  pub place-low : formal < most-nodes
 
 -- The link of a Formal's row, and the machine after it.
 abbrev pub formal-link : List ℕ → Machine → (formal : ℕ) → ℕ
-formal-link words m formal = packed-operand (getD words formal 0) % 64 + 64 * getD words (3071 + m .values) 0 + 128 * m .environment
+formal-link words m formal = packed-operand (getD words formal 0) % 64 + 64 * getD words (top-label + m .values) 0 + 128 * m .environment
 
 abbrev pub one-bound : Machine → Machine
 one-bound m = pointed (m .bindings + 1) (m .declared) (m .base) (at-height (m .values - 1) (raised-rows m))
@@ -175,7 +176,7 @@ module _ (κ : Regions) (base d p : ℕ) (E : Environment) (mode : Mode) (M : Ma
   -- ---- Its row.
 
   pub formal-bound : NextFormal → (after : List ℕ) →
-      regions after (raised-rows m) ≡ with-row (slot (formal-link words m formal) (getD words (2559 + m .values) 0)) (regions words m) →
+      regions after (raised-rows m) ≡ with-row (slot (formal-link words m formal) (getD words (top-payload + m .values) 0)) (regions words m) →
       Binding κ base d p E mode M (regions after (one-bound m)) (formal + 1) block
   formal-bound next after put =
       record {
@@ -199,7 +200,7 @@ module _ (κ : Regions) (base d p : ℕ) (E : Environment) (mode : Mode) (M : Ma
       }
     where
       row : Slot
-      row = slot (formal-link words m formal) (getD words (2559 + m .values) 0)
+      row = slot (formal-link words m formal) (getD words (top-payload + m .values) 0)
 
       after-it : (i : ℕ) → suc i ≡ i + 1
       after-it i = omega arith

@@ -6,6 +6,8 @@ use native.Mathlib.Omega.{arith}
 use lib.ListN.{length, getD}
 use Rattle.rules.specs.paper.States.{Environment}
 use Rattle.rules.specs.paper.Rules.{Matched}
+use Rattle.rules.specs.paper.Limits.{most-bindings}
+use Rattle.machine.specs.Layout.{top-payload, top-label}
 use Rattle.reader.specs.Pack.{packed-operand}
 use Rattle.machine.specs.Regions.{Slot, slot, Regions, regions, Fits, with-row, raised-rows}
 use Rattle.machine.specs.Represents.{Mode}
@@ -64,17 +66,17 @@ module _ (before : List ℕ) (m₀ : Machine) (first block : ℕ) (can : CanBind
         formal-numbers (regions before m₀) (can .base) (can .declared) (can .pointer) (can .environment) (can .mode) (can .matched) words m formal block
         (next-formal _ _ _ _ _ _ _ _ _ _ _ (around .bound-so-far (can .base) (can .declared) (can .pointer) (can .environment) (can .mode) (can .matched) (can .start)) low)
 
-    pub some-rows-left : m₀ .bindings + (block - first) ≤ 512 → m .bindings < 512
+    pub some-rows-left : m₀ .bindings + (block - first) ≤ most-bindings → m .bindings < most-bindings
     some-rows-left few = less (ap (λ k. k .bindings) (around .machine-is)) (around .started)
       where
-        less : m .bindings ≡ m₀ .bindings + (formal - first) → first ≤ formal → m .bindings < 512
+        less : m .bindings ≡ m₀ .bindings + (formal - first) → first ≤ formal → m .bindings < most-bindings
         less e s = omega arith
 
     abbrev after-one : Machine → Machine
     after-one t = record { control = t .control; values = m .values - 1; environment = t .bindings; declared = t .declared; cells = t .cells; base = t .base; bindings = t .bindings }
 
-    pub around-again : m₀ .bindings + (block - first) ≤ 512 → (after : List ℕ) (t : Machine) (o : ℕ) → t ≡ raised-rows m → o ≡ packed-operand (getD words formal 0) →
-        regions after (raised-rows m) ≡ with-row (slot (o % 64 + 64 * getD words (3071 + m .values) 0 + 128 * m .environment) (getD words (2559 + m .values) 0)) (regions words m) →
+    pub around-again : m₀ .bindings + (block - first) ≤ most-bindings → (after : List ℕ) (t : Machine) (o : ℕ) → t ≡ raised-rows m → o ≡ packed-operand (getD words formal 0) →
+        regions after (raised-rows m) ≡ with-row (slot (o % 64 + 64 * getD words (top-label + m .values) 0 + 128 * m .environment) (getD words (top-payload + m .values) 0)) (regions words m) →
         Around before m₀ first block after (after-one t) (formal + 1)
     around-again few after t o q name-of written =
         subst (λ k. Around before m₀ first block after (after-one k) (formal + 1)) (sym q)
@@ -93,9 +95,9 @@ module _ (before : List ℕ) (m₀ : Machine) (first block : ℕ) (can : CanBind
               (next-formal _ _ _ _ _ _ _ _ _ _ _ (around .bound-so-far base declared pointer E mode M σ) low) after put;
         })
       where
-        put : regions after (raised-rows m) ≡ with-row (slot (formal-link words m formal) (getD words (2559 + m .values) 0)) (regions words m)
+        put : regions after (raised-rows m) ≡ with-row (slot (formal-link words m formal) (getD words (top-payload + m .values) 0)) (regions words m)
         put =
-            subst (λ n. regions after (raised-rows m) ≡ with-row (slot (n % 64 + 64 * getD words (3071 + m .values) 0 + 128 * m .environment) (getD words (2559 + m .values) 0)) (regions words m))
+            subst (λ n. regions after (raised-rows m) ≡ with-row (slot (n % 64 + 64 * getD words (top-label + m .values) 0 + 128 * m .environment) (getD words (top-payload + m .values) 0)) (regions words m))
             name-of written
 
         is : m ≡ with-formals (formal - first) (m .environment) m₀

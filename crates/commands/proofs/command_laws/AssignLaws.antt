@@ -9,6 +9,8 @@ use lib.ListN.{length, getD}
 use Rattle.rules.specs.paper.States.{Value, location, Bindable, value, Environment, lookup, Store, store-at, Entry, Item, mark, assign-mark, state}
 use Rattle.rules.specs.paper.Rules.{Rule, Effect, goes, Table, assign-at}
 use Rattle.rules.specs.paper.Run.{judge}
+use Rattle.rules.specs.paper.Limits.{most-bindings}
+use Rattle.machine.specs.Layout.{row-labels, row-payloads, top-payload, second-payload, top-label}
 use Rattle.machine.specs.Regions.{Slot, slot, regions, Fits, with-values, with-cells, set-slot}
 use Rattle.machine.specs.Represents.{ValueAs, SegmentAs, Since, ValuesAs, Models}
 use Rattle.machine.specs.Lookup.{RowOf}
@@ -23,19 +25,19 @@ use Rattle.machine.proofs.memory_laws.StoreLaws.{find-low, set-slot-length, sto
 
 module _ (words : List ℕ) (m : Machine) where
   abbrev name-word : ℕ
-  name-word = getD words (2558 + m .values) 0
+  name-word = getD words (second-payload + m .values) 0
 
   abbrev label-word : ℕ
-  label-word = getD words (3071 + m .values) 0
+  label-word = getD words (top-label + m .values) 0
 
   abbrev payload-word : ℕ
-  payload-word = getD words (2559 + m .values) 0
+  payload-word = getD words (top-payload + m .values) 0
 
   -- What a look-up of the name gives.
   abbrev pub Looked : (row : ℕ) → Type 0
   Looked row =
       (nodes : List ℕ) (E : Environment) (b : Bindable) → SegmentAs nodes (regions words m .rows) (m .environment) 0 E → lookup name-word E ≡ some b →
-      RowOf nodes (regions words m .rows) name-word b row (getD words (3584 + row) 0) (getD words (4096 + row) 0)
+      RowOf nodes (regions words m .rows) name-word b row (getD words (row-labels + row) 0) (getD words (row-payloads + row) 0)
 
   -- The value, and the name with its location, on top of the value stack.
   record Assigning {C : List Item} {X : List Entry} {E : Environment} {S : Store} {L : List ℕ} {n : ℕ} (μ : Models (regions words m) C X E S L n) (e : Effect) : Type 0 where
@@ -78,7 +80,7 @@ module _ (words : List ℕ) (m : Machine) where
 
   row-count : length (regions words m .rows) ≡ m .bindings
   unfolding regions
-  row-count = slots-length 3584 4096 (m .bindings) words
+  row-count = slots-length row-labels row-payloads (m .bindings) words
 
   -- ---- What the code needs.
 
@@ -95,20 +97,20 @@ module _ (words : List ℕ) (m : Machine) where
     pub name-bound : (nodes : List ℕ) × (E : Environment) × (b : Bindable) × SegmentAs nodes (regions words m .rows) (m .environment) 0 E × (lookup name-word E ≡ some b)
     name-bound = (regions words m .nodes, a .environment, value (location (assigned .at)), chain state-there, assigned .looked)
 
-    row-there : {row : ℕ} → Looked row → RowOf (regions words m .nodes) (regions words m .rows) name-word (value (location (assigned .at))) row (getD words (3584 + row) 0) (getD words (4096 + row) 0)
+    row-there : {row : ℕ} → Looked row → RowOf (regions words m .nodes) (regions words m .rows) name-word (value (location (assigned .at))) row (getD words (row-labels + row) 0) (getD words (row-payloads + row) 0)
     row-there h = h (regions words m .nodes) (a .environment) (value (location (assigned .at))) (chain state-there) (assigned .looked)
 
-    pub row-low : {row : ℕ} → Looked row → row < 512
+    pub row-low : {row : ℕ} → Looked row → row < most-bindings
     row-low h = omega (arith, row-there h .within, row-count, a .ready .fits .few-bindings)
 
-    pub cell-low : {row : ℕ} → Looked row → getD words (4096 + row) 0 < m .cells
+    pub cell-low : {row : ℕ} → Looked row → getD words (row-payloads + row) 0 < m .cells
     cell-low h = omega (arith, location-word (value-of (row-there h .bound-to)), assigned .low)
 
 -- ---- The step.
 
 pub assign-made : (before after : List ℕ) (m : Machine) (w row : ℕ) → Fits before m → Looked before m row →
     regions after (at-height (m .values - 2) m) ≡
-    with-cells (set-slot (getD before (4096 + row) 0) (slot (label-word before m) (payload-word before m)) (regions before (at-height (m .values - 2) m) .cells)) (regions before (at-height (m .values - 2) m)) →
+    with-cells (set-slot (getD before (row-payloads + row) 0) (slot (label-word before m) (payload-word before m)) (regions before (at-height (m .values - 2) m) .cells)) (regions before (at-height (m .values - 2) m)) →
     Steps before m w (mark assign-mark) (Made (at-height (m .values - 2) m)) after
 assign-made before after m w row f looked written C X E S L n r e ready = by (assign-taken (ready .models)) (assigning before m (ready .applies) (assign-taken (ready .models)))
   where
@@ -118,7 +120,7 @@ assign-made before after m w row f looked written C X E S L n r e ready = by (as
         let place = location-word (value-of (found .bound-to)) in
         let new-slot : Slot = slot (label-word before m) (payload-word before m) in
         let all =
-        written ∙ ap (λ κ. with-cells (set-slot (getD before (4096 + row) 0) new-slot (κ .cells)) κ) (h .popped)
+        written ∙ ap (λ κ. with-cells (set-slot (getD before (row-payloads + row) 0) new-slot (κ .cells)) κ) (h .popped)
         ∙ ap (λ l. with-cells (set-slot l new-slot (regions before m .cells)) (with-values (h .under) (regions before m))) place in
         subst (λ k. StepAnswer (judge false k) (Made (at-height (m .values - 2) m)) before after) (sym (h .effect))
         (step-made before after m (at-height (m .values - 2) m) _ C (h .rest) E (store-at (h .at) (h .new) S) L n refl

@@ -12,6 +12,8 @@ use Rattle.rules.specs.paper.States.{Environment, Store, Entry, locations, Item
 use Rattle.rules.specs.paper.Rules.{Rule, Effect, goes, Table}
 use Rattle.rules.specs.paper.Rules as Rules
 use Rattle.rules.specs.paper.Run.{judge}
+use Rattle.rules.specs.paper.Limits.{most-nodes, most-value-entries}
+use Rattle.machine.specs.Layout.{cell-payloads, cell-labels, mark-word, leave-word}
 use Rattle.reader.specs.Pack.{packed-end}
 use Rattle.reader.specs.Stored.{StoredCommand, block-of, blk, StoredDeclaration}
 use Rattle.machine.specs.Regions.{slot, Regions, regions, Fits, with-control, with-values, raised-values}
@@ -44,7 +46,7 @@ block-effect : {C : List Item} {E : Environment} {S : Store} {L : List ℕ} {n :
 block-effect Rules.blk = refl
 
 -- The declaration's place is a node's.
-pub block-low : (words : List ℕ) (m : Machine) (i : ℕ) (d : Declaration) (c : Command) → Applicable words m i (command (block (Blk i d c))) → i + 1 < 2000
+pub block-low : (words : List ℕ) (m : Machine) (i : ℕ) (d : Declaration) (c : Command) → Applicable words m i (command (block (Blk i d c))) → i + 1 < most-nodes
 block-low words m i d c a = declaration-root (block-at (command-top (regions words m) i (block (Blk i d c)) (a .ready .models) .stored) .declared) .word .place-low
 
 -- ---- The machine of the block.
@@ -83,7 +85,7 @@ opened-regions words m = refl
 
 cells-counted : (words : List ℕ) (m : Machine) → length (regions words m .cells) ≡ m .cells
 unfolding regions
-cells-counted words m = slots-length 4864 4608 (m .cells) words
+cells-counted words m = slots-length cell-labels cell-payloads (m .cells) words
 
 base-is : (words : List ℕ) (m : Machine) → m .base ≡ regions words m .base
 unfolding regions
@@ -94,7 +96,7 @@ opened-fits f = record { room = f .room; few-control = f .few-control; few-value
 
 -- ---- The answers.
 
-pub block-values-withheld : (words : List ℕ) (m : Machine) (i : ℕ) → m .values ≡ 512 → (d : Declaration) (c : Command) → Steps words m i (command (block (Blk i d c))) (Withheld 35) words
+pub block-values-withheld : (words : List ℕ) (m : Machine) (i : ℕ) → m .values ≡ most-value-entries → (d : Declaration) (c : Command) → Steps words m i (command (block (Blk i d c))) (Withheld 35) words
 unfolding reason-number
 block-values-withheld words m i q d c C X E S L n rule f ready =
     let t = command-top (regions words m) i (block (Blk i d c)) (ready .models) in
@@ -105,7 +107,7 @@ block-values-withheld words m i q d c C X E S L n rule f ready =
     (judged-values (declaration d ∷ mark extend-mark ∷ command c ∷ mark (leave-mark i n) ∷ C) (locations L ∷ X) E S [] n (omega (arith, z .cells-height, fits .few-cells)) (omega (arith, z .bindings-height, fits .few-bindings)) (omega (arith, z .values-height, q)))
     refl)
 
-pub block-control-withheld : (words : List ℕ) (m : Machine) (i : ℕ) → (m .values ≡ 512 → ⊥) → 508 < m .control →
+pub block-control-withheld : (words : List ℕ) (m : Machine) (i : ℕ) → (m .values ≡ most-value-entries → ⊥) → 508 < m .control →
     (d : Declaration) (c : Command) → Steps words m i (command (block (Blk i d c))) (Withheld 36) words
 unfolding reason-number
 block-control-withheld words m i few q d c C X E S L n rule f ready =
@@ -118,13 +120,13 @@ block-control-withheld words m i few q d c C X E S L n rule f ready =
     refl)
 
 -- What `enter_block` does.
-module _ (words : List ℕ) (m : Machine) (fits : Fits words m) (few : m .values ≡ 512 → ⊥) (low : m .control ≤ 508) (saved : List ℕ) (u : Machine) (q : u ≡ raised-values m)
+module _ (words : List ℕ) (m : Machine) (fits : Fits words m) (few : m .values ≡ most-value-entries → ⊥) (low : m .control ≤ 508) (saved : List ℕ) (u : Machine) (q : u ≡ raised-values m)
     (e : regions saved (raised-values m) ≡ with-values (slot 0 (m .base) ∷ regions words m .values) (regions words m)) where
   pub block-room : Room 4 saved (opened u)
   block-room = record { fits = opened-fits (value-fits words m fits saved u few q e); left = omega (arith, low, ap (λ k. k .control) q) }
 
   module _ (i body : ℕ) (first second third after : List ℕ) (a b k r : Machine)
-      (one : Put saved (opened u) (2070 + 4096 * u .bindings) first a) (two : Put first a body second b) (three : Put second b 2071 third k) (four : Put third k (i + 1) after r) where
+      (one : Put saved (opened u) (leave-word (u .bindings)) first a) (two : Put first a body second b) (three : Put second b (mark-word extend-mark) third k) (four : Put third k (i + 1) after r) where
     bindings-kept : u .bindings ≡ m .bindings
     bindings-kept = ap (λ k. k .bindings) q
 
@@ -137,17 +139,17 @@ module _ (words : List ℕ) (m : Machine) (fits : Fits words m) (few : m .values
     abbrev after-regions : Regions
     after-regions =
         with-control (i + 1)
-        (with-control 2071 (with-control body (with-control (2070 + 4096 * u .bindings) (opened-at (u .cells) (with-values (slot 0 (m .base) ∷ regions words m .values) (regions words m))))))
+        (with-control (mark-word extend-mark) (with-control body (with-control (leave-word (u .bindings)) (opened-at (u .cells) (with-values (slot 0 (m .base) ∷ regions words m .values) (regions words m))))))
 
     all : regions after r ≡ after-regions
     all =
         put-regions four
         ∙ ap (with-control (i + 1))
         (put-regions three
-        ∙ ap (with-control 2071)
+        ∙ ap (with-control (mark-word extend-mark))
         (put-regions two
         ∙ ap (with-control body)
-        (put-regions one ∙ ap (with-control (2070 + 4096 * u .bindings)) (opened-regions saved u ∙ ap (opened-at (u .cells)) (ap (regions saved) q ∙ e)))))
+        (put-regions one ∙ ap (with-control (leave-word (u .bindings))) (opened-regions saved u ∙ ap (opened-at (u .cells)) (ap (regions saved) q ∙ e)))))
 
     pub block-made : body ≡ packed-end (getD words (i + 1) 0) → (d : Declaration) (c : Command) → Steps words m i (command (block (Blk i d c))) (Made r) after
     block-made place d c C X E S L n rule f ready =
@@ -163,7 +165,7 @@ module _ (words : List ℕ) (m : Machine) (fits : Fits words m) (few : m .values
         (subst (λ κ′. Models κ′ (declaration d ∷ mark extend-mark ∷ command c ∷ mark (leave-mark i n) ∷ C) (locations L ∷ X) E S [] n) (sym all)
         (record {
           mode = declaring n (t .blocks);
-          control-as = declaration-on (tree .declared) (extend-on refl (command-on (subst (λ l. StoredCommand (κ .nodes) (tree .depth) l (tree .next) c) (sym body-is) (tree .body)) (leave-on (ap (λ l. 2070 + 4096 * l) (bindings-kept ∙ sym (z .bindings-height))) (v .control-as))));
+          control-as = declaration-on (tree .declared) (extend-on refl (command-on (subst (λ l. StoredCommand (κ .nodes) (tree .depth) l (tree .next) c) (sym body-is) (tree .body)) (leave-on (ap (λ l. leave-word l) (bindings-kept ∙ sym (z .bindings-height))) (v .control-as))));
           values-as = opened-on refl no-more (sym (v .bindings-as)) (v .environment-as) (subst (λ l. Since (κ .base) l L) cells-are (v .locations-as)) (base-is words m) (v .values-as);
           environment-as = v .environment-as;
           store-as = v .store-as;

@@ -6,6 +6,8 @@ use native.Mathlib.Omega.{arith}
 use lib.ListN.{length, getD}
 use Rattle.rules.specs.paper.States.{Environment, join, Store, remove, Entry, environment, locations, extend-mark, leave-mark, Item, mark, State, state}
 use Rattle.rules.specs.paper.Rules.{Rule, Effect, goes, Table, extend-at, leave-at}
+use Rattle.rules.specs.paper.Limits.{most-cells, most-bindings, names}
+use Rattle.machine.specs.Layout.{row-labels, row-payloads, cell-payloads, cell-labels, top-payload, second-payload, carried-unit, leave-word}
 use Rattle.machine.specs.Regions.{Slot, slot, slots, Regions, regions, Fits, with-control, with-values, raised-values}
 use Rattle.machine.specs.Represents.{SegmentAs, StoreAs, Since, Extends, Mode, running, declaring, ControlAs, extend-on, leave-on, ValuesAs, declared-on, opened-on, frame-on, Models}
 use Rattle.machine.specs.Steps.{Ready, Steps}
@@ -158,7 +160,7 @@ module _ (words : List ℕ) (m : Machine) where
     pub rest : List Entry
     pub outer : List ℕ
     pub effect-is : e ≡ goes (state C rest saved (remove L S) outer-locations k)
-    pub word-is : w ≡ 2070 + 4096 * k
+    pub word-is : w ≡ leave-word k
     pub control-as : ControlAs (κ .nodes) (running outer) (κ .control) C
     pub values-as : ValuesAs (κ .nodes) (κ .rows) (κ .base) (κ .declared) (κ .environment) E (running (k ∷ outer)) (κ .values) (environment saved ∷ locations outer-locations ∷ rest)
 
@@ -181,18 +183,18 @@ module _ (words : List ℕ) (m : Machine) where
       record {
         control = m .control;
         values = m .values - 2;
-        environment = getD words (2559 + m .values) 0;
+        environment = getD words (top-payload + m .values) 0;
         declared = m .declared;
         cells = m .base;
-        base = getD words (2558 + m .values) 0;
-        bindings = w / 4096;
+        base = getD words (second-payload + m .values) 0;
+        bindings = w / carried-unit;
       }
 
-  cells-of : κ .cells ≡ slots 4864 4608 (m .cells) words
+  cells-of : κ .cells ≡ slots cell-labels cell-payloads (m .cells) words
   unfolding regions
   cells-of = refl
 
-  rows-of : κ .rows ≡ slots 3584 4096 (m .bindings) words
+  rows-of : κ .rows ≡ slots row-labels row-payloads (m .bindings) words
   unfolding regions
   rows-of = refl
 
@@ -201,11 +203,11 @@ module _ (words : List ℕ) (m : Machine) where
         nodes = κ .nodes;
         control = κ .control;
         values = regions words (at-height (m .values - 2) m) .values;
-        rows = slots 3584 4096 (w / 4096) words;
-        cells = slots 4864 4608 (κ .base) words;
-        environment = getD words (2559 + m .values) 0;
+        rows = slots row-labels row-payloads (w / carried-unit) words;
+        cells = slots cell-labels cell-payloads (κ .base) words;
+        environment = getD words (top-payload + m .values) 0;
         declared = κ .declared;
-        base = getD words (2558 + m .values) 0;
+        base = getD words (second-payload + m .values) 0;
         beyond = κ .beyond;
         size = κ .size;
       }
@@ -230,10 +232,10 @@ module _ (words : List ℕ) (m : Machine) where
       two : TwoOnTop words m (frame .top) (frame .second) (frame .rest)
       two = two-on-top words m (frame .top) (frame .second) (frame .rest) (frame .are)
 
-      rows-are : Cut 3584 4096 (m .bindings) words (frame .older) k
-      rows-are = cut 3584 4096 (m .bindings) words (frame .older) (κ .rows) k rows-of (frame .extends) (frame .height)
+      rows-are : Cut row-labels row-payloads (m .bindings) words (frame .older) k
+      rows-are = cut row-labels row-payloads (m .bindings) words (frame .older) (κ .rows) k rows-of (frame .extends) (frame .height)
 
-      number : w / 4096 ≡ k
+      number : w / carried-unit ≡ k
       number = omega (arith, top .word-is)
 
       left-regions : Regions
@@ -243,7 +245,7 @@ module _ (words : List ℕ) (m : Machine) where
             control = κ .control;
             values = frame .rest;
             rows = frame .older;
-            cells = slots 4864 4608 (κ .base) words;
+            cells = slots cell-labels cell-payloads (κ .base) words;
             environment = frame .pointer;
             declared = κ .declared;
             base = frame .outer-base;
@@ -257,10 +259,10 @@ module _ (words : List ℕ) (m : Machine) where
       since : Since (κ .base) (m .cells) L
       since = subst (λ j. Since (κ .base) j L) (cells-height words m) (ready .models .locations-as)
 
-      few-rows : k ≤ m .bindings → m .bindings ≤ 512 → w / 4096 ≤ 512
+      few-rows : k ≤ m .bindings → m .bindings ≤ most-bindings → w / carried-unit ≤ most-bindings
       few-rows a b = omega (arith, number)
 
-      few-cells : κ .base ≤ m .cells → κ .base ≡ m .base → m .cells ≤ 256 → m .base ≤ 256
+      few-cells : κ .base ≤ m .cells → κ .base ≡ m .base → m .cells ≤ most-cells → m .base ≤ most-cells
       few-cells a b c = omega arith
 
       models : Models left-regions C (top .rest) (top .saved) (remove L S) (top .outer-locations) k
@@ -270,7 +272,7 @@ module _ (words : List ℕ) (m : Machine) where
             control-as = top .control-as;
             values-as = values-running (κ .declared) (frame .pointer) (top .saved) (frame .below);
             environment-as = frame .saved;
-            store-as = removed-since 4864 4608 words (κ .base) since (subst (λ s. StoreAs s S) cells-of (ready .models .store-as));
-            locations-as = subst (λ j. Since (frame .outer-base) j (top .outer-locations)) (sym (slots-length 4864 4608 (κ .base) words)) (frame .since);
+            store-as = removed-since cell-labels cell-payloads words (κ .base) since (subst (λ s. StoreAs s S) cells-of (ready .models .store-as));
+            locations-as = subst (λ j. Since (frame .outer-base) j (top .outer-locations)) (sym (slots-length cell-labels cell-payloads (κ .base) words)) (frame .since);
             bindings-as = sym (frame .height);
           }

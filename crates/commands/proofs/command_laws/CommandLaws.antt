@@ -6,11 +6,12 @@ use mathlib.Core.List.{List, _∷_}
 use native.Mathlib.Omega.{arith}
 use lib.ListN.{getD}
 use Rattle.rules.specs.paper.Tree.{Expression, Command, Assign, Loop, CSeq}
-use Rattle.rules.specs.paper.Limits.{names}
+use Rattle.rules.specs.paper.Limits.{names, most-nodes}
 use Rattle.rules.specs.paper.States.{Environment, Store, Entry, name, node, Item, expression, command, mark, assign-mark, loop-mark, state}
 use Rattle.rules.specs.paper.Rules.{Rule, Effect, goes, Table}
 use Rattle.rules.specs.paper.Rules as Rules
 use Rattle.rules.specs.paper.Run.{judge}
+use Rattle.machine.specs.Layout.{mark-word}
 use Rattle.reader.specs.Pack.{packed-operand, packed-end}
 use Rattle.reader.specs.Stored.{HasWord, operand-is, StoredExpression, StoredCommand, assign, loop, cseq}
 use Rattle.machine.specs.Regions.{regions}
@@ -22,7 +23,7 @@ use Rattle.machine.proofs.state_laws.NodeLaws.{node-word}
 use Rattle.machine.proofs.state_laws.ItemLaws.{after-node, command-root, root-end, lowered, command-top}
 
 -- The place of a command on top of control is a node's.
-pub command-low : (words : List ℕ) (m : Machine) (w : ℕ) (c : Command) → Applicable words m w (command c) → w < 2000
+pub command-low : (words : List ℕ) (m : Machine) (w : ℕ) (c : Command) → Applicable words m w (command c) → w < most-nodes
 command-low words m w c a = command-root (command-top (regions words m) w c (a .ready .models) .stored) .word .place-low
 
 -- ---- Assign.
@@ -42,7 +43,7 @@ assign-effect : {C : List Item} {E : Environment} {S : Store} {L : List ℕ} {n 
     Table C E S L n r (command (Assign p x e)) X f → goes (state (expression e ∷ mark assign-mark ∷ C) (name x ∷ X) E S L n) ≡ f
 assign-effect Rules.assign = refl
 
-pub assign-steps : (words : List ℕ) (m : Machine) (i : ℕ) (r : Stepped) (after : List ℕ) (x′ : ℕ) → x′ ≡ packed-operand (getD words i 0) → Enters words m x′ 2068 (i + 1) r after →
+pub assign-steps : (words : List ℕ) (m : Machine) (i : ℕ) (r : Stepped) (after : List ℕ) (x′ : ℕ) → x′ ≡ packed-operand (getD words i 0) → Enters words m x′ (mark-word assign-mark) (i + 1) r after →
     (x : ℕ) (e : Expression) → Steps words m i (command (Assign i x e)) r after
 assign-steps words m i r after x′ q enters x e C X E S L n rule f ready =
     let t = command-top (regions words m) i (Assign i x e) (ready .models) in
@@ -66,7 +67,7 @@ loop-effect : {C : List Item} {E : Environment} {S : Store} {L : List ℕ} {n : 
     Table C E S L n r (command (Loop p e c)) X f → goes (state (expression e ∷ mark loop-mark ∷ C) (node (Loop p e c) ∷ X) E S L n) ≡ f
 loop-effect Rules.loop = refl
 
-pub loop-steps : (words : List ℕ) (m : Machine) (i : ℕ) (r : Stepped) (after : List ℕ) → Enters words m i 2069 (i + 1) r after →
+pub loop-steps : (words : List ℕ) (m : Machine) (i : ℕ) (r : Stepped) (after : List ℕ) → Enters words m i (mark-word loop-mark) (i + 1) r after →
     (e : Expression) (c : Command) → Steps words m i (command (Loop i e c)) r after
 loop-steps words m i r after enters e c C X E S L n rule f ready =
     let t = command-top (regions words m) i (Loop i e c) (ready .models) in
@@ -93,7 +94,7 @@ sequence-effect : {C : List Item} {E : Environment} {S : Store} {L : List ℕ} {
 sequence-effect Rules.cseq = refl
 
 -- The first command's place is a node's.
-pub sequence-low : (words : List ℕ) (m : Machine) (i : ℕ) (c₁ c₂ : Command) → Applicable words m i (command (CSeq i c₁ c₂)) → i + 1 < 2000
+pub sequence-low : (words : List ℕ) (m : Machine) (i : ℕ) (c₁ c₂ : Command) → Applicable words m i (command (CSeq i c₁ c₂)) → i + 1 < most-nodes
 sequence-low words m i c₁ c₂ a = command-root (sequence-at (command-top (regions words m) i (CSeq i c₁ c₂) (a .ready .models) .stored) .first) .word .place-low
 
 pub sequence-steps : (words : List ℕ) (m : Machine) (i : ℕ) (r : Stepped) (after : List ℕ) (second : ℕ) → second ≡ packed-end (getD words (i + 1) 0) → PutsTwo words m second (i + 1) r after →

@@ -10,6 +10,8 @@ use Rattle.rules.specs.claims.Listing.{truth-word}
 use Rattle.rules.specs.paper.States.{truth, Environment, Store, Entry, node, val, Item, command, mark, loop-mark, state}
 use Rattle.rules.specs.paper.Rules.{Rule, Effect, goes, Table, loop-true, loop-false}
 use Rattle.rules.specs.paper.Run.{judge}
+use Rattle.rules.specs.paper.Limits.{most-nodes}
+use Rattle.machine.specs.Layout.{top-payload, second-payload}
 use Rattle.reader.specs.Pack.{packed-end}
 use Rattle.reader.specs.Stored.{end-is, StoredCommand, loop}
 use Rattle.machine.specs.Regions.{Slot, Regions, regions, Fits, with-control, with-values}
@@ -30,7 +32,7 @@ record Parts (nodes : List ℕ) (i : ℕ) (c : Command) : Type 0 where
   pub depth : ℕ
   pub body : ℕ
   pub next : ℕ
-  pub low : i < 2000
+  pub low : i < most-nodes
   pub test-ends : EndsAt nodes (suc i) body
   pub stored : StoredCommand nodes depth body next c
 
@@ -43,10 +45,10 @@ again (loop-on q h) s t = command-on t (command-on s h)
 
 module _ (words : List ℕ) (m : Machine) where
   abbrev truth-there : ℕ
-  truth-there = getD words (2559 + m .values) 0
+  truth-there = getD words (top-payload + m .values) 0
 
   abbrev node-there : ℕ
-  node-there = getD words (2558 + m .values) 0
+  node-there = getD words (second-payload + m .values) 0
 
   -- What the step comes to, by the test.
   abbrev Comes : Bool → List Item → Command → Command → List Entry → Environment → Store → List ℕ → ℕ → Effect
@@ -106,7 +108,7 @@ module _ (words : List ℕ) (m : Machine) where
     pub two-there : 2 ≤ m .values
     two-there = loops .some-values
 
-    pub node-low : node-there < 2000
+    pub node-low : node-there < most-nodes
     node-low = parts (loops .stored) .low
 
   abbrev popped-state : {C : List Item} {X : List Entry} {E : Environment} {S : Store} {L : List ℕ} {n : ℕ} {e : Effect} (μ : Models (regions words m) C X E S L n) (h : Looping μ e) → Models (with-values (h .under) (regions words m)) C (h .rest) E S L n

@@ -6,11 +6,12 @@ use mathlib.Core.List.{List, _∷_}
 use native.Mathlib.Omega.{arith}
 use lib.ListN.{getD}
 use Rattle.rules.specs.paper.Tree.{Expression, Formal, Block, Declaration, Bind, DSeq, Bound, Ref, Abs}
-use Rattle.rules.specs.paper.Limits.{names}
+use Rattle.rules.specs.paper.Limits.{names, most-nodes, most-bindings}
 use Rattle.rules.specs.paper.States.{closure, Environment, Store, Entry, bindable, name, Item, expression, declaration, reference, abstraction, mark, ref-mark, bind-mark, dseq-mark, bound-item, state}
 use Rattle.rules.specs.paper.Rules.{Rule, Effect, goes, Table}
 use Rattle.rules.specs.paper.Rules as Rules
 use Rattle.rules.specs.paper.Run.{judge}
+use Rattle.machine.specs.Layout.{row-labels, row-payloads, closure-unit, mark-word}
 use Rattle.reader.specs.Pack.{packed-operand, packed-end}
 use Rattle.reader.specs.Stored.{HasWord, operand-is, StoredExpression, StoredDeclaration, bind, dseq, StoredBound, plain-of, ref, abs}
 use Rattle.machine.specs.Regions.{slots, regions}
@@ -23,7 +24,7 @@ use Rattle.machine.proofs.memory_laws.LookupLaws.{slot-words}
 use Rattle.machine.proofs.state_laws.ItemLaws.{after-node, declaration-root, root-end, lowered, declaration-top, reference-top, abstraction-top}
 
 -- The place of a declaration on top of control is a node's.
-pub declaration-low : (words : List ℕ) (m : Machine) (w : ℕ) (c : Declaration) → Applicable words m w (declaration c) → w < 2000
+pub declaration-low : (words : List ℕ) (m : Machine) (w : ℕ) (c : Declaration) → Applicable words m w (declaration c) → w < most-nodes
 declaration-low words m w c a = declaration-root (declaration-top (regions words m) w c (a .ready .models) .stored) .word .place-low
 
 -- ---- Bind.
@@ -50,7 +51,7 @@ bound-on (plain-of s) h = expression-on s h
 bound-on (ref w s) h = reference-on (ref w s) h
 bound-on (abs l w s t) h = abstraction-on (abs l w s t) h
 
-pub bind-steps : (words : List ℕ) (m : Machine) (i : ℕ) (r : Stepped) (after : List ℕ) (x′ : ℕ) → x′ ≡ packed-operand (getD words i 0) → Enters words m x′ 2078 (i + 1) r after →
+pub bind-steps : (words : List ℕ) (m : Machine) (i : ℕ) (r : Stepped) (after : List ℕ) (x′ : ℕ) → x′ ≡ packed-operand (getD words i 0) → Enters words m x′ (mark-word bind-mark) (i + 1) r after →
     (x : ℕ) (b : Bound) → Steps words m i (declaration (Bind i x b)) r after
 bind-steps words m i r after x′ q enters x b C X E S L n rule f ready =
     let t = declaration-top (regions words m) i (Bind i x b) (ready .models) in
@@ -78,11 +79,11 @@ join-effect : {C : List Item} {E : Environment} {S : Store} {L : List ℕ} {n : 
 join-effect Rules.dseq = refl
 
 -- The first declaration's place is a node's.
-pub join-low : (words : List ℕ) (m : Machine) (i : ℕ) (d₁ d₂ : Declaration) → Applicable words m i (declaration (DSeq i d₁ d₂)) → i + 1 < 2000
+pub join-low : (words : List ℕ) (m : Machine) (i : ℕ) (d₁ d₂ : Declaration) → Applicable words m i (declaration (DSeq i d₁ d₂)) → i + 1 < most-nodes
 join-low words m i d₁ d₂ a = declaration-root (join-at (declaration-top (regions words m) i (DSeq i d₁ d₂) (a .ready .models) .stored) .first) .word .place-low
 
 pub join-steps : (words : List ℕ) (m : Machine) (i : ℕ) (r : Stepped) (after : List ℕ) (second : ℕ) → second ≡ packed-end (getD words (i + 1) 0) →
-    PutsThree words m 2079 second (i + 1) r after → (d₁ d₂ : Declaration) → Steps words m i (declaration (DSeq i d₁ d₂)) r after
+    PutsThree words m (mark-word dseq-mark) second (i + 1) r after → (d₁ d₂ : Declaration) → Steps words m i (declaration (DSeq i d₁ d₂)) r after
 join-steps words m i r after second q puts d₁ d₂ C X E S L n rule f ready =
     let t = declaration-top (regions words m) i (DSeq i d₁ d₂) (ready .models) in
     let a = join-at (t .stored) in
@@ -97,7 +98,7 @@ join-steps words m i r after second q puts d₁ d₂ C X E S L n rule f ready =
 record ReferenceAt (nodes : List ℕ) (i : ℕ) (e : Expression) : Type 0 where
   depth : ℕ
   next : ℕ
-  place-low : i < 2000
+  place-low : i < most-nodes
   contents : StoredExpression nodes depth (i + 1) next e
 
 reference-at : {nodes : List ℕ} {d i j p : ℕ} {e : Expression} → StoredBound nodes d i j (Ref p e) → ReferenceAt nodes i e
@@ -108,10 +109,10 @@ reference-effect : {C : List Item} {E : Environment} {S : Store} {L : List ℕ} 
     Table C E S L n r (reference p e) X f → goes (state (expression e ∷ mark ref-mark ∷ C) X E S L n) ≡ f
 reference-effect Rules.ref = refl
 
-pub reference-low : (words : List ℕ) (m : Machine) (w p : ℕ) (e : Expression) → Applicable words m w (reference p e) → w < 2000
+pub reference-low : (words : List ℕ) (m : Machine) (w p : ℕ) (e : Expression) → Applicable words m w (reference p e) → w < most-nodes
 reference-low words m w p e a = reference-at (reference-top (regions words m) w p e (a .ready .models) .stored) .place-low
 
-pub reference-steps : (words : List ℕ) (m : Machine) (i : ℕ) (r : Stepped) (after : List ℕ) → PutsTwo words m 2088 (i + 1) r after →
+pub reference-steps : (words : List ℕ) (m : Machine) (i : ℕ) (r : Stepped) (after : List ℕ) → PutsTwo words m (mark-word ref-mark) (i + 1) r after →
     (p : ℕ) (e : Expression) → Steps words m i (reference p e) r after
 reference-steps words m i r after puts p e C X E S L n rule f ready =
     let t = reference-top (regions words m) i p e (ready .models) in
@@ -124,7 +125,7 @@ reference-steps words m i r after puts p e C X E S L n rule f ready =
 record AbstractionAt (nodes : List ℕ) (i : ℕ) (fs : List Formal) (b : Block) : Type 0 where
   depth : ℕ
   next : ℕ
-  place-low : i < 2000
+  place-low : i < most-nodes
   stored : StoredBound nodes depth i next (Abs i fs b)
 
 abstraction-at : {nodes : List ℕ} {d i j p : ℕ} {fs : List Formal} {b : Block} → StoredBound nodes d i j (Abs p fs b) → AbstractionAt nodes i fs b
@@ -134,7 +135,7 @@ abstraction-effect : {C : List Item} {E : Environment} {S : Store} {L : List ℕ
     Table C E S L n r (abstraction p fs b) X f → goes (state C (bindable (closure fs b E) ∷ X) E S L n) ≡ f
 abstraction-effect Rules.abs = refl
 
-pub abstraction-low : (words : List ℕ) (m : Machine) (w p : ℕ) (fs : List Formal) (b : Block) → Applicable words m w (abstraction p fs b) → w < 2000
+pub abstraction-low : (words : List ℕ) (m : Machine) (w p : ℕ) (fs : List Formal) (b : Block) → Applicable words m w (abstraction p fs b) → w < most-nodes
 abstraction-low words m w p fs b a = abstraction-at (abstraction-top (regions words m) w p fs b (a .ready .models) .stored) .place-low
 
 -- A pointer is at most the number of rows.
@@ -142,19 +143,19 @@ segment-low : {nodes : List ℕ} (l p k : ℕ) (words : List ℕ) {at : ℕ} {E 
 segment-low l p k words no-row = omega arith
 segment-low l p k words (one-row {i = i} {s = s} q a b c d e f) = omega (arith, slot-words l p k words i s q .within)
 
-pub environment-low : (words : List ℕ) (m : Machine) (w p : ℕ) (fs : List Formal) (b : Block) → Applicable words m w (abstraction p fs b) → m .environment ≤ 512
+pub environment-low : (words : List ℕ) (m : Machine) (w p : ℕ) (fs : List Formal) (b : Block) → Applicable words m w (abstraction p fs b) → m .environment ≤ most-bindings
 unfolding regions
-environment-low words m w p fs b a = omega (arith, segment-low 3584 4096 (m .bindings) words (a .ready .models .environment-as), a .ready .fits .few-bindings)
+environment-low words m w p fs b a = omega (arith, segment-low row-labels row-payloads (m .bindings) words (a .ready .models .environment-as), a .ready .fits .few-bindings)
 
 environment-is : (words : List ℕ) (m : Machine) → m .environment ≡ regions words m .environment
 unfolding regions
 environment-is words m = refl
 
-pub abstraction-steps : (words : List ℕ) (m : Machine) (i : ℕ) (r : Stepped) (after : List ℕ) → Pushes words m 0 (i + 2048 * m .environment) r after →
+pub abstraction-steps : (words : List ℕ) (m : Machine) (i : ℕ) (r : Stepped) (after : List ℕ) → Pushes words m 0 (i + closure-unit * m .environment) r after →
     (p : ℕ) (fs : List Formal) (b : Block) → Steps words m i (abstraction p fs b) r after
 abstraction-steps words m i r after pushes p fs b C X E S L n rule f ready =
     let t = abstraction-top (regions words m) i p fs b (ready .models) in
     let a = abstraction-at (t .stored) in
     let u = t .rest in
     subst (λ g. StepAnswer (judge false g) r words after) (abstraction-effect (ready .applies))
-    (pushes C X E S L n (closure fs b E) (lowered u) (closure-as (ap (λ k. i + 2048 * k) (environment-is words m)) (a .place-low) (a .stored) (u .environment-as)))
+    (pushes C X E S L n (closure fs b E) (lowered u) (closure-as (ap (λ k. i + closure-unit * k) (environment-is words m)) (a .place-low) (a .stored) (u .environment-as)))

@@ -5,13 +5,14 @@ use mathlib.Core.Bool.{false}
 use mathlib.Core.List.{List, [], _∷_}
 use native.Mathlib.Omega.{arith}
 use lib.ListN.{length, getD}
-use Rattle.rules.specs.paper.Limits.{names}
+use Rattle.rules.specs.paper.Limits.{names, most-bindings}
 use Rattle.rules.specs.paper.Refusals.{Bindings, reason-number}
 use Rattle.rules.specs.paper.States.{Bindable, Environment, empty, bound, join, Store, remove, Entry, environment, locations, bindable, name, bind-mark, dseq-mark, extend-mark, leave-mark, Item, mark, State, state}
 use Rattle.rules.specs.paper.Rules.{Rule, Effect, goes, Table, bind-at, dseq-at, extend-at, leave-at}
 use Rattle.rules.specs.paper.Run.{judge}
+use Rattle.machine.specs.Layout.{row-labels, row-payloads, cell-payloads, cell-labels, top-payload, second-payload, top-label, link}
 use Rattle.machine.specs.Regions.{Slot, slot, slots, Regions, regions, Fits, with-control, with-values, with-row, raised-rows, raised-values}
-use Rattle.machine.specs.Represents.{ValueAs, integer-as, truth-as, location-as, SegmentAs, no-row, one-row, BindableAs, value-as, closure-as, link, Since, Extends, no-more, one-more, Mode, running, declaring, ControlAs, bind-on, dseq-on, extend-on, leave-on, ValuesAs, bindable-on, name-on, node-on, declared-on, opened-on, frame-on, Models}
+use Rattle.machine.specs.Represents.{ValueAs, integer-as, truth-as, location-as, SegmentAs, no-row, one-row, BindableAs, value-as, closure-as, Since, Extends, no-more, one-more, Mode, running, declaring, ControlAs, bind-on, dseq-on, extend-on, leave-on, ValuesAs, bindable-on, name-on, node-on, declared-on, opened-on, frame-on, Models}
 use Rattle.machine.specs.Steps.{StepAnswer, Ready, Steps}
 use Rattle.machine.specs.declared.Machine.{Machine}
 use Rattle.machine.specs.declared.Stepped.{Stepped}
@@ -49,11 +50,11 @@ regions-declared words m d = refl
 
 pub rows-height : (words : List ℕ) (m : Machine) → length (regions words m .rows) ≡ m .bindings
 unfolding regions
-rows-height words m = slots-length 3584 4096 (m .bindings) words
+rows-height words m = slots-length row-labels row-payloads (m .bindings) words
 
 pub cells-height : (words : List ℕ) (m : Machine) → length (regions words m .cells) ≡ m .cells
 unfolding regions
-cells-height words m = slots-length 4864 4608 (m .cells) words
+cells-height words m = slots-length cell-labels cell-payloads (m .cells) words
 
 pub environment-is : (words : List ℕ) (m : Machine) → regions words m .environment ≡ m .environment
 unfolding regions
@@ -159,9 +160,9 @@ module _ (words : List ℕ) (m : Machine) where
 
   pub record BindNumbers : Type 0 where
     pub two-values : 2 ≤ m .values
-    pub label-low : getD words (3071 + m .values) 0 < 2
-    pub name-low : getD words (2558 + m .values) 0 < 64
-    pub declared-few : m .declared ≤ 512
+    pub label-low : getD words (top-label + m .values) 0 < 2
+    pub name-low : getD words (second-payload + m .values) 0 < 64
+    pub declared-few : m .declared ≤ most-bindings
 
   pub bind-numbers : (w : ℕ) {C : List Item} {X : List Entry} {E : Environment} {S : Store} {L : List ℕ} {n : ℕ} {r : Rule} {e : Effect} → Ready words m w (mark bind-mark) C X E S L n r e → BindNumbers
   bind-numbers w ready =
@@ -175,11 +176,11 @@ module _ (words : List ℕ) (m : Machine) where
         declared-few = few (declared-low (at .below) (pointer-low (ready .models .environment-as))) (rows-height words m) (declared-is words m) (ready .fits .few-bindings);
       }
     where
-      few : κ .declared ≤ length (κ .rows) → length (κ .rows) ≡ m .bindings → κ .declared ≡ m .declared → m .bindings ≤ 512 → m .declared ≤ 512
+      few : κ .declared ≤ length (κ .rows) → length (κ .rows) ≡ m .bindings → κ .declared ≡ m .declared → m .bindings ≤ most-bindings → m .declared ≤ most-bindings
       few a b c d = omega arith
 
   -- A 513th binding.
-  pub bind-withheld : (w : ℕ) → m .bindings ≡ 512 → Steps words m w (mark bind-mark) (Withheld 34) words
+  pub bind-withheld : (w : ℕ) → m .bindings ≡ most-bindings → Steps words m w (mark bind-mark) (Withheld 34) words
   unfolding reason-number
   bind-withheld w full C X E S L n r e ready =
       let top = bind-top w (ready .applies) (ready .models) in
@@ -188,7 +189,7 @@ module _ (words : List ℕ) (m : Machine) where
       (step-withheld words Bindings _ _ (judged-bindings _ _ _ _ _ _ (omega (arith, z .cells-height, ready .fits .few-cells)) (omega (arith, z .bindings-height, full))) refl)
 
   abbrev bind-link : ℕ
-  bind-link = getD words (2558 + m .values) 0 + 64 * getD words (3071 + m .values) 0 + 128 * m .declared
+  bind-link = getD words (second-payload + m .values) 0 + 64 * getD words (top-label + m .values) 0 + 128 * m .declared
 
   abbrev bound-machine : Machine
   bound-machine = pointed (m .environment) (m .bindings + 1) (m .base) (at-height (m .values - 1) (raised-rows m))
@@ -197,8 +198,8 @@ module _ (words : List ℕ) (m : Machine) where
   abbrev bound-from : Machine → Machine
   bound-from t = record { control = t .control; values = m .values - 1; environment = t .environment; declared = t .bindings; cells = t .cells; base = t .base; bindings = t .bindings }
 
-  pub bind-made : (w : ℕ) (after : List ℕ) (t : Machine) → m .bindings < 512 → t ≡ raised-rows m →
-      regions after (raised-rows m) ≡ with-row (slot bind-link (getD words (2559 + m .values) 0)) (regions words m) →
+  pub bind-made : (w : ℕ) (after : List ℕ) (t : Machine) → m .bindings < most-bindings → t ≡ raised-rows m →
+      regions after (raised-rows m) ≡ with-row (slot bind-link (getD words (top-payload + m .values) 0)) (regions words m) →
       Steps words m w (mark bind-mark) (Made (bound-from t)) after
   bind-made w after t free q put C X E S L n r e ready =
       answered (Made (bound-from t)) words after (top .effect-is)
@@ -217,7 +218,7 @@ module _ (words : List ℕ) (m : Machine) where
       two = two-on-top words m (at .value-slot) (at .name-slot) (at .rest) (at .are)
 
       row : Slot
-      row = slot bind-link (getD words (2559 + m .values) 0)
+      row = slot bind-link (getD words (top-payload + m .values) 0)
 
       all : regions after bound-machine ≡ with-pointers (κ .environment) (m .bindings + 1) (κ .base) (with-values (at .name-slot ∷ at .rest) (with-row row κ))
       all =
@@ -234,7 +235,7 @@ module _ (words : List ℕ) (m : Machine) where
       newest : m .bindings + 1 ≡ suc (length (κ .rows))
       newest = omega (arith, rows-height words m)
 
-      bound-as : BindableAs (κ .nodes) (κ .rows) (at .value-slot .label) (getD words (2559 + m .values) 0) (top .bound-to)
+      bound-as : BindableAs (κ .nodes) (κ .rows) (at .value-slot .label) (getD words (top-payload + m .values) 0) (top .bound-to)
       bound-as = subst (λ p. BindableAs (κ .nodes) (κ .rows) (at .value-slot .label) p (top .bound-to)) (sym (two .payload-word)) (at .bound-as)
 
       models : Models (with-pointers (κ .environment) (m .bindings + 1) (κ .base) (with-values (at .name-slot ∷ at .rest) (with-row row κ))) C (environment (bound (top .bound-name) (top .bound-to) empty) ∷ top .rest) E S L (suc n)

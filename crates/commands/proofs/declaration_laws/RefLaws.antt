@@ -9,6 +9,8 @@ use Rattle.rules.specs.paper.Refusals.{Cells, reason-number}
 use Rattle.rules.specs.paper.States.{location, Environment, Store, Entry, val, Item, mark, ref-mark}
 use Rattle.rules.specs.paper.Rules.{Rule, Effect, Table, ref-at}
 use Rattle.rules.specs.paper.Run.{judge}
+use Rattle.rules.specs.paper.Limits.{most-cells, most-value-entries}
+use Rattle.machine.specs.Layout.{top-payload, top-label}
 use Rattle.machine.specs.Regions.{Slot, slot, regions, Fits, with-values, with-cells, raised-values, raised-cells}
 use Rattle.machine.specs.Represents.{ValueAs, location-as, value-as, one-cell, Since, one-since, bindable-on, Models}
 use Rattle.machine.specs.Steps.{StepAnswer, Applicable, Steps}
@@ -26,7 +28,7 @@ value-there {words} {m} a = by (a .ready .applies) (ref-taken (a .ready .models)
     by ref-at μ = one-value words m μ .some-values
 
 -- A 257th cell.
-pub ref-withheld : (words : List ℕ) (m : Machine) (w : ℕ) → m .cells ≡ 256 → Steps words m w (mark ref-mark) (Withheld 33) words
+pub ref-withheld : (words : List ℕ) (m : Machine) (w : ℕ) → m .cells ≡ most-cells → Steps words m w (mark ref-mark) (Withheld 33) words
 unfolding reason-number
 ref-withheld words m w full C X E S L n r e ready = by (ready .applies) (ref-taken (ready .models))
   where
@@ -42,20 +44,20 @@ pub record CellMade (before : List ℕ) (m : Machine) (between : List ℕ) (made
   pub machine-is : made ≡ raised-cells (at-height (m .values - 1) m)
   pub regions-are :
       regions between (raised-cells (at-height (m .values - 1) m)) ≡
-      with-cells (slot (getD before (3071 + m .values) 0) (getD before (2559 + m .values) 0) ∷ regions before (at-height (m .values - 1) m) .cells) (regions before (at-height (m .values - 1) m))
+      with-cells (slot (getD before (top-label + m .values) 0) (getD before (top-payload + m .values) 0) ∷ regions before (at-height (m .values - 1) m) .cells) (regions before (at-height (m .values - 1) m))
 
 size-same : (words : List ℕ) (m : Machine) (k : ℕ) → regions words (at-height k m) .size ≡ regions words m .size
 unfolding regions
 size-same words m k = refl
 
-pub cell-fits : (before between : List ℕ) (m made : Machine) → Fits before m → (m .cells ≡ 256 → ⊥) → 1 ≤ m .values → CellMade before m between made → Fits between made × (made .values < 512)
+pub cell-fits : (before between : List ℕ) (m made : Machine) → Fits before m → (m .cells ≡ most-cells → ⊥) → 1 ≤ m .values → CellMade before m between made → Fits between made × (made .values < most-value-entries)
 cell-fits before between m made f room there c = (
   subst (Fits between) (sym (c .machine-is))
       (fits-still before between m (raised-cells (at-height (m .values - 1) m)) f (ap (λ κ. κ .size) (c .regions-are) ∙ size-same before m (m .values - 1)) (f .few-control) (omega (arith, f .few-values)) (f .few-bindings) (omega (arith, f .few-cells, room))),
   omega (arith, ap (λ k. k .values) (c .machine-is), f .few-values, there),
 )
 
-pub ref-made : (before between after : List ℕ) (m made r : Machine) (w : ℕ) → Fits before m → (m .cells ≡ 256 → ⊥) → 1 ≤ m .values → CellMade before m between made → r ≡ raised-values made →
+pub ref-made : (before between after : List ℕ) (m made r : Machine) (w : ℕ) → Fits before m → (m .cells ≡ most-cells → ⊥) → 1 ≤ m .values → CellMade before m between made → r ≡ raised-values made →
     regions after (raised-values made) ≡ with-values (slot 1 (m .cells) ∷ regions between made .values) (regions between made) →
     Steps before m w (mark ref-mark) (Made r) after
 ref-made before between after m made r w f room there c q g C X E S L n rule e ready = by (ready .applies) (ref-taken (ready .models))
@@ -64,7 +66,7 @@ ref-made before between after m made r w f room there c q g C X E S L n rule e r
     by (ref-at {v = v} {X = Y}) μ =
         let one = one-value before m μ in
         let z = sizes before m μ in
-        let new-slot : Slot = slot (getD before (3071 + m .values) 0) (getD before (2559 + m .values) 0) in
+        let new-slot : Slot = slot (getD before (top-label + m .values) 0) (getD before (top-payload + m .values) 0) in
         let cells-then = ap (regions between) (c .machine-is) ∙ c .regions-are ∙ ap (λ κ. with-cells (new-slot ∷ κ .cells) κ) (one .popped) in
         let all = ap (regions after) q ∙ g ∙ ap (λ κ. with-values (slot 1 (m .cells) ∷ κ .values) κ) cells-then in
         let fits = cell-fits before between m made f room there c in

@@ -12,6 +12,8 @@ use Rattle.rules.specs.claims.Listing.{truth-word}
 use Rattle.rules.specs.paper.States.{integer, truth, value, operator-mark, not-mark, expression, mark}
 use Rattle.rules.specs.paper.Rules.{Rule, Effect, Table, num, boo, binary, negation}
 use Rattle.rules.specs.paper.Run.{judge}
+use Rattle.rules.specs.paper.Limits.{most-nodes}
+use Rattle.machine.specs.Layout.{mark-base, mark-word}
 use Rattle.reader.specs.Pack.{packed-end, packed-operand}
 use Rattle.reader.specs.Stored.{HasWord, operand-is, end-is, StoredExpression}
 use Rattle.reader.specs.Stored as Stored
@@ -51,7 +53,7 @@ operator-below (logic Or) = omega arith
 
 -- ---- Where an expression stands and ends.
 
-pub expression-low : {nodes : List ℕ} {d i j : ℕ} {e : Expression} → StoredExpression nodes d i j e → i < 2000
+pub expression-low : {nodes : List ℕ} {d i j : ℕ} {e : Expression} → StoredExpression nodes d i j e → i < most-nodes
 expression-low (Stored.num h) = h .place-low
 expression-low (Stored.boo h) = h .place-low
 expression-low (Stored.id l h) = h .place-low
@@ -101,7 +103,7 @@ next-place i = omega arith
 module _ (words : List ℕ) (m : Machine) (w : ℕ) where
   -- ---- Where the rule applies the node is in the tree.
 
-  pub applicable-low : (e : Expression) → Applicable words m w (expression e) → w < 2000
+  pub applicable-low : (e : Expression) → Applicable words m w (expression e) → w < most-nodes
   applicable-low e a = expression-low (expression-top (regions words m) w e (a .ready .models) .stored)
 
   pub applicable-within : (e : Expression) → Applicable words m w (expression e) → w < length words
@@ -149,7 +151,7 @@ module _ (words : List ℕ) (m : Machine) (w : ℕ) where
         by : {r : Rule} {e : Effect} → Table C E S L n r (expression (Boo w b)) X e → StepAnswer (judge false e) answer words after
         by boo = pushes C X E S L n (value (truth b)) (top .lowered) (value-as (truth-as is-truth))
 
-    pub binary-steps : (which second : ℕ) → second ≡ packed-end (getD words (w + 1) 0) → PutsThree words m (2048 + which) second (w + 1) answer after →
+    pub binary-steps : (which second : ℕ) → second ≡ packed-end (getD words (w + 1) 0) → PutsThree words m (mark-base + which) second (w + 1) answer after →
         (o : Operator) (e₁ e₂ : Expression) → which ≡ operator-number o → Steps words m w (expression (Binary w o e₁ e₂)) answer after
     binary-steps which second q puts o e₁ e₂ h C X E S L n r e ready = by (ready .applies)
       where
@@ -162,17 +164,17 @@ module _ (words : List ℕ) (m : Machine) (w : ℕ) where
         is-second : both .middle ≡ second
         is-second = sym (expression-end words m (both .first)) ∙ ap (λ i. packed-end (getD words i 0)) (next-place w) ∙ sym q
 
-        control : ControlAs (regions words m .nodes) (top .lowered .mode) ((w + 1) ∷ second ∷ (2048 + which) ∷ regions words m .control)
+        control : ControlAs (regions words m .nodes) (top .lowered .mode) ((w + 1) ∷ second ∷ (mark-base + which) ∷ regions words m .control)
             (expression e₁ ∷ expression e₂ ∷ mark (operator-mark o) ∷ C)
         control =
             expression-on (subst (λ i. StoredExpression (regions words m .nodes) (both .depth) i (both .middle) e₁) (next-place w) (both .first))
             (expression-on (subst (λ i. StoredExpression (regions words m .nodes) (both .depth) i (both .next) e₂) is-second (both .second))
-            (operator-on (ap (λ k. 2048 + k) h) (top .lowered .control-as)))
+            (operator-on (ap (λ k. mark-base + k) h) (top .lowered .control-as)))
 
         by : {r : Rule} {e : Effect} → Table C E S L n r (expression (Binary w o e₁ e₂)) X e → StepAnswer (judge false e) answer words after
         by binary = puts C X E S L n (expression e₁) (expression e₂) (mark (operator-mark o)) (top .lowered) control
 
-    pub negation-steps : PutsTwo words m 2063 (w + 1) answer after → (e : Expression) → Steps words m w (expression (Not w e)) answer after
+    pub negation-steps : PutsTwo words m (mark-word not-mark) (w + 1) answer after → (e : Expression) → Steps words m w (expression (Not w e)) answer after
     negation-steps puts inner C X E S L n r e ready = by (ready .applies)
       where
         top : ExpressionTop (regions words m) w (Not w inner) C X E S L n
@@ -181,7 +183,7 @@ module _ (words : List ℕ) (m : Machine) (w : ℕ) where
         one : Operand (regions words m .nodes) w inner
         one = operand (top .stored)
 
-        control : ControlAs (regions words m .nodes) (top .lowered .mode) ((w + 1) ∷ 2063 ∷ regions words m .control) (expression inner ∷ mark not-mark ∷ C)
+        control : ControlAs (regions words m .nodes) (top .lowered .mode) ((w + 1) ∷ (mark-word not-mark) ∷ regions words m .control) (expression inner ∷ mark not-mark ∷ C)
         control =
             expression-on (subst (λ i. StoredExpression (regions words m .nodes) (one .depth) i (one .next) inner) (next-place w) (one .inner))
             (not-on refl (top .lowered .control-as))

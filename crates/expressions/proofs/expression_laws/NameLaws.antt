@@ -12,11 +12,13 @@ use Rattle.rules.specs.paper.Tree.{Expression, Id, DeRef, ValRef}
 use Rattle.rules.specs.paper.States.{Value, location, Bindable, value, Environment, lookup, Store, find, Entry, Item, expression}
 use Rattle.rules.specs.paper.Rules.{Rule, Effect, IsPlain, Table, id-plain, id-cell, deref, valref}
 use Rattle.rules.specs.paper.Run.{judge}
+use Rattle.rules.specs.paper.Limits.{most-cells, most-bindings}
+use Rattle.machine.specs.Layout.{row-labels, row-payloads, cell-payloads, cell-labels, link}
 use Rattle.reader.specs.Pack.{packed-operand}
 use Rattle.reader.specs.Stored.{operand-is, StoredExpression}
 use Rattle.reader.specs.Stored as Stored
 use Rattle.machine.specs.Regions.{Slot, slot-at, regions, Fits}
-use Rattle.machine.specs.Represents.{ValueAs, integer-as, truth-as, location-as, link, SegmentAs, BindableAs, value-as, StoreAs, no-cell, one-cell, Models}
+use Rattle.machine.specs.Represents.{ValueAs, integer-as, truth-as, location-as, SegmentAs, BindableAs, value-as, StoreAs, no-cell, one-cell, Models}
 use Rattle.machine.specs.Lookup.{RowOf}
 use Rattle.machine.specs.Steps.{StepAnswer, Ready, Applicable, Steps, Pushes}
 use Rattle.machine.specs.declared.Machine.{Machine}
@@ -64,17 +66,17 @@ cell-of l v (one-cell {s = s} {cells = cells} {c = c} {S = S} e h older) q =
 
 -- Its words.
 pub record CellWords (words : List ℕ) (l : ℕ) (v : Value) : Type 0 where
-  pub within : l < 256
-  pub holds : ValueAs (getD words (4864 + l) 0) (getD words (4608 + l) 0) v
+  pub within : l < most-cells
+  pub holds : ValueAs (getD words (cell-labels + l) 0) (getD words (cell-payloads + l) 0) v
 
 pub cell-words : (words : List ℕ) (m : Machine) {S : Store} (l : ℕ) (v : Value) → Fits words m → StoreAs (regions words m .cells) S → find l S ≡ some v → CellWords words l v
 unfolding regions
 cell-words words m l v f s q =
     let c = cell-of l v s q in
-    let w = slot-words 4864 4608 (m .cells) words l (c .cell) (c .at) in
+    let w = slot-words cell-labels cell-payloads (m .cells) words l (c .cell) (c .at) in
     record {
       within = omega (arith, w .within, f .few-cells);
-      holds = subst (λ t. ValueAs t (getD words (4608 + l) 0) v) (w .label-word) (subst (λ p. ValueAs (c .cell .label) p v) (w .payload-word) (c .holds));
+      holds = subst (λ t. ValueAs t (getD words (cell-payloads + l) 0) v) (w .label-word) (subst (λ p. ValueAs (c .cell .label) p v) (w .payload-word) (c .holds));
     }
 
 -- The words that the code reads are those of the cell at the location.
@@ -82,8 +84,8 @@ cell-at : (words : List ℕ) (m : Machine) {S : Store} (read l : ℕ) (v : Value
     CellWords words read v
 cell-at words m {S} read l v f s e q = cell-words words m read v f s (subst (λ k. find k S ≡ some v) (sym e) q)
 
-read-value : {words : List ℕ} {read t p : ℕ} {v : Value} → t ≡ getD words (4864 + read) 0 → p ≡ getD words (4608 + read) 0 → CellWords words read v → ValueAs t p v
-read-value {words} {read} {t} {p} {v} tq pq c = subst (λ u. ValueAs u p v) (sym tq) (subst (λ u. ValueAs (getD words (4864 + read) 0) u v) (sym pq) (c .holds))
+read-value : {words : List ℕ} {read t p : ℕ} {v : Value} → t ≡ getD words (cell-labels + read) 0 → p ≡ getD words (cell-payloads + read) 0 → CellWords words read v → ValueAs t p v
+read-value {words} {read} {t} {p} {v} tq pq c = subst (λ u. ValueAs u p v) (sym tq) (subst (λ u. ValueAs (getD words (cell-labels + read) 0) u v) (sym pq) (c .holds))
 
 -- ---- The expressions that look up a name.
 
@@ -127,12 +129,12 @@ module _ (words : List ℕ) (m : Machine) (w name : ℕ) (operand : name ≡ pac
 
   -- What `row_of` gives.
   module _ (row : ℕ) (found : (nodes : List ℕ) (E : Environment) (b : Bindable) → SegmentAs nodes (regions words m .rows) (m .environment) 0 E → lookup name E ≡ some b →
-      RowOf nodes (regions words m .rows) name b row (getD words (3584 + row) 0) (getD words (4096 + row) 0)) where
+      RowOf nodes (regions words m .rows) name b row (getD words (row-labels + row) 0) (getD words (row-payloads + row) 0)) where
     abbrev label : ℕ
-    label = getD words (3584 + row) 0
+    label = getD words (row-labels + row) 0
 
     abbrev bound : ℕ
-    bound = getD words (4096 + row) 0
+    bound = getD words (row-payloads + row) 0
 
     abbrev NameRow : Bindable → Type 0
     NameRow b = RowOf (regions words m .nodes) (regions words m .rows) name b row label bound
@@ -141,11 +143,11 @@ module _ (words : List ℕ) (m : Machine) (w name : ℕ) (operand : name ≡ pac
         Ready words m w (expression e) C X E S L n r f → (b : Bindable) → lookup x E ≡ some b → NameRow b
     row-for {E = E} x e named ready b q = found (regions words m .nodes) E b (chain x e named ready) (named-alike x e named ready b q)
 
-    rows-low : (b : Bindable) → Fits words m → NameRow b → row < 512
+    rows-low : (b : Bindable) → Fits words m → NameRow b → row < most-bindings
     unfolding regions
-    rows-low b f h = omega (arith, h .within, slots-length 3584 4096 (m .bindings) words, f .few-bindings)
+    rows-low b f h = omega (arith, h .within, slots-length row-labels row-payloads (m .bindings) words, f .few-bindings)
 
-    pub name-row-low : (x : ℕ) (e : Expression) → Named w x e → Applicable words m w (expression e) → row < 512
+    pub name-row-low : (x : ℕ) (e : Expression) → Named w x e → Applicable words m w (expression e) → row < most-bindings
     name-row-low x e named a = let b = bound-name named (a .ready .applies) in rows-low (b .0) (a .ready .fits) (row-for x e named (a .ready) (b .0) (b .1))
 
     -- The row's label and payload are those of what the name is bound to.
@@ -184,19 +186,19 @@ module _ (words : List ℕ) (m : Machine) (w name : ℕ) (operand : name ≡ pac
 
     -- ---- Id.
 
-    pub id-cell-low : (x : ℕ) → Applicable words m w (expression (Id w x)) → (label / 64 % 2 ≡ 0 → ⊥) → bound < 256
+    pub id-cell-low : (x : ℕ) → Applicable words m w (expression (Id w x)) → (label / 64 % 2 ≡ 0 → ⊥) → bound < most-cells
     id-cell-low x a marked = by (a .ready .applies) (row-for x (Id w x) by-id (a .ready)) (top x (Id w x) by-id (a .ready) .lowered)
       where
         by : {C : List Item} {X : List Entry} {E : Environment} {S : Store} {L : List ℕ} {n : ℕ} {r : Rule} {f : Effect} → Table C E S L n r (expression (Id w x)) X f →
-            ((b : Bindable) → lookup x E ≡ some b → NameRow b) → Models (regions words m) C X E S L n → bound < 256
+            ((b : Bindable) → lookup x E ≡ some b → NameRow b) → Models (regions words m) C X E S L n → bound < most-cells
         by (id-plain {v = v} plain q) rows μ = absurd (marked (plain-row v plain (rows (value v) q) .unmarked))
         by (id-cell {l = l} {v = v} q c) rows μ = cell-at words m bound l v (a .ready .fits) (μ .store-as) (location-row l (rows (value (location l)) q) .bound-is) c .within
 
     -- ---- ValRef: the cell that the name is bound to has the location of the cell that is read.
 
     record Shown (v : Value) : Type 0 where
-      pub outer-low : bound < 256
-      pub inner : (shown : ℕ) → shown ≡ getD words (4608 + bound) 0 → CellWords words shown v
+      pub outer-low : bound < most-cells
+      pub inner : (shown : ℕ) → shown ≡ getD words (cell-payloads + bound) 0 → CellWords words shown v
 
     shown-cell : {S : Store} (l k : ℕ) (v : Value) → Fits words m → StoreAs (regions words m .cells) S → NameRow (value (location l)) →
         find l S ≡ some (location k) → find k S ≡ some v → Shown v
@@ -211,10 +213,10 @@ module _ (words : List ℕ) (m : Machine) (w name : ℕ) (operand : name ≡ pac
             ((b : Bindable) → lookup x E ≡ some b → NameRow b) → Models (regions words m) C X E S L n → (v : Value) × Shown v
         by (valref {l = l} {k = k} {v = v} q c d) rows μ = (v, shown-cell l k v (a .ready .fits) (μ .store-as) (rows (value (location l)) q) c d)
 
-    pub valref-outer-low : (x : ℕ) → Applicable words m w (expression (ValRef w x)) → bound < 256
+    pub valref-outer-low : (x : ℕ) → Applicable words m w (expression (ValRef w x)) → bound < most-cells
     valref-outer-low x a = some-shown x a .1 .outer-low
 
-    pub valref-inner-low : (x shown : ℕ) → Applicable words m w (expression (ValRef w x)) → shown ≡ getD words (4608 + bound) 0 → shown < 256
+    pub valref-inner-low : (x shown : ℕ) → Applicable words m w (expression (ValRef w x)) → shown ≡ getD words (cell-payloads + bound) 0 → shown < most-cells
     valref-inner-low x shown a e = some-shown x a .1 .inner shown e .within
 
     module _ (answer : Stepped) (after : List ℕ) where
@@ -230,7 +232,7 @@ module _ (words : List ℕ) (m : Machine) (w name : ℕ) (operand : name ≡ pac
           by (id-cell {l = l} q c) = absurd (omega (arith, unmarked, location-row l (rows (value (location l)) q) .marked))
 
       -- The name is bound to a location.
-      pub id-cell-steps : (t p : ℕ) → (label / 64 % 2 ≡ 0 → ⊥) → t ≡ getD words (4864 + bound) 0 → p ≡ getD words (4608 + bound) 0 → Pushes words m t p answer after →
+      pub id-cell-steps : (t p : ℕ) → (label / 64 % 2 ≡ 0 → ⊥) → t ≡ getD words (cell-labels + bound) 0 → p ≡ getD words (cell-payloads + bound) 0 → Pushes words m t p answer after →
           (x : ℕ) → Steps words m w (expression (Id w x)) answer after
       id-cell-steps t p marked tq pq pushes x C X E S L n r f ready = by (ready .applies)
         where
@@ -258,7 +260,7 @@ module _ (words : List ℕ) (m : Machine) (w name : ℕ) (operand : name ≡ pac
 
       -- ---- ValRef.
 
-      pub valref-steps : (shown t p : ℕ) → shown ≡ getD words (4608 + bound) 0 → t ≡ getD words (4864 + shown) 0 → p ≡ getD words (4608 + shown) 0 → Pushes words m t p answer after →
+      pub valref-steps : (shown t p : ℕ) → shown ≡ getD words (cell-payloads + bound) 0 → t ≡ getD words (cell-labels + shown) 0 → p ≡ getD words (cell-payloads + shown) 0 → Pushes words m t p answer after →
           (x : ℕ) → Steps words m w (expression (ValRef w x)) answer after
       valref-steps shown t p sq tq pq pushes x C X E S L n r f ready = by (ready .applies)
         where

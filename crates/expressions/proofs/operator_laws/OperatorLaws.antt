@@ -15,6 +15,7 @@ use Rattle.rules.specs.paper.Integers.{number, failed, compute, compare, equal-
 use Rattle.rules.specs.paper.States.{Value, integer, truth, Environment, Store, Entry, val, Item, mark, operator-mark, not-mark, state}
 use Rattle.rules.specs.paper.Rules.{Rule, Effect, goes, fails, pushed, equal-values, Table, arithmetic-at, equal-at, order-at, logic-at, not-at}
 use Rattle.rules.specs.paper.Run.{priority, holds, first-holding, withheld, judge}
+use Rattle.machine.specs.Layout.{top-payload, second-payload}
 use Rattle.integers.specs.Words.{integer-of, word-of, computed}
 use Rattle.integers.specs.WordLaws.{equal-words, word-below, computed-in-range, computed-number, computed-failed}
 use Rattle.integers.specs.declared.Computed.the-variants.{Number, Failed}
@@ -80,10 +81,10 @@ operands-there {words} {m} {o = o} a = record { fits = a .ready .fits; two-there
 
 module _ (before after : List ℕ) (m : Machine) (w : ℕ) (answer : Stepped) where
   abbrev first : ℕ
-  first = getD before (2558 + m .values) 0
+  first = getD before (second-payload + m .values) 0
 
   abbrev second : ℕ
-  second = getD before (2559 + m .values) 0
+  second = getD before (top-payload + m .values) 0
 
   pub arithmetic-made : (o : Arithmetic) (result : ℕ) → computed (compute o (integer-of first) (integer-of second)) ≡ Number result → Replaces before m result answer after →
       stepping.Steps before m w (mark (operator-mark (arithmetic o))) answer after
@@ -157,7 +158,7 @@ judged-fails ValueEntries = refl
 judged-fails ControlEntries = refl
 
 pub arithmetic-withheld : (words : List ℕ) (m : Machine) (w : ℕ) (o : Arithmetic) (reason : ℕ) →
-    computed (compute o (integer-of (getD words (2558 + m .values) 0)) (integer-of (getD words (2559 + m .values) 0))) ≡ Failed reason →
+    computed (compute o (integer-of (getD words (second-payload + m .values) 0)) (integer-of (getD words (top-payload + m .values) 0))) ≡ Failed reason →
     stepping.Steps words m w (mark (operator-mark (arithmetic o))) (Withheld reason) words
 arithmetic-withheld words m w o reason told C X E S L n r e ready = by (ready .applies) (operator-taken (ready .models))
   where
@@ -171,7 +172,7 @@ arithmetic-withheld words m w o reason told C X E S L n r e ready = by (ready .a
 
 -- ---- Not.
 
-pub truth-there : {words : List ℕ} {m : Machine} {w : ℕ} → Applicable words m w (mark not-mark) → (1 ≤ m .values) × (getD words (2559 + m .values) 0 ≤ 1)
+pub truth-there : {words : List ℕ} {m : Machine} {w : ℕ} → Applicable words m w (mark not-mark) → (1 ≤ m .values) × (getD words (top-payload + m .values) 0 ≤ 1)
 truth-there {words} {m} a = by (a .ready .applies) (not-taken (a .ready .models))
   where
     bit : {k : ℕ} (b : Bool) → k ≡ truth-word b → k ≤ 1
@@ -179,12 +180,12 @@ truth-there {words} {m} a = by (a .ready .applies) (not-taken (a .ready .models)
     bit false q = omega (arith, q)
 
     by : {C : List Item} {E : Environment} {S : Store} {L : List ℕ} {n : ℕ} {r : Rule} {X : List Entry} {e : Effect} → Table C E S L n r (mark not-mark) X e → Models (regions words m) C X E S L n →
-        (1 ≤ m .values) × (getD words (2559 + m .values) 0 ≤ 1)
+        (1 ≤ m .values) × (getD words (top-payload + m .values) 0 ≤ 1)
     by (not-at {a = b}) μ = let one = one-value words m μ in (one .some-values, bit b (truth-word-of (one .value-words)))
 
 pub not-made : (before after : List ℕ) (m : Machine) (w : ℕ) (r : Machine) → Fits before m → 1 ≤ m .values → r ≡ raised-values (at-height (m .values - 1) m) →
     regions after (raised-values (at-height (m .values - 1) m)) ≡
-    with-values (slot 0 (1 - getD before (2559 + m .values) 0) ∷ regions before (at-height (m .values - 1) m) .values) (regions before (at-height (m .values - 1) m)) →
+    with-values (slot 0 (1 - getD before (top-payload + m .values) 0) ∷ regions before (at-height (m .values - 1) m) .values) (regions before (at-height (m .values - 1) m)) →
     stepping.Steps before m w (mark not-mark) (Made r) after
 not-made before after m w r f there q g C X E S L n k e ready = by (ready .applies) (not-taken (ready .models))
   where

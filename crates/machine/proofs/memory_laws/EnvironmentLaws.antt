@@ -10,8 +10,9 @@ use lib.ListN.{length}
 use Rattle.rules.specs.proofs.Basics.{missing, true-test, false-test, passed-test}
 use Rattle.rules.specs.paper.Limits.{names}
 use Rattle.rules.specs.paper.States.{Bindable, Environment, empty, bound, join, Cell, Store, in-set, remove, Entry}
+use Rattle.machine.specs.Layout.{link}
 use Rattle.machine.specs.Regions.{Slot, slot, slots, slot-at}
-use Rattle.machine.specs.Represents.{SegmentAs, no-row, one-row, BindableAs, value-as, closure-as, link, StoreAs, no-cell, one-cell, Since, none-since, one-since, Extends, no-more, one-more, Mode, running, declaring, ValuesAs, nothing-on, bindable-on, name-on, node-on, declared-on, opened-on, frame-on}
+use Rattle.machine.specs.Represents.{SegmentAs, no-row, one-row, BindableAs, value-as, closure-as, StoreAs, no-cell, one-cell, Since, none-since, one-since, Extends, no-more, one-more, Mode, running, declaring, ValuesAs, nothing-on, bindable-on, name-on, node-on, declared-on, opened-on, frame-on}
 use Rattle.machine.proofs.memory_laws.RegionLaws.{slots-length}
 
 -- ---- Rows.

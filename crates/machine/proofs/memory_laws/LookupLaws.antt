@@ -9,8 +9,9 @@ use lib.Dec.{T, eqb, eqb→eq, eqb-refl}
 use lib.ListN.{length, getD}
 use Rattle.rules.specs.proofs.Basics.{missing, true-test, false-test, passed-test, failed-test}
 use Rattle.rules.specs.paper.States.{Bindable, Environment, empty, bound, lookup}
+use Rattle.machine.specs.Layout.{row-labels, row-payloads, row-at-pointer, link}
 use Rattle.machine.specs.Regions.{Slot, slot, slots, slot-at}
-use Rattle.machine.specs.Represents.{SegmentAs, no-row, one-row, BindableAs, link}
+use Rattle.machine.specs.Represents.{SegmentAs, no-row, one-row, BindableAs}
 use Rattle.machine.specs.Lookup.{RowOf}
 use Rattle.machine.proofs.memory_laws.RegionLaws.{slots-length}
 
@@ -74,21 +75,21 @@ link-pointer x t q h g = omega arith
 
 module _ (nodes : List ℕ) (bindings : ℕ) (words : List ℕ) (at name : ℕ) (b : Bindable) where
   abbrev Rows : List Slot
-  Rows = slots 3584 4096 bindings words
+  Rows = slots row-labels row-payloads bindings words
 
   pub row-low : FirstRow nodes Rows at name b → (0 < at) × (at ≤ bindings)
-  row-low f = let w = slot-words 3584 4096 bindings words (f .row) (f .words-of) (f .found) in (omega (arith, f .at-is), omega (arith, f .at-is, w .within))
+  row-low f = let w = slot-words row-labels row-payloads bindings words (f .row) (f .words-of) (f .found) in (omega (arith, f .at-is), omega (arith, f .at-is, w .within))
 
   -- The word that the code reads is the first row's.
-  pub row-word : (f : FirstRow nodes Rows at name b) → getD words (3583 + at) 0 ≡ link (f .x) (f .t) (f .q)
+  pub row-word : (f : FirstRow nodes Rows at name b) → getD words (row-at-pointer + at) 0 ≡ link (f .x) (f .t) (f .q)
   row-word f =
-      ap (λ n. getD words n 0) (place (f .row) (f .at-is)) ∙ sym (slot-words 3584 4096 bindings words (f .row) (f .words-of) (f .found) .label-word) ∙ f .label-is
+      ap (λ n. getD words n 0) (place (f .row) (f .at-is)) ∙ sym (slot-words row-labels row-payloads bindings words (f .row) (f .words-of) (f .found) .label-word) ∙ f .label-is
     where
-      place : (i : ℕ) → at ≡ suc i → 3583 + at ≡ 3584 + i
+      place : (i : ℕ) → at ≡ suc i → row-at-pointer + at ≡ row-labels + i
       place i q = omega arith
 
-  pub row-found : (f : FirstRow nodes Rows at name b) → getD words (3583 + at) 0 % 64 ≡ name →
-      RowOf nodes Rows name b (at - 1) (getD words (3584 + (at - 1)) 0) (getD words (4096 + (at - 1)) 0)
+  pub row-found : (f : FirstRow nodes Rows at name b) → getD words (row-at-pointer + at) 0 % 64 ≡ name →
+      RowOf nodes Rows name b (at - 1) (getD words (row-labels + (at - 1)) 0) (getD words (row-payloads + (at - 1)) 0)
   row-found f e = by-name (eqb (f .x) name) refl (f .looked)
     where
       same : f .x ≡ name
@@ -97,21 +98,21 @@ module _ (nodes : List ℕ) (bindings : ℕ) (words : List ℕ) (at name : ℕ) 
       number : at - 1 ≡ f .row
       number = omega (arith, f .at-is)
 
-      w : SlotWords 3584 4096 bindings words (f .row) (f .words-of)
-      w = slot-words 3584 4096 bindings words (f .row) (f .words-of) (f .found)
+      w : SlotWords row-labels row-payloads bindings words (f .row) (f .words-of)
+      w = slot-words row-labels row-payloads bindings words (f .row) (f .words-of) (f .found)
 
       by-name : (t : Bool) → eqb (f .x) name ≡ t → cond t (some (f .first)) (lookup name (f .rest)) ≡ some b →
-          RowOf nodes Rows name b (at - 1) (getD words (3584 + (at - 1)) 0) (getD words (4096 + (at - 1)) 0)
+          RowOf nodes Rows name b (at - 1) (getD words (row-labels + (at - 1)) 0) (getD words (row-payloads + (at - 1)) 0)
       by-name true u q =
           record {
             value-label = f .t;
             pointer = f .q;
-            within = omega (arith, slots-length 3584 4096 bindings words, w .within, number);
-            label-is = ap (λ n. getD words (3584 + n) 0) number ∙ sym (w .label-word) ∙ f .label-is ∙ ap (λ x. link x (f .t) (f .q)) same;
+            within = omega (arith, slots-length row-labels row-payloads bindings words, w .within, number);
+            label-is = ap (λ n. getD words (row-labels + n) 0) number ∙ sym (w .label-word) ∙ f .label-is ∙ ap (λ x. link x (f .t) (f .q)) same;
             name-low = omega (arith, f .name-low, same);
             value-label-low = f .label-low;
             bound-to =
-                subst (λ p. BindableAs nodes Rows (f .t) p b) (w .payload-word ∙ sym (ap (λ n. getD words (4096 + n) 0) number))
+                subst (λ p. BindableAs nodes Rows (f .t) p b) (w .payload-word ∙ sym (ap (λ n. getD words (row-payloads + n) 0) number))
                 (subst (BindableAs nodes Rows (f .t) (f .words-of .payload)) (Option·some-injective (f .first) b q) (f .bound-to));
           }
       by-name false u q = absurd (failed-test u (subst (λ y. T (eqb (f .x) y)) same (eqb-refl (f .x))))
@@ -122,15 +123,15 @@ module _ (nodes : List ℕ) (bindings : ℕ) (words : List ℕ) (at name : ℕ) 
     pub looked : lookup name outer ≡ some b
 
   -- Another name: the look-up goes on below, at a smaller pointer.
-  pub row-further : (f : FirstRow nodes Rows at name b) → (getD words (3583 + at) 0 % 64 ≡ name → ⊥) → Further (getD words (3583 + at) 0 / 128)
+  pub row-further : (f : FirstRow nodes Rows at name b) → (getD words (row-at-pointer + at) 0 % 64 ≡ name → ⊥) → Further (getD words (row-at-pointer + at) 0 / 128)
   row-further f d = by-name (eqb (f .x) name) refl (f .looked)
     where
-      next : getD words (3583 + at) 0 / 128 ≡ f .q
+      next : getD words (row-at-pointer + at) 0 / 128 ≡ f .q
       next = ap (λ w. w / 128) (row-word f) ∙ link-pointer (f .x) (f .t) (f .q) (f .name-low) (f .label-low)
 
-      by-name : (t : Bool) → eqb (f .x) name ≡ t → cond t (some (f .first)) (lookup name (f .rest)) ≡ some b → Further (getD words (3583 + at) 0 / 128)
+      by-name : (t : Bool) → eqb (f .x) name ≡ t → cond t (some (f .first)) (lookup name (f .rest)) ≡ some b → Further (getD words (row-at-pointer + at) 0 / 128)
       by-name true u q = absurd (d (ap (λ w. w % 64) (row-word f) ∙ link-name (f .x) (f .t) (f .q) (f .name-low) ∙ eqb→eq (f .x) name (passed-test u)))
       by-name false u q = record { outer = f .rest; segment = subst (λ p. SegmentAs nodes Rows p 0 (f .rest)) (sym next) (f .below); looked = q }
 
-  pub row-falls : (f : FirstRow nodes Rows at name b) → getD words (3583 + at) 0 / 128 < at
+  pub row-falls : (f : FirstRow nodes Rows at name b) → getD words (row-at-pointer + at) 0 / 128 < at
   row-falls f = omega (arith, ap (λ w. w / 128) (row-word f) ∙ link-pointer (f .x) (f .t) (f .q) (f .name-low) (f .label-low), f .below-low, f .at-is)

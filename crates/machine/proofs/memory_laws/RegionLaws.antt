@@ -9,6 +9,8 @@ use lib.Dec.{T, eqb, eqb→eq, eqb-refl}
 use lib.ListN.{length, getD, set, take, drop, length-set}
 use lib.Seq.{getD-set-same, getD-set-other, take-set-le, drop-set-lt}
 use Rattle.rules.specs.proofs.Basics.{true-test, false-test, passed-test, failed-test}
+use Rattle.rules.specs.paper.Limits.{most-nodes, most-cells, most-bindings, most-value-entries, most-control-entries, work-words}
+use Rattle.machine.specs.Layout.{control-from, value-payloads, value-labels, row-labels, row-payloads, cell-payloads, cell-labels}
 use Rattle.machine.specs.Regions.{stack, Slot, slot, slots, slot-at, set-slot, Regions, regions, Fits, with-control, with-values, with-row, with-cells, raised-control, raised-values, raised-rows, raised-cells}
 use Rattle.machine.specs.declared.Machine.{Machine}
 
@@ -114,104 +116,104 @@ slots-set l p (suc k) words i x y low a b apart aside =
 -- ---- One more entry.
 
 module _ (words : List ℕ) (m : Machine) (f : Fits words m) where
-  pub control-put : (w : ℕ) → m .control < 512 → regions (set words (2048 + m .control) w) (raised-control m) ≡ with-control w (regions words m)
+  pub control-put : (w : ℕ) → m .control < most-control-entries → regions (set words (control-from + m .control) w) (raised-control m) ≡ with-control w (regions words m)
   unfolding regions
   control-put w low =
-      let i : ℕ = 2048 + m .control in
+      let i : ℕ = control-from + m .control in
       rw (
-        take-set-le 2000 words i w (omega arith),
-        stack-put 2048 (m .control) words w (omega (arith, f .room, low)),
-        slots-other 3072 2560 (m .values) words i w (λ j h q. omega (arith, low, h, q)) (λ j h q. omega (arith, low, h, q)),
-        slots-other 3584 4096 (m .bindings) words i w (λ j h q. omega (arith, low, h, q)) (λ j h q. omega (arith, low, h, q)),
-        slots-other 4864 4608 (m .cells) words i w (λ j h q. omega (arith, low, h, q)) (λ j h q. omega (arith, low, h, q)),
-        drop-set-lt 8192 words i w (omega (arith, low)),
+        take-set-le most-nodes words i w (omega arith),
+        stack-put control-from (m .control) words w (omega (arith, f .room, low)),
+        slots-other value-labels value-payloads (m .values) words i w (λ j h q. omega (arith, low, h, q)) (λ j h q. omega (arith, low, h, q)),
+        slots-other row-labels row-payloads (m .bindings) words i w (λ j h q. omega (arith, low, h, q)) (λ j h q. omega (arith, low, h, q)),
+        slots-other cell-labels cell-payloads (m .cells) words i w (λ j h q. omega (arith, low, h, q)) (λ j h q. omega (arith, low, h, q)),
+        drop-set-lt work-words words i w (omega (arith, low)),
         length-set words i w,
       )
 
-  pub value-put : (t w : ℕ) → m .values < 512 →
-      regions (set (set words (2560 + m .values) w) (3072 + m .values) t) (raised-values m) ≡ with-values (slot t w ∷ regions words m .values) (regions words m)
+  pub value-put : (t w : ℕ) → m .values < most-value-entries →
+      regions (set (set words (value-payloads + m .values) w) (value-labels + m .values) t) (raised-values m) ≡ with-values (slot t w ∷ regions words m .values) (regions words m)
   unfolding regions
   value-put t w low =
-      let i : ℕ = 3072 + m .values in
-      let j : ℕ = 2560 + m .values in
+      let i : ℕ = value-labels + m .values in
+      let j : ℕ = value-payloads + m .values in
       let once : List ℕ = set words j w in
       rw (
-        take-set-le 2000 once i t (omega arith),
-        take-set-le 2000 words j w (omega arith),
-        stack-other 2048 (m .control) once i t (λ k h q. omega (arith, low, f .few-control, h, q)),
-        stack-other 2048 (m .control) words j w (λ k h q. omega (arith, low, f .few-control, h, q)),
-        slots-put 3072 2560 (m .values) words i t j w refl refl (omega (arith, f .room, low)) (omega (arith, f .room, low)) (λ q. omega (arith, q)) (λ k h q. omega (arith, low, h, q)) (λ k h q. omega (arith, low, h, q)),
-        slots-other 3584 4096 (m .bindings) once i t (λ k h q. omega (arith, low, h, q)) (λ k h q. omega (arith, low, h, q)),
-        slots-other 3584 4096 (m .bindings) words j w (λ k h q. omega (arith, low, h, q)) (λ k h q. omega (arith, low, h, q)),
-        slots-other 4864 4608 (m .cells) once i t (λ k h q. omega (arith, low, h, q)) (λ k h q. omega (arith, low, h, q)),
-        slots-other 4864 4608 (m .cells) words j w (λ k h q. omega (arith, low, h, q)) (λ k h q. omega (arith, low, h, q)),
-        drop-set-lt 8192 once i t (omega (arith, low)),
-        drop-set-lt 8192 words j w (omega (arith, low)),
+        take-set-le most-nodes once i t (omega arith),
+        take-set-le most-nodes words j w (omega arith),
+        stack-other control-from (m .control) once i t (λ k h q. omega (arith, low, f .few-control, h, q)),
+        stack-other control-from (m .control) words j w (λ k h q. omega (arith, low, f .few-control, h, q)),
+        slots-put value-labels value-payloads (m .values) words i t j w refl refl (omega (arith, f .room, low)) (omega (arith, f .room, low)) (λ q. omega (arith, q)) (λ k h q. omega (arith, low, h, q)) (λ k h q. omega (arith, low, h, q)),
+        slots-other row-labels row-payloads (m .bindings) once i t (λ k h q. omega (arith, low, h, q)) (λ k h q. omega (arith, low, h, q)),
+        slots-other row-labels row-payloads (m .bindings) words j w (λ k h q. omega (arith, low, h, q)) (λ k h q. omega (arith, low, h, q)),
+        slots-other cell-labels cell-payloads (m .cells) once i t (λ k h q. omega (arith, low, h, q)) (λ k h q. omega (arith, low, h, q)),
+        slots-other cell-labels cell-payloads (m .cells) words j w (λ k h q. omega (arith, low, h, q)) (λ k h q. omega (arith, low, h, q)),
+        drop-set-lt work-words once i t (omega (arith, low)),
+        drop-set-lt work-words words j w (omega (arith, low)),
         length-set once i t,
         length-set words j w,
       )
 
-  pub row-put : (t w : ℕ) → m .bindings < 512 →
-      regions (set (set words (4096 + m .bindings) w) (3584 + m .bindings) t) (raised-rows m) ≡ with-row (slot t w) (regions words m)
+  pub row-put : (t w : ℕ) → m .bindings < most-bindings →
+      regions (set (set words (row-payloads + m .bindings) w) (row-labels + m .bindings) t) (raised-rows m) ≡ with-row (slot t w) (regions words m)
   unfolding regions
   row-put t w low =
-      let i : ℕ = 3584 + m .bindings in
-      let j : ℕ = 4096 + m .bindings in
+      let i : ℕ = row-labels + m .bindings in
+      let j : ℕ = row-payloads + m .bindings in
       let once : List ℕ = set words j w in
       rw (
-        take-set-le 2000 once i t (omega arith),
-        take-set-le 2000 words j w (omega arith),
-        stack-other 2048 (m .control) once i t (λ k h q. omega (arith, low, f .few-control, h, q)),
-        stack-other 2048 (m .control) words j w (λ k h q. omega (arith, low, f .few-control, h, q)),
-        slots-other 3072 2560 (m .values) once i t (λ k h q. omega (arith, low, f .few-values, h, q)) (λ k h q. omega (arith, low, f .few-values, h, q)),
-        slots-other 3072 2560 (m .values) words j w (λ k h q. omega (arith, low, f .few-values, h, q)) (λ k h q. omega (arith, low, f .few-values, h, q)),
-        slots-put 3584 4096 (m .bindings) words i t j w refl refl (omega (arith, f .room, low)) (omega (arith, f .room, low)) (λ q. omega (arith, q)) (λ k h q. omega (arith, low, h, q)) (λ k h q. omega (arith, low, h, q)),
-        slots-other 4864 4608 (m .cells) once i t (λ k h q. omega (arith, low, h, q)) (λ k h q. omega (arith, low, h, q)),
-        slots-other 4864 4608 (m .cells) words j w (λ k h q. omega (arith, low, h, q)) (λ k h q. omega (arith, low, h, q)),
-        drop-set-lt 8192 once i t (omega (arith, low)),
-        drop-set-lt 8192 words j w (omega (arith, low)),
+        take-set-le most-nodes once i t (omega arith),
+        take-set-le most-nodes words j w (omega arith),
+        stack-other control-from (m .control) once i t (λ k h q. omega (arith, low, f .few-control, h, q)),
+        stack-other control-from (m .control) words j w (λ k h q. omega (arith, low, f .few-control, h, q)),
+        slots-other value-labels value-payloads (m .values) once i t (λ k h q. omega (arith, low, f .few-values, h, q)) (λ k h q. omega (arith, low, f .few-values, h, q)),
+        slots-other value-labels value-payloads (m .values) words j w (λ k h q. omega (arith, low, f .few-values, h, q)) (λ k h q. omega (arith, low, f .few-values, h, q)),
+        slots-put row-labels row-payloads (m .bindings) words i t j w refl refl (omega (arith, f .room, low)) (omega (arith, f .room, low)) (λ q. omega (arith, q)) (λ k h q. omega (arith, low, h, q)) (λ k h q. omega (arith, low, h, q)),
+        slots-other cell-labels cell-payloads (m .cells) once i t (λ k h q. omega (arith, low, h, q)) (λ k h q. omega (arith, low, h, q)),
+        slots-other cell-labels cell-payloads (m .cells) words j w (λ k h q. omega (arith, low, h, q)) (λ k h q. omega (arith, low, h, q)),
+        drop-set-lt work-words once i t (omega (arith, low)),
+        drop-set-lt work-words words j w (omega (arith, low)),
         length-set once i t,
         length-set words j w,
       )
 
   -- Writing among the cells.
-  module _ (cell t w : ℕ) (low : cell < 256) where
+  module _ (cell t w : ℕ) (low : cell < most-cells) where
     abbrev written : List ℕ
-    written = set (set words (4608 + cell) w) (4864 + cell) t
+    written = set (set words (cell-payloads + cell) w) (cell-labels + cell) t
 
-    pub cell-write : (k : ℕ) (S : List Slot) → slots 4864 4608 k written ≡ S →
+    pub cell-write : (k : ℕ) (S : List Slot) → slots cell-labels cell-payloads k written ≡ S →
         regions written (record { control = m .control; values = m .values; environment = m .environment; declared = m .declared; cells = k; base = m .base; bindings = m .bindings }) ≡ with-cells S (regions words m)
     unfolding regions
     cell-write k S e =
-        let i : ℕ = 4864 + cell in
-        let j : ℕ = 4608 + cell in
+        let i : ℕ = cell-labels + cell in
+        let j : ℕ = cell-payloads + cell in
         let once : List ℕ = set words j w in
         rw (
-          take-set-le 2000 once i t (omega arith),
-          take-set-le 2000 words j w (omega arith),
-          stack-other 2048 (m .control) once i t (λ k h q. omega (arith, low, f .few-control, h, q)),
-          stack-other 2048 (m .control) words j w (λ k h q. omega (arith, low, f .few-control, h, q)),
-          slots-other 3072 2560 (m .values) once i t (λ k h q. omega (arith, low, f .few-values, h, q)) (λ k h q. omega (arith, low, f .few-values, h, q)),
-          slots-other 3072 2560 (m .values) words j w (λ k h q. omega (arith, low, f .few-values, h, q)) (λ k h q. omega (arith, low, f .few-values, h, q)),
-          slots-other 3584 4096 (m .bindings) once i t (λ k h q. omega (arith, low, f .few-bindings, h, q)) (λ k h q. omega (arith, low, f .few-bindings, h, q)),
-          slots-other 3584 4096 (m .bindings) words j w (λ k h q. omega (arith, low, f .few-bindings, h, q)) (λ k h q. omega (arith, low, f .few-bindings, h, q)),
+          take-set-le most-nodes once i t (omega arith),
+          take-set-le most-nodes words j w (omega arith),
+          stack-other control-from (m .control) once i t (λ k h q. omega (arith, low, f .few-control, h, q)),
+          stack-other control-from (m .control) words j w (λ k h q. omega (arith, low, f .few-control, h, q)),
+          slots-other value-labels value-payloads (m .values) once i t (λ k h q. omega (arith, low, f .few-values, h, q)) (λ k h q. omega (arith, low, f .few-values, h, q)),
+          slots-other value-labels value-payloads (m .values) words j w (λ k h q. omega (arith, low, f .few-values, h, q)) (λ k h q. omega (arith, low, f .few-values, h, q)),
+          slots-other row-labels row-payloads (m .bindings) once i t (λ k h q. omega (arith, low, f .few-bindings, h, q)) (λ k h q. omega (arith, low, f .few-bindings, h, q)),
+          slots-other row-labels row-payloads (m .bindings) words j w (λ k h q. omega (arith, low, f .few-bindings, h, q)) (λ k h q. omega (arith, low, f .few-bindings, h, q)),
           e,
-          drop-set-lt 8192 once i t (omega (arith, low)),
-          drop-set-lt 8192 words j w (omega (arith, low)),
+          drop-set-lt work-words once i t (omega (arith, low)),
+          drop-set-lt work-words words j w (omega (arith, low)),
           length-set once i t,
           length-set words j w,
         )
 
-  pub cell-put : (t w : ℕ) → m .cells < 256 →
-      regions (set (set words (4608 + m .cells) w) (4864 + m .cells) t) (raised-cells m) ≡ with-cells (slot t w ∷ regions words m .cells) (regions words m)
+  pub cell-put : (t w : ℕ) → m .cells < most-cells →
+      regions (set (set words (cell-payloads + m .cells) w) (cell-labels + m .cells) t) (raised-cells m) ≡ with-cells (slot t w ∷ regions words m .cells) (regions words m)
   unfolding regions
   cell-put t w low =
-      cell-write (m .cells) t w low (m .cells + 1) (slot t w ∷ slots 4864 4608 (m .cells) words)
-      (slots-put 4864 4608 (m .cells) words (4864 + m .cells) t (4608 + m .cells) w refl refl (omega (arith, f .room, low)) (omega (arith, f .room, low)) (λ q. omega (arith, q)) (λ k h q. omega (arith, low, h, q)) (λ k h q. omega (arith, low, h, q)))
+      cell-write (m .cells) t w low (m .cells + 1) (slot t w ∷ slots cell-labels cell-payloads (m .cells) words)
+      (slots-put cell-labels cell-payloads (m .cells) words (cell-labels + m .cells) t (cell-payloads + m .cells) w refl refl (omega (arith, f .room, low)) (omega (arith, f .room, low)) (λ q. omega (arith, q)) (λ k h q. omega (arith, low, h, q)) (λ k h q. omega (arith, low, h, q)))
 
   pub cell-set : (i t w : ℕ) → i < m .cells →
-      regions (set (set words (4608 + i) w) (4864 + i) t) m ≡ with-cells (set-slot i (slot t w) (regions words m .cells)) (regions words m)
+      regions (set (set words (cell-payloads + i) w) (cell-labels + i) t) m ≡ with-cells (set-slot i (slot t w) (regions words m .cells)) (regions words m)
   unfolding regions
   cell-set i t w low =
-      cell-write i t w (omega (arith, low, f .few-cells)) (m .cells) (set-slot i (slot t w) (slots 4864 4608 (m .cells) words))
-      (slots-set 4864 4608 (m .cells) words i t w low (omega (arith, low, f .few-cells, f .room)) (omega (arith, low, f .few-cells, f .room)) (λ h l q. omega (arith, l, q, low, f .few-cells)) (λ h l q. omega (arith, l, q, low, f .few-cells)))
+      cell-write i t w (omega (arith, low, f .few-cells)) (m .cells) (set-slot i (slot t w) (slots cell-labels cell-payloads (m .cells) words))
+      (slots-set cell-labels cell-payloads (m .cells) words i t w low (omega (arith, low, f .few-cells, f .room)) (omega (arith, low, f .few-cells, f .room)) (λ h l q. omega (arith, l, q, low, f .few-cells)) (λ h l q. omega (arith, l, q, low, f .few-cells)))

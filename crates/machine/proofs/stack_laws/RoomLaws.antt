@@ -6,13 +6,14 @@ use native.Mathlib.Omega.{arith}
 use Rattle.machine.specs.Regions.{regions, Fits, with-control, raised-control}
 use Rattle.machine.specs.declared.Machine.{Machine}
 use Rattle.machine.proofs.stack_laws.SharedLaws.{Put, put-fits}
+use Rattle.rules.specs.paper.Limits.{most-control-entries}
 
 pub record Room (k : ℕ) (words : List ℕ) (m : Machine) : Type 0 where
   pub fits : Fits words m
-  pub left : m .control + k ≤ 512
+  pub left : m .control + k ≤ most-control-entries
 
 -- What `put_control` asks for.
-pub room-for : (k : ℕ) {words : List ℕ} {m : Machine} → Room (suc k) words m → Fits words m × (m .control < 512)
+pub room-for : (k : ℕ) {words : List ℕ} {m : Machine} → Room (suc k) words m → Fits words m × (m .control < most-control-entries)
 room-for k room = (room .fits, omega (arith, room .left))
 
 pub room-after : (k : ℕ) {before after : List ℕ} {m r : Machine} {w : ℕ} → Room (suc k) before m → Put before m w after r → Room k after r

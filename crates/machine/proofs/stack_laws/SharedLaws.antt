@@ -9,6 +9,7 @@ use Rattle.rules.specs.paper.Refusals.{Reason, ValueEntries, ControlEntries, re
 use Rattle.rules.specs.paper.States.{Bindable, Environment, Store, Entry, bindable, Item, State, state}
 use Rattle.rules.specs.paper.Rules.{goes}
 use Rattle.rules.specs.paper.Run.{withheld, judge}
+use Rattle.rules.specs.paper.Limits.{most-value-entries, most-control-entries}
 use Rattle.machine.specs.Regions.{Slot, slot, slots, Regions, regions, Fits, with-control, with-values, raised-control, raised-values}
 use Rattle.machine.specs.Represents.{BindableAs, ControlAs, ValuesAs, bindable-on, Models}
 use Rattle.machine.specs.Steps.{StepAnswer, Pushes, PutsTwo, PutsThree, Enters}
@@ -26,17 +27,17 @@ pub record Put (before : List ℕ) (m : Machine) (w : ℕ) (after : List ℕ) (r
 pub put-regions : {before after : List ℕ} {m r : Machine} {w : ℕ} → Put before m w after r → regions after r ≡ with-control w (regions before m)
 put-regions {after = after} p = ap (regions after) (p .machine-is) ∙ p .regions-are
 
-pub put-fits : (before : List ℕ) (m : Machine) (after : List ℕ) (r : Machine) (w : ℕ) → Fits before m → Put before m w after r → m .control < 512 → Fits after r
+pub put-fits : (before : List ℕ) (m : Machine) (after : List ℕ) (r : Machine) (w : ℕ) → Fits before m → Put before m w after r → m .control < most-control-entries → Fits after r
 put-fits before m after r w f p low =
     subst (Fits after) (sym (p .machine-is))
     (fits-still before after m (raised-control m) f (ap (λ κ. κ .size) (p .regions-are)) (omega (arith, low)) (f .few-values) (f .few-bindings) (f .few-cells))
 
-pub put-after : (before : List ℕ) (m : Machine) → Fits before m → (after : List ℕ) (r : Machine) (w : ℕ) → Put before m w after r → m .control < 511 → Fits after r × (r .control < 512)
+pub put-after : (before : List ℕ) (m : Machine) → Fits before m → (after : List ℕ) (r : Machine) (w : ℕ) → Put before m w after r → m .control < 511 → Fits after r × (r .control < most-control-entries)
 put-after before m f after r w p low = (put-fits before m after r w f p (omega (arith, low)), omega (arith, ap (λ k. k .control) (p .machine-is), low))
 
 module _ (words : List ℕ) (m : Machine) (f : Fits words m) where
   -- A 513th value entry.
-  pub push-withheld : (label payload : ℕ) → m .values ≡ 512 → Pushes words m label payload (Withheld 35) words
+  pub push-withheld : (label payload : ℕ) → m .values ≡ most-value-entries → Pushes words m label payload (Withheld 35) words
   unfolding reason-number
   push-withheld label payload q C X E S L n b μ h =
       let z = sizes words m μ in
@@ -44,7 +45,7 @@ module _ (words : List ℕ) (m : Machine) (f : Fits words m) where
       (judged-values C (bindable b ∷ X) E S L n (omega (arith, z .cells-height, f .few-cells)) (omega (arith, z .bindings-height, f .few-bindings)) (omega (arith, z .values-height, q)))
       refl
 
-  pub push-made : (label payload : ℕ) (after : List ℕ) (r : Machine) → m .values < 512 → r ≡ raised-values m →
+  pub push-made : (label payload : ℕ) (after : List ℕ) (r : Machine) → m .values < most-value-entries → r ≡ raised-values m →
       regions after (raised-values m) ≡ with-values (slot label payload ∷ regions words m .values) (regions words m) → Pushes words m label payload (Made r) after
   push-made label payload after r low q e C X E S L n b μ h =
       step-made words after m (raised-values m) (Made r) C (bindable b ∷ X) E S L n (ap Made q)
@@ -53,7 +54,7 @@ module _ (words : List ℕ) (m : Machine) (f : Fits words m) where
       (record { mode = μ .mode; control-as = μ .control-as; values-as = bindable-on h (μ .values-as); environment-as = μ .environment-as; store-as = μ .store-as; locations-as = μ .locations-as; bindings-as = μ .bindings-as }))
       (ap (λ κ. κ .nodes) e) (ap (λ κ. κ .beyond) e) (ap (λ κ. κ .size) e)
 
-  pub value-fits : {slots-new : List Slot} (after : List ℕ) (r : Machine) → (m .values ≡ 512 → ⊥) → r ≡ raised-values m → regions after (raised-values m) ≡ with-values slots-new (regions words m) → Fits after r
+  pub value-fits : {slots-new : List Slot} (after : List ℕ) (r : Machine) → (m .values ≡ most-value-entries → ⊥) → r ≡ raised-values m → regions after (raised-values m) ≡ with-values slots-new (regions words m) → Fits after r
   value-fits after r d q e =
       subst (Fits after) (sym q)
       (fits-still words after m (raised-values m) f (ap (λ κ. κ .size) e) (f .few-control) (omega (arith, f .few-values, d)) (f .few-bindings) (f .few-cells))
@@ -75,7 +76,7 @@ module _ (words : List ℕ) (m : Machine) (f : Fits words m) where
       (judged-control (i ∷ j ∷ k ∷ C) X E S L n (omega (arith, z .cells-height, f .few-cells)) (omega (arith, z .bindings-height, f .few-bindings)) (omega (arith, z .values-height, f .few-values)) (omega (arith, z .control-height, q)))
       refl
 
-  pub enter-values-withheld : (payload below top : ℕ) → m .values ≡ 512 → Enters words m payload below top (Withheld 35) words
+  pub enter-values-withheld : (payload below top : ℕ) → m .values ≡ most-value-entries → Enters words m payload below top (Withheld 35) words
   unfolding reason-number
   enter-values-withheld payload below top q C X E S L n i j x μ h g =
       let z = sizes words m μ in
@@ -83,7 +84,7 @@ module _ (words : List ℕ) (m : Machine) (f : Fits words m) where
       (judged-values (i ∷ j ∷ C) (x ∷ X) E S L n (omega (arith, z .cells-height, f .few-cells)) (omega (arith, z .bindings-height, f .few-bindings)) (omega (arith, z .values-height, q)))
       refl
 
-  pub enter-control-withheld : (payload below top : ℕ) → (m .values ≡ 512 → ⊥) → 510 < m .control → Enters words m payload below top (Withheld 36) words
+  pub enter-control-withheld : (payload below top : ℕ) → (m .values ≡ most-value-entries → ⊥) → 510 < m .control → Enters words m payload below top (Withheld 36) words
   unfolding reason-number
   enter-control-withheld payload below top d q C X E S L n i j x μ h g =
       let z = sizes words m μ in
@@ -117,7 +118,7 @@ module _ (words : List ℕ) (m : Machine) (f : Fits words m) where
       grown-control after t (top ∷ middle ∷ below ∷ regions words m .control) C (i ∷ j ∷ o ∷ C) X E S L n μ h
       (put-fits second s after t top two k (omega (arith, low, ap (λ k. k .control) (e .machine-is), ap (λ k. k .control) (g .machine-is)))) all
 
-  pub enter-made : (payload below top : ℕ) (under first after : List ℕ) (u r s : Machine) → (m .values ≡ 512 → ⊥) → m .control ≤ 510 →
+  pub enter-made : (payload below top : ℕ) (under first after : List ℕ) (u r s : Machine) → (m .values ≡ most-value-entries → ⊥) → m .control ≤ 510 →
       u ≡ raised-values m → regions under (raised-values m) ≡ with-values (slot 0 payload ∷ regions words m .values) (regions words m) →
       Put under u below first r → Put first r top after s → Enters words m payload below top (Made s) after
   enter-made payload below top under first after u r s d low q e g k C X E S L n i j x μ h v =

@@ -9,6 +9,7 @@ use lib.ListN.{getD}
 use Rattle.rules.specs.paper.Tree.{Operator}
 use Rattle.rules.specs.claims.Listing.{truth-word}
 use Rattle.rules.specs.paper.States.{Value, integer, truth, location, value, Environment, Store, Entry, val, Item, mark, operator-mark, not-mark, assign-mark, loop-mark, ref-mark}
+use Rattle.machine.specs.Layout.{top-payload, second-payload, top-label, second-label}
 use Rattle.integers.specs.Words.{integer-of}
 use Rattle.machine.specs.Regions.{Slot, Regions, regions, Fits, with-control, with-values}
 use Rattle.machine.specs.Represents.{ValueAs, integer-as, truth-as, location-as, BindableAs, value-as, Mode, ControlAs, operator-on, not-on, assign-on, loop-on, ref-on, ValuesAs, Models}
@@ -77,7 +78,7 @@ value-of (value-as h) = h
 pub record OneValue (words : List ℕ) (m : Machine) {C : List Item} {X : List Entry} {E : Environment} {S : Store} {L : List ℕ} {n : ℕ} {v : Value} (μ : Models (regions words m) C (val v ∷ X) E S L n) : Type 0 where
   pub under : List Slot
   pub some-values : 1 ≤ m .values
-  pub value-words : ValueAs (getD words (3071 + m .values) 0) (getD words (2559 + m .values) 0) v
+  pub value-words : ValueAs (getD words (top-label + m .values) 0) (getD words (top-payload + m .values) 0) v
   pub popped : regions words (at-height (m .values - 1) m) ≡ with-values under (regions words m)
   pub below : ValuesAs (regions words m .nodes) (regions words m .rows) (regions words m .base) (regions words m .declared) (regions words m .environment) E (μ .mode) under X
 
@@ -88,7 +89,7 @@ one-value words m {v = v} μ =
     record {
       under = top .rest;
       some-values = one .some-values;
-      value-words = subst (λ t. ValueAs t (getD words (2559 + m .values) 0) v) (sym (one .label-word)) (subst (λ w. ValueAs (top .top .label) w v) (sym (one .payload-word)) (value-of (top .as-bindable)));
+      value-words = subst (λ t. ValueAs t (getD words (top-payload + m .values) 0) v) (sym (one .label-word)) (subst (λ w. ValueAs (top .top .label) w v) (sym (one .payload-word)) (value-of (top .as-bindable)));
       popped = one .popped;
       below = top .below;
     }
@@ -97,8 +98,8 @@ one-value words m {v = v} μ =
 pub record TwoValues (words : List ℕ) (m : Machine) {C : List Item} {X : List Entry} {E : Environment} {S : Store} {L : List ℕ} {n : ℕ} {a b : Value} (μ : Models (regions words m) C (val b ∷ val a ∷ X) E S L n) : Type 0 where
   pub under : List Slot
   pub some-values : 2 ≤ m .values
-  pub first-words : ValueAs (getD words (3070 + m .values) 0) (getD words (2558 + m .values) 0) a
-  pub second-words : ValueAs (getD words (3071 + m .values) 0) (getD words (2559 + m .values) 0) b
+  pub first-words : ValueAs (getD words (second-label + m .values) 0) (getD words (second-payload + m .values) 0) a
+  pub second-words : ValueAs (getD words (top-label + m .values) 0) (getD words (top-payload + m .values) 0) b
   pub popped : regions words (at-height (m .values - 2) m) ≡ with-values under (regions words m)
   pub below : ValuesAs (regions words m .nodes) (regions words m .rows) (regions words m .base) (regions words m .declared) (regions words m .environment) E (μ .mode) under X
 
@@ -110,8 +111,8 @@ two-values words m {a = a} {b = b} μ =
     record {
       under = next .rest;
       some-values = two .some-values;
-      first-words = subst (λ t. ValueAs t (getD words (2558 + m .values) 0) a) (sym (two .second-label-word)) (subst (λ w. ValueAs (next .top .label) w a) (sym (two .second-payload-word)) (value-of (next .as-bindable)));
-      second-words = subst (λ t. ValueAs t (getD words (2559 + m .values) 0) b) (sym (two .label-word)) (subst (λ w. ValueAs (top .top .label) w b) (sym (two .payload-word)) (value-of (top .as-bindable)));
+      first-words = subst (λ t. ValueAs t (getD words (second-payload + m .values) 0) a) (sym (two .second-label-word)) (subst (λ w. ValueAs (next .top .label) w a) (sym (two .second-payload-word)) (value-of (next .as-bindable)));
+      second-words = subst (λ t. ValueAs t (getD words (top-payload + m .values) 0) b) (sym (two .label-word)) (subst (λ w. ValueAs (top .top .label) w b) (sym (two .payload-word)) (value-of (top .as-bindable)));
       popped = two .popped;
       below = next .below;
     }

@@ -9,6 +9,8 @@ use Rattle.rules.specs.paper.Refusals.{Reason, reason-number}
 use Rattle.rules.specs.paper.States.{Environment, Store, Entry, Item, State, state}
 use Rattle.rules.specs.paper.Rules.{goes}
 use Rattle.rules.specs.paper.Run.{Verdict, made, withheld, judge}
+use Rattle.rules.specs.paper.Limits.{most-cells, most-bindings, most-value-entries, most-control-entries}
+use Rattle.machine.specs.Layout.{control-from, value-payloads, value-labels, row-labels, row-payloads, cell-payloads, cell-labels}
 use Rattle.machine.specs.Regions.{stack, Slot, slots, Regions, regions, Fits}
 use Rattle.machine.specs.Represents.{StoreAs, no-cell, one-cell, Mode, ControlAs, nothing-left, expression-on, command-on, declaration-on, reference-on, abstraction-on, operator-on, not-on, assign-on, loop-on, ref-on, bind-on, dseq-on, extend-on, leave-on, call-on, ValuesAs, nothing-on, bindable-on, name-on, node-on, declared-on, opened-on, frame-on, Models}
 use Rattle.machine.specs.Steps.{Stands, Untouched, IsMade, IsWithheld, StepAnswer}
@@ -62,10 +64,10 @@ pub sizes : (words : List ℕ) (m : Machine) {C : List Item} {X : List Entry} {E
 unfolding regions
 sizes words m μ =
     record {
-      control-height = control-size (μ .control-as) ∙ stack-length 2048 (m .control) words;
-      values-height = values-size (μ .values-as) ∙ slots-length 3072 2560 (m .values) words;
-      cells-height = store-size (μ .store-as) ∙ slots-length 4864 4608 (m .cells) words;
-      bindings-height = μ .bindings-as ∙ slots-length 3584 4096 (m .bindings) words;
+      control-height = control-size (μ .control-as) ∙ stack-length control-from (m .control) words;
+      values-height = values-size (μ .values-as) ∙ slots-length value-labels value-payloads (m .values) words;
+      cells-height = store-size (μ .store-as) ∙ slots-length cell-labels cell-payloads (m .cells) words;
+      bindings-height = μ .bindings-as ∙ slots-length row-labels row-payloads (m .bindings) words;
     }
 
 -- ---- A step's answer.
@@ -94,6 +96,6 @@ step-withheld words x v r q a = subst (λ w. StepAnswer w r words words) (sym q)
 
 -- The words have room as long as none is added or lost.
 pub fits-still : (before after : List ℕ) (m m′ : Machine) → Fits before m → regions after m′ .size ≡ regions before m .size →
-    m′ .control ≤ 512 → m′ .values ≤ 512 → m′ .bindings ≤ 512 → m′ .cells ≤ 256 → Fits after m′
+    m′ .control ≤ most-control-entries → m′ .values ≤ most-value-entries → m′ .bindings ≤ most-bindings → m′ .cells ≤ most-cells → Fits after m′
 unfolding regions
 fits-still before after m m′ f q a b c d = record { room = omega (arith, f .room, q); few-control = a; few-values = b; few-bindings = c; few-cells = d }

@@ -6,6 +6,7 @@ use lib.ListN.{getD, take}
 use lib.Seq.{getD-take}
 use Rattle.rules.specs.paper.Tree.{Expression, Command, Declaration}
 use Rattle.rules.specs.paper.States.{Environment, Store, Entry, Item, expression, command, declaration}
+use Rattle.rules.specs.paper.Limits.{most-nodes}
 use Rattle.reader.specs.Stored.{HasWord, StoredExpression, StoredCommand, StoredDeclaration}
 use Rattle.machine.specs.Regions.{Regions, regions, with-control}
 use Rattle.machine.specs.Represents.{Mode, ControlAs, expression-on, command-on, declaration-on, Models}
@@ -14,7 +15,7 @@ use Rattle.machine.specs.declared.Machine.{Machine}
 pub node-word : (words : List ℕ) (m : Machine) {i k w e : ℕ} → HasWord (regions words m .nodes) i k w e → HasWord words i k w e
 unfolding regions
 node-word words m {i} h =
-    record { word = sym (getD-take 2000 words i 0 (h .place-low)) ∙ h .word; place-low = h .place-low; operand-low = h .operand-low; end-low = h .end-low }
+    record { word = sym (getD-take most-nodes words i 0 (h .place-low)) ∙ h .word; place-low = h .place-low; operand-low = h .operand-low; end-low = h .end-low }
 
 -- An expression on top of control: its tree stands at its word's place, and the rest of control is as it was.
 pub record ExpressionTop (κ : Regions) (w : ℕ) (e : Expression) (C : List Item) (X : List Entry) (E : Environment) (S : Store) (L : List ℕ) (n : ℕ) : Type 0 where

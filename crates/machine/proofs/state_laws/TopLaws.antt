@@ -7,6 +7,7 @@ use lib.ListN.{length, getD}
 use Rattle.rules.specs.paper.Tree.{Expression, Command, Loop}
 use Rattle.rules.specs.paper.Limits.{names}
 use Rattle.rules.specs.paper.States.{Bindable, Environment, Entry, bindable, name, node, environment, locations}
+use Rattle.machine.specs.Layout.{value-payloads, value-labels, top-payload, second-payload, top-label, second-label}
 use Rattle.reader.specs.Stored.{StoredCommand}
 use Rattle.machine.specs.Regions.{Slot, slot, slots, Regions, regions, with-values}
 use Rattle.machine.specs.Represents.{BindableAs, SegmentAs, Since, Extends, Mode, running, declaring, ValuesAs, nothing-on, bindable-on, name-on, node-on, declared-on, opened-on, frame-on}
@@ -29,11 +30,11 @@ at-height k m =
 
 pub record OneOnTop (words : List ℕ) (m : Machine) (s : Slot) (ws : List Slot) : Type 0 where
   pub some-values : 1 ≤ m .values
-  pub label-word : getD words (3071 + m .values) 0 ≡ s .label
-  pub payload-word : getD words (2559 + m .values) 0 ≡ s .payload
+  pub label-word : getD words (top-label + m .values) 0 ≡ s .label
+  pub payload-word : getD words (top-payload + m .values) 0 ≡ s .payload
   pub popped : regions words (at-height (m .values - 1) m) ≡ with-values ws (regions words m)
 
-one-of : (words : List ℕ) (m : Machine) (k : ℕ) (s : Slot) (ws : List Slot) → m .values ≡ k → slots 3072 2560 k words ≡ s ∷ ws → OneOnTop words m s ws
+one-of : (words : List ℕ) (m : Machine) (k : ℕ) (s : Slot) (ws : List Slot) → m .values ≡ k → slots value-labels value-payloads k words ≡ s ∷ ws → OneOnTop words m s ws
 unfolding slots regions
 one-of words m zero s ws h q = absurd (subst IsEmpty q tt)
   where
@@ -63,13 +64,13 @@ one-of words m (suc k) s ws h q =
     less : (k : ℕ) → m .values ≡ suc k → m .values - 1 ≡ k
     less k e = omega arith
 
-    place-label : (k : ℕ) → m .values ≡ suc k → 3071 + m .values ≡ 3072 + k
+    place-label : (k : ℕ) → m .values ≡ suc k → top-label + m .values ≡ value-labels + k
     place-label k e = omega arith
 
-    place-payload : (k : ℕ) → m .values ≡ suc k → 2559 + m .values ≡ 2560 + k
+    place-payload : (k : ℕ) → m .values ≡ suc k → top-payload + m .values ≡ value-payloads + k
     place-payload k e = omega arith
 
-    below : slots 3072 2560 k words ≡ ws → regions words (at-height k m) ≡ with-values ws (regions words m)
+    below : slots value-labels value-payloads k words ≡ ws → regions words (at-height k m) ≡ with-values ws (regions words m)
     below e = rw e
 
 pub one-on-top : (words : List ℕ) (m : Machine) (s : Slot) (ws : List Slot) → regions words m .values ≡ s ∷ ws → OneOnTop words m s ws
@@ -78,10 +79,10 @@ one-on-top words m s ws q = one-of words m (m .values) s ws refl q
 
 pub record TwoOnTop (words : List ℕ) (m : Machine) (s u : Slot) (ws : List Slot) : Type 0 where
   pub some-values : 2 ≤ m .values
-  pub label-word : getD words (3071 + m .values) 0 ≡ s .label
-  pub payload-word : getD words (2559 + m .values) 0 ≡ s .payload
-  pub second-label-word : getD words (3070 + m .values) 0 ≡ u .label
-  pub second-payload-word : getD words (2558 + m .values) 0 ≡ u .payload
+  pub label-word : getD words (top-label + m .values) 0 ≡ s .label
+  pub payload-word : getD words (top-payload + m .values) 0 ≡ s .payload
+  pub second-label-word : getD words (second-label + m .values) 0 ≡ u .label
+  pub second-payload-word : getD words (second-payload + m .values) 0 ≡ u .payload
   pub popped : regions words (at-height (m .values - 2) m) ≡ with-values ws (regions words m)
   pub popped-one : regions words (at-height (m .values - 1) m) ≡ with-values (u ∷ ws) (regions words m)
 
@@ -102,10 +103,10 @@ two-on-top words m s u ws q =
     twice : (k : ℕ) → k - 2 ≡ k - 1 - 1
     twice k = omega arith
 
-    place-label : 1 ≤ m .values → 3070 + m .values ≡ 3071 + (m .values - 1)
+    place-label : 1 ≤ m .values → second-label + m .values ≡ top-label + (m .values - 1)
     place-label h = omega arith
 
-    place-payload : 1 ≤ m .values → 2558 + m .values ≡ 2559 + (m .values - 1)
+    place-payload : 1 ≤ m .values → second-payload + m .values ≡ top-payload + (m .values - 1)
     place-payload h = omega arith
 
 -- ---- By entries.

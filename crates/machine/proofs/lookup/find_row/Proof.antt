@@ -7,6 +7,7 @@ use native.Mathlib.Omega.{arith}
 use denote.Ref.{now}
 use lib.ListN.{length, getD}
 use Rattle.rules.specs.paper.States.{Bindable, Environment, lookup}
+use Rattle.machine.specs.Layout.{row-labels, row-payloads, row-at-pointer}
 use Rattle.machine.specs.Regions.{slots}
 use Rattle.machine.specs.Represents.{SegmentAs}
 use Rattle.machine.specs.Lookup.{RowOf}
@@ -19,17 +20,17 @@ use Rattle.machine.proofs.lookup.find_row.Lts as lts
 -- Wherever the name is found in the whole environment it is found in what is left of it.
 abbrev Left : List ℕ → (bindings pointer name at : ℕ) → Type 0
 Left work bindings pointer name at =
-    (nodes : List ℕ) (E : Environment) (b : Bindable) → SegmentAs nodes (slots 3584 4096 bindings work) pointer 0 E → lookup name E ≡ some b → FirstRow nodes (slots 3584 4096 bindings work) at name b
+    (nodes : List ℕ) (E : Environment) (b : Bindable) → SegmentAs nodes (slots row-labels row-payloads bindings work) pointer 0 E → lookup name E ≡ some b → FirstRow nodes (slots row-labels row-payloads bindings work) at name b
 
 abbrev Inv-loop : tie.InvT-loop
-Inv-loop work bindings pointer name at₀ row₀ at row = (row ≡ getD work (3583 + at) 0) × Left work bindings pointer name at
+Inv-loop work bindings pointer name at₀ row₀ at row = (row ≡ getD work (row-at-pointer + at) 0) × Left work bindings pointer name at
 
 abbrev μ-loop : tie.MeasureT-loop
 μ-loop work bindings pointer name at₀ row₀ at row = at
 
 -- The environment that the contract asks for.
 given : (c : lts.Start reads.Pre reads.Post Inv-loop μ-loop) (at : ℕ) → Left (now (c .args .work)) (c .args .bindings) (c .args .pointer) (c .args .name) at →
-    FirstRow (c .pre .1 .1 .0) (slots 3584 4096 (c .args .bindings) (now (c .args .work))) at (c .args .name) (c .pre .1 .1 .2)
+    FirstRow (c .pre .1 .1 .0) (slots row-labels row-payloads (c .args .bindings) (now (c .args .work))) at (c .args .name) (c .pre .1 .1 .2)
 given c at left = let g = c .pre .1 .1 in left (g .0) (g .1) (g .2) (g .3) (g .4)
 
 low : (c : lts.Start reads.Pre reads.Post Inv-loop μ-loop) (at : ℕ) → Left (now (c .args .work)) (c .args .bindings) (c .args .pointer) (c .args .name) at →
@@ -47,7 +48,7 @@ further c nodes E b s q =
     let d = c .loop-test .taken in
     let f = inv .1 nodes E b s q in
     let more = row-further nodes _ _ (c .before .loop .at) _ b f (λ e. d (ap (λ w. w % 64) (inv .0) ∙ e)) in
-    subst (λ p. FirstRow nodes (slots 3584 4096 (c .before .before .before .args .bindings) (now (c .before .before .before .args .work))) p (c .before .before .before .args .name) b)
+    subst (λ p. FirstRow nodes (slots row-labels row-payloads (c .before .before .before .args .bindings) (now (c .before .before .before .args .work))) p (c .before .before .before .args .name) b)
     (sym (ap (λ w. w / 128) (inv .0))) (first-row _ b (more .segment) (more .looked))
 
 add-row : tie.Need-add-row Inv-loop μ-loop

@@ -10,6 +10,7 @@ use Rattle.machine.proofs.memory.put_row.Statement.{statement}
 use Rattle.machine.proofs.memory.put_row.Tie as tie
 use Rattle.machine.proofs.memory.put_row.Reads as reads
 use Rattle.machine.proofs.memory.put_row.Lts as lts
+use Rattle.machine.specs.Layout.{row-payloads}
 
 add-work : tie.Need-add-work
 add-work c = search needs
@@ -27,7 +28,7 @@ mul-work-2 : tie.Need-mul-work-2
 mul-work-2 c = search needs
 
 slice-write-work-2 : tie.Need-slice-write-work-2
-slice-write-work-2 c = omega (arith, length-set (now (c .args .work)) (4096 + c .args .m .bindings) (c .args .payload), c .pre .0 .room, c .pre .0 .few-cells, c .pre .1)
+slice-write-work-2 c = omega (arith, length-set (now (c .args .work)) (row-payloads + c .args .m .bindings) (c .args .payload), c .pre .0 .room, c .pre .0 .few-cells, c .pre .1)
 
 add-m : tie.Need-add-m
 add-m c = search needs

@@ -10,6 +10,7 @@ use Rattle.machine.proofs.memory.set_cell.Statement.{statement}
 use Rattle.machine.proofs.memory.set_cell.Tie as tie
 use Rattle.machine.proofs.memory.set_cell.Reads as reads
 use Rattle.machine.proofs.memory.set_cell.Lts as lts
+use Rattle.machine.specs.Layout.{cell-payloads}
 
 add-work : tie.Need-add-work
 add-work c = search needs
@@ -27,7 +28,7 @@ mul-work-2 : tie.Need-mul-work-2
 mul-work-2 c = search needs
 
 slice-write-work-2 : tie.Need-slice-write-work-2
-slice-write-work-2 c = omega (arith, length-set (now (c .args .work)) (4608 + c .args .at .0) (c .args .payload), c .pre .0 .room, c .pre .0 .few-cells, c .pre .1)
+slice-write-work-2 c = omega (arith, length-set (now (c .args .work)) (cell-payloads + c .args .at .0) (c .args .payload), c .pre .0 .room, c .pre .0 .few-cells, c .pre .1)
 
 same-length : tie.Need-same-length
 same-length c = search needs
