@@ -1,15 +1,10 @@
 // Names are found along the chain of rows.
-ghost use mathlib.Core.Path.{_≡_};
-ghost use mathlib.Core.Option.{some};
-ghost use mathlib.Core.List.{List, _∷_};
-ghost use Prim.Native.Nat.{ℕ, _+_, _<_, _≤_};
-ghost use lib.ListN.{length, getD};
-ghost use Rattle.rules.specs.paper.States.{Bindable, Environment, lookup};
+ghost use Prim.Native.Nat.{_≤_};
+ghost use lib.ListN.{length};
 ghost use Rattle.rules.specs.paper.Limits.{most-bindings, work-words};
 ghost use Rattle.machine.specs.Layout.{row-labels, row-payloads};
-ghost use Rattle.machine.specs.Regions.{slot, slots, regions, Fits, with-control, with-values, with-row, with-cells, raised-control, raised-values, raised-rows, raised-cells, set-slot};
-ghost use Rattle.machine.specs.Represents.{SegmentAs};
-ghost use Rattle.machine.specs.Lookup.{RowOf};
+ghost use Rattle.machine.specs.Regions.{slots, regions, Fits};
+ghost use Rattle.machine.specs.Lookup.{BindsName, FindsRow};
 use crate::Machine;
 use crate::layout::NAMES;
 use crate::layout::POINTER_UNIT;
@@ -19,8 +14,8 @@ use crate::layout::ROW_AT_POINTER;
 fn find_row(work: &[u64], bindings: usize, pointer: usize, name: u64) -> usize
     requires { ⌜ work-words ≤ length (now work) ⌝ }
     requires { ⌜ bindings ≤ most-bindings ⌝ }
-    requires { ⌜ ((nodes : List ℕ) × (E : Environment) × (b : Bindable) × SegmentAs nodes (slots row-labels row-payloads bindings (now work)) pointer 0 E × (lookup name E ≡ some b)) ⌝ }
-    ensures { λ r. ⌜ ((nodes : List ℕ) (E : Environment) (b : Bindable) → SegmentAs nodes (slots row-labels row-payloads bindings (now (work .entry))) pointer 0 E → lookup name E ≡ some b → RowOf nodes (slots row-labels row-payloads bindings (now (work .entry))) name b r (getD (now (work .entry)) (row-labels + r) 0) (getD (now (work .entry)) (row-payloads + r) 0)) ⌝ }
+    requires { ⌜ BindsName (slots row-labels row-payloads bindings (now work)) pointer name ⌝ }
+    ensures { λ r. ⌜ FindsRow (now (work .entry)) (slots row-labels row-payloads bindings (now (work .entry))) pointer name r ⌝ }
 {
     let mut at = pointer;
     let mut row = work[ROW_AT_POINTER + at];
@@ -34,8 +29,8 @@ fn find_row(work: &[u64], bindings: usize, pointer: usize, name: u64) -> usize
 // The number of a name's row in the environment.
 pub fn row_of(work: &[u64], m: Machine, name: u64) -> usize
     requires { ⌜ Fits (now work) m ⌝ }
-    requires { ⌜ ((nodes : List ℕ) × (E : Environment) × (b : Bindable) × SegmentAs nodes (regions (now work) m .rows) (m .environment) 0 E × (lookup name E ≡ some b)) ⌝ }
-    ensures { λ r. ⌜ ((nodes : List ℕ) (E : Environment) (b : Bindable) → SegmentAs nodes (regions (now (work .entry)) m .rows) (m .environment) 0 E → lookup name E ≡ some b → RowOf nodes (regions (now (work .entry)) m .rows) name b r (getD (now (work .entry)) (row-labels + r) 0) (getD (now (work .entry)) (row-payloads + r) 0)) ⌝ }
+    requires { ⌜ BindsName (regions (now work) m .rows) (m .environment) name ⌝ }
+    ensures { λ r. ⌜ FindsRow (now (work .entry)) (regions (now (work .entry)) m .rows) (m .environment) name r ⌝ }
 {
     find_row(work, m.bindings, m.environment, name)
 }

@@ -1,15 +1,11 @@
 // Entries, rows and cells, put into the work words and taken from them.
 ghost use mathlib.Core.Path.{_≡_};
-ghost use mathlib.Core.Option.{some};
-ghost use mathlib.Core.List.{List, _∷_};
-ghost use Prim.Native.Nat.{ℕ, _+_, _<_, _≤_};
+ghost use mathlib.Core.List.{_∷_};
+ghost use Prim.Native.Nat.{_+_, _<_, _≤_};
 ghost use lib.ListN.{length, getD};
-ghost use Rattle.rules.specs.paper.States.{Bindable, Environment, lookup};
 ghost use Rattle.rules.specs.paper.Limits.{most-cells, most-bindings, most-value-entries, most-control-entries, work-words};
 ghost use Rattle.machine.specs.Layout.{cell-payloads, cell-labels};
-ghost use Rattle.machine.specs.Regions.{slot, slots, regions, Fits, with-control, with-values, with-row, with-cells, raised-control, raised-values, raised-rows, raised-cells, set-slot};
-ghost use Rattle.machine.specs.Represents.{SegmentAs};
-ghost use Rattle.machine.specs.Lookup.{RowOf};
+ghost use Rattle.machine.specs.Regions.{slot, regions, Fits, with-control, with-values, with-row, with-cells, raised-control, raised-values, raised-rows, raised-cells, set-slot};
 use crate::Location;
 use crate::Machine;
 use crate::layout::CELL_LABELS;

@@ -1,12 +1,29 @@
 // What several rules do alike: a value more, or two or three entries more on control, each with the limits that it can reach.
+ghost use mathlib.Core.Path.{_≡_};
+ghost use Rattle.machine.specs.Room.{full-stack};
 ghost use Rattle.machine.specs.Regions.{Fits};
 ghost use Rattle.machine.specs.Steps.{PutsTwo, PutsThree, Pushes, Enters};
 use crate::Machine;
 use crate::Stepped;
+use crate::layout::MOST_CONTROL_ENTRIES;
 use crate::layout::MOST_VALUE_ENTRIES;
 use crate::memory::put_control;
 use crate::memory::put_value;
 use crate::reasons;
+
+// The number of the reason for which a step that leaves so many entries on the stacks is withheld; 0 where there is room for them. Which of
+// two full stacks is named stands here alone.
+pub fn full_stack(values: usize, control: usize) -> u64
+    ensures { λ r. ⌜ r ≡ full-stack values control ⌝ }
+{
+    if MOST_VALUE_ENTRIES < values {
+        return reasons::VALUE_ENTRIES;
+    }
+    if MOST_CONTROL_ENTRIES < control {
+        return reasons::CONTROL_ENTRIES;
+    }
+    0
+}
 
 // A value or a closure goes on the value stack.
 pub fn push(work: &mut [u64], m: Machine, label: u64, payload: u64) -> Stepped
@@ -24,7 +41,7 @@ pub fn put_two(work: &mut [u64], m: Machine, below: u64, top: u64) -> Stepped
     requires { ⌜ Fits (now work) m ⌝ }
     ensures { λ r. ⌜ PutsTwo (now (work .entry)) m below top r (now (work .exit)) ⌝ }
 {
-    if 510 < m.control {
+    if MOST_CONTROL_ENTRIES < m.control + 2 {
         return Stepped::Withheld(reasons::CONTROL_ENTRIES);
     }
     let first = put_control(work, m, below);
@@ -36,7 +53,7 @@ pub fn put_three(work: &mut [u64], m: Machine, below: u64, middle: u64, top: u64
     requires { ⌜ Fits (now work) m ⌝ }
     ensures { λ r. ⌜ PutsThree (now (work .entry)) m below middle top r (now (work .exit)) ⌝ }
 {
-    if 509 < m.control {
+    if MOST_CONTROL_ENTRIES < m.control + 3 {
         return Stepped::Withheld(reasons::CONTROL_ENTRIES);
     }
     let first = put_control(work, m, below);
@@ -49,11 +66,9 @@ pub fn enter(work: &mut [u64], m: Machine, payload: u64, below: u64, top: u64) -
     requires { ⌜ Fits (now work) m ⌝ }
     ensures { λ r. ⌜ Enters (now (work .entry)) m payload below top r (now (work .exit)) ⌝ }
 {
-    if m.values == MOST_VALUE_ENTRIES {
-        return Stepped::Withheld(reasons::VALUE_ENTRIES);
-    }
-    if 510 < m.control {
-        return Stepped::Withheld(reasons::CONTROL_ENTRIES);
+    let full = full_stack(m.values + 1, m.control + 2);
+    if full != 0 {
+        return Stepped::Withheld(full);
     }
     let under = put_value(work, m, 0, payload);
     let first = put_control(work, under, below);

@@ -11,6 +11,7 @@ use Rattle.rules.specs.paper.Rules.{goes}
 use Rattle.rules.specs.paper.Run.{Verdict, made, withheld, judge}
 use Rattle.rules.specs.paper.Limits.{most-cells, most-bindings, most-value-entries, most-control-entries}
 use Rattle.machine.specs.Layout.{control-from, value-payloads, value-labels, row-labels, row-payloads, cell-payloads, cell-labels}
+use Rattle.machine.specs.Room.{full-stack}
 use Rattle.machine.specs.Regions.{stack, Slot, slots, Regions, regions, Fits}
 use Rattle.machine.specs.Represents.{StoreAs, no-cell, one-cell, Mode, ControlAs, nothing-left, expression-on, command-on, declaration-on, reference-on, abstraction-on, operator-on, not-on, assign-on, loop-on, ref-on, bind-on, dseq-on, extend-on, leave-on, call-on, ValuesAs, nothing-on, bindable-on, name-on, node-on, declared-on, opened-on, frame-on, Models}
 use Rattle.machine.specs.Steps.{Stands, Untouched, IsMade, IsWithheld, StepAnswer}
@@ -18,7 +19,7 @@ use Rattle.machine.specs.declared.Machine.{Machine}
 use Rattle.machine.specs.declared.Stepped.{Stepped}
 use Rattle.machine.specs.declared.Stepped.the-variants.{Made, Withheld}
 use Rattle.machine.proofs.memory_laws.RegionLaws.{stack-length, slots-length}
-use Rattle.machine.proofs.state_laws.JudgeLaws.{judged-made}
+use Rattle.machine.proofs.state_laws.JudgeLaws.{judged-made, judged-full}
 
 -- ---- Sizes.
 
@@ -93,6 +94,14 @@ step-made before after m m′ r C X E S L n q f μ a b c =
 -- The step is withheld for this reason, and nothing is written.
 pub step-withheld : (words : List ℕ) (x : Reason) (v : Verdict) (r : Stepped) → v ≡ withheld x → r ≡ Withheld (reason-number x) → StepAnswer v r words words
 step-withheld words x v r q a = subst (λ w. StepAnswer w r words words) (sym q) (record { answer = a; unchanged = refl })
+
+-- The step leaves no room on a stack: it is withheld for the number that the code has for it.
+pub step-withheld-for-room : (words : List ℕ) (C : List Item) (X : List Entry) (E : Environment) (S : Store) (L : List ℕ) (n values control full : ℕ) →
+    values ≡ length X → control ≡ length C → length S ≤ most-cells → n ≤ most-bindings → full ≡ full-stack values control → (full ≡ 0 → ⊥) →
+    StepAnswer (judge false (goes (state C X E S L n))) (Withheld full) words words
+step-withheld-for-room words C X E S L n values control full p q cells bindings is full-there =
+    let j = judged-full C X E S L n values control p q cells bindings (λ z. full-there (is ∙ z)) in
+    step-withheld words (j .0) _ _ (j .1) (ap Withheld (is ∙ j .2))
 
 -- The words have room as long as none is added or lost.
 pub fits-still : (before after : List ℕ) (m m′ : Machine) → Fits before m → regions after m′ .size ≡ regions before m .size →

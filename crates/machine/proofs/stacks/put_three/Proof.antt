@@ -11,6 +11,9 @@ use Rattle.machine.proofs.stacks.put_three.Reads as reads
 use Rattle.machine.proofs.stacks.put_three.Lts as lts
 use Rattle.machine.proofs.memory.put_control.Reads as put-control-reads
 
+add-if1 : tie.Need-add-if1
+add-if1 c = search needs
+
 returns : tie.Need-returns
 returns c = let start = c .before .before .before in put-three-withheld _ _ (start .pre) _ _ _ (c .if1 .taken)
 
@@ -47,6 +50,7 @@ pub put-three-spec : {M : Type 1} → statement M
 put-three-spec =
     tie.close
     (tie.spec
+    add-if1
     returns
     put-control-requires
     put-control-requires-2

@@ -11,6 +11,9 @@ use Rattle.machine.proofs.stacks.put_two.Reads as reads
 use Rattle.machine.proofs.stacks.put_two.Lts as lts
 use Rattle.machine.proofs.memory.put_control.Reads as put-control-reads
 
+add-if1 : tie.Need-add-if1
+add-if1 c = search needs
+
 returns : tie.Need-returns
 returns c = let start = c .before .before .before in put-two-withheld _ _ (start .pre) _ _ (c .if1 .taken)
 
@@ -35,4 +38,4 @@ returns-2 c =
 
 pub put-two-spec : {M : Type 1} → statement M
 put-two-spec =
-    tie.close (tie.spec returns put-control-requires put-control-requires-2 same-length returns-2)
+    tie.close (tie.spec add-if1 returns put-control-requires put-control-requires-2 same-length returns-2)
