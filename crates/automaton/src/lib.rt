@@ -17,7 +17,7 @@ ghost use Rattle.automaton.specs.Runs.{Enabled, StepsFrom, RunAnswer};
 use crate::marks::mark_rule;
 use commands::declarations::close;
 use commands::declarations::declaration_rule;
-use commands::declarations::make_cell;
+use commands::declarations::reference;
 use commands::nodes::command_rule;
 use expressions::nodes::expression_rule;
 use machine::Machine;
@@ -25,6 +25,14 @@ use machine::Stepped;
 use machine::layout::MARK;
 use machine::layout::TOP_CONTROL;
 use reader::kind;
+use reader::kinds;
+
+// The reason 30: the budget is used up.
+const STEPS: u64 = 30;
+
+// The kinds below these are expressions, and commands.
+const COMMANDS: usize = kinds::ASSIGN;
+const DECLARATIONS: usize = kinds::BIND;
 
 // How a run ends, with the steps made and the machine in its last state: control is empty, or a step is withheld, with the number of the
 // reason.
@@ -46,17 +54,17 @@ fn step(work: &mut [u64], mut m: Machine) -> Stepped
     }
     let node = word as usize;
     let which = kind(work, node);
-    if which < 20 {
+    if which < COMMANDS {
         return expression_rule(work, m, node, which);
     }
-    if which < 30 {
+    if which < DECLARATIONS {
         return command_rule(work, m, node, which);
     }
-    if which < 40 {
+    if which < kinds::REF {
         return declaration_rule(work, m, node, which);
     }
-    if which == 40 {
-        return make_cell(work, m, node);
+    if which == kinds::REF {
+        return reference(work, m, node);
     }
     close(work, m, node)
 }
@@ -73,7 +81,7 @@ pub fn run(work: &mut [u64], first: Machine, budget: u64) -> Ending
             break Ending::Ended(budget - left, m);
         }
         if left == 0 {
-            break Ending::Stopped(30, budget - left, m);
+            break Ending::Stopped(STEPS, budget - left, m);
         }
         match step(work, m) {
             Stepped::Made(next) => {

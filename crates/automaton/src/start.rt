@@ -2,18 +2,23 @@
 ghost use Prim.Native.Nat.{_≤_};
 ghost use lib.ListN.{length};
 ghost use Rattle.rules.specs.paper.Tree.{Root};
-ghost use Rattle.rules.specs.paper.Limits.{work-words};
+ghost use Rattle.rules.specs.paper.Limits.{most-registers, work-words};
 ghost use Rattle.reader.specs.Stored.{RootAt};
 ghost use Rattle.automaton.specs.Starts.{StartsAt};
 use machine::Machine;
+use machine::layout::LABEL_UNIT;
+use machine::layout::POINTER_UNIT;
 use machine::memory::put_cell;
 use machine::memory::put_control;
 use machine::memory::put_row;
 
+// A register's number is its name, and the pointer of the row below it.
+const REGISTER_UNIT: u64 = POINTER_UNIT + 1;
+
 // The root on control, and a cell and a name for each register.
 pub fn start(work: &mut [u64], registers: &[u64]) -> Machine
     requires { ⌜ work-words ≤ length (now work) ⌝ }
-    requires { ⌜ length (now registers) ≤ 16 ⌝ }
+    requires { ⌜ length (now registers) ≤ most-registers ⌝ }
     ensures { λ r. ⌜ ((t : Root) → RootAt (now (work .entry)) t → StartsAt t (now (registers .entry)) r (now (work .entry)) (now (work .exit))) ⌝ }
 {
     let mut m = Machine {
@@ -27,7 +32,7 @@ pub fn start(work: &mut [u64], registers: &[u64]) -> Machine
     };
     let mut i = 0;
     while i < registers.len() {
-        let named = put_row(work, m, 64 + 129 * i as u64, i as u64);
+        let named = put_row(work, m, LABEL_UNIT + REGISTER_UNIT * i as u64, i as u64);
         m = put_cell(work, named, 0, registers[i]);
         i = i + 1;
     }

@@ -29,8 +29,8 @@ with-bound rows values environment κ =
     }
 
 -- The machine with so many rows more, the values of which were taken off the value stack, and this environment.
-abbrev pub with-formals : (count environment : ℕ) → Machine → Machine
-with-formals count environment m =
+abbrev pub machine-with-formals : (count environment : ℕ) → Machine → Machine
+machine-with-formals count environment m =
     record {
       control = m .control;
       values = m .values - count;

@@ -18,6 +18,7 @@ use machine::stacks::push;
 use machine::stacks::put_three;
 use machine::stacks::put_two;
 use reader::end;
+use reader::kinds;
 use reader::operand;
 
 // Bind: its name, the value, the mark.
@@ -30,7 +31,7 @@ fn bind(work: &mut [u64], m: Machine, node: usize) -> Stepped
 }
 
 // DSeq: both declarations, the mark.
-fn join(work: &mut [u64], m: Machine, node: usize) -> Stepped
+fn declaration_sequence(work: &mut [u64], m: Machine, node: usize) -> Stepped
     requires { ⌜ ((d₁ d₂ : Declaration) × Applicable (now work) m node (declaration (DSeq node d₁ d₂))) ⌝ }
     ensures { λ r. ⌜ ((d₁ d₂ : Declaration) → Steps (now (work .entry)) m node (declaration (DSeq node d₁ d₂)) r (now (work .exit))) ⌝ }
 {
@@ -39,7 +40,7 @@ fn join(work: &mut [u64], m: Machine, node: usize) -> Stepped
 }
 
 // Ref: the value, the mark.
-pub fn make_cell(work: &mut [u64], m: Machine, node: usize) -> Stepped
+pub fn reference(work: &mut [u64], m: Machine, node: usize) -> Stepped
     requires { ⌜ ((p : ℕ) × (e : Expression) × Applicable (now work) m node (reference p e)) ⌝ }
     ensures { λ r. ⌜ ((p : ℕ) (e : Expression) → Steps (now (work .entry)) m node (reference p e) r (now (work .exit))) ⌝ }
 {
@@ -65,8 +66,8 @@ pub fn declaration_rule(work: &mut [u64], m: Machine, node: usize, which: usize)
     requires { ⌜ ((d : Declaration) × Applicable (now work) m node (declaration d)) ⌝ }
     ensures { λ r. ⌜ ((d : Declaration) → Steps (now (work .entry)) m node (declaration d) r (now (work .exit))) ⌝ }
 {
-    if which == 30 {
+    if which == kinds::BIND {
         return bind(work, m, node);
     }
-    join(work, m, node)
+    declaration_sequence(work, m, node)
 }

@@ -2,10 +2,10 @@
 ghost use mathlib.Core.Path.{_≡_};
 ghost use Prim.Native.Nat.{ℕ, _+_, _-_, _≤_};
 ghost use Rattle.rules.specs.paper.States.{bind-mark, dseq-mark, extend-mark, leave-mark, call-mark, mark};
-ghost use Rattle.rules.specs.paper.Limits.{most-bindings, names};
+ghost use Rattle.rules.specs.paper.Limits.{most-bindings, names, most-value-entries, most-control-entries};
 ghost use Rattle.machine.specs.Regions.{regions, Fits};
 ghost use Rattle.machine.specs.Steps.{Applicable, Steps};
-ghost use Rattle.commands.specs.Formals.{with-formals, CanBind, Binds, framed, with-frame};
+ghost use Rattle.commands.specs.Formals.{machine-with-formals, CanBind, Binds, framed, with-frame};
 use machine::Machine;
 use machine::Stepped;
 use machine::layout::CARRIED_UNIT;
@@ -15,12 +15,14 @@ use machine::layout::LABEL_UNIT;
 use machine::layout::LEAVE_MARK;
 use machine::layout::MOST_BINDINGS;
 use machine::layout::NAMES;
+use machine::layout::NAME_UNIT;
 use machine::layout::POINTER_UNIT;
 use machine::layout::ROW_PAYLOADS;
 use machine::layout::SECOND_PAYLOAD;
 use machine::layout::TOP_LABEL;
 use machine::layout::TOP_PAYLOAD;
 use machine::lookup::row_of;
+use machine::stacks::full_stack;
 use machine::memory::put_control;
 use machine::memory::put_row;
 use machine::memory::put_value;
@@ -89,7 +91,7 @@ fn bind_formals(work: &mut [u64], mut m: Machine, first: usize, block: usize) ->
     requires { ⌜ Fits (now work) m ⌝ }
     requires { ⌜ m .bindings + (block - first) ≤ most-bindings ⌝ }
     requires { ⌜ CanBind (now work) m first block ⌝ }
-    ensures { λ r. ⌜ r ≡ with-formals (block - first) (r .environment) m ⌝ }
+    ensures { λ r. ⌜ r ≡ machine-with-formals (block - first) (r .environment) m ⌝ }
     ensures { λ r. ⌜ Binds (now (work .entry)) m first block r (now (work .exit)) ⌝ }
 {
     let mut formal = first;
@@ -97,7 +99,7 @@ fn bind_formals(work: &mut [u64], mut m: Machine, first: usize, block: usize) ->
         let height = m.values;
         let label = work[TOP_LABEL + height];
         let payload = work[TOP_PAYLOAD + height];
-        let name = operand(work, formal) % 64;
+        let name = operand(work, formal) % NAMES;
         m = put_row(
             work,
             m,
@@ -121,8 +123,8 @@ fn put_frame(
     top: u64,
 ) -> Machine
     requires { ⌜ Fits (now work) m ⌝ }
-    requires { ⌜ m .values ≤ 510 ⌝ }
-    requires { ⌜ m .control ≤ 510 ⌝ }
+    requires { ⌜ m .values + 2 ≤ most-value-entries ⌝ }
+    requires { ⌜ m .control + 2 ≤ most-control-entries ⌝ }
     ensures { λ r. ⌜ r ≡ framed m ⌝ }
     ensures { λ r. ⌜ regions (now (work .exit)) (framed m) ≡ with-frame base environment below top (regions (now (work .entry)) m) ⌝ }
 {
@@ -141,13 +143,11 @@ pub fn call_mark(work: &mut [u64], mut m: Machine, word: u64) -> Stepped
     if MOST_BINDINGS < m.bindings + count {
         return Stepped::Withheld(reasons::BINDINGS);
     }
-    if 510 + count < m.values {
-        return Stepped::Withheld(reasons::VALUE_ENTRIES);
+    let full = full_stack(m.values - count + 2, m.control + 2);
+    if full != 0 {
+        return Stepped::Withheld(full);
     }
-    if 510 < m.control {
-        return Stepped::Withheld(reasons::CONTROL_ENTRIES);
-    }
-    let row = row_of(work, m, word / CARRIED_UNIT % NAMES);
+    let row = row_of(work, m, word / CARRIED_UNIT % NAME_UNIT);
     let closure = work[ROW_PAYLOADS + row];
     let first = (closure % CLOSURE_UNIT) as usize + 1;
     let block = first + count;

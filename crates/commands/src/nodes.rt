@@ -15,13 +15,16 @@ use machine::layout::CARRIED_UNIT;
 use machine::layout::EXTEND_MARK;
 use machine::layout::LEAVE_MARK;
 use machine::layout::LOOP_MARK;
-use machine::layout::MOST_VALUE_ENTRIES;
+use machine::layout::MOST_CONTROL_ENTRIES;
+use machine::layout::NAMES;
 use machine::memory::put_control;
 use machine::memory::put_value;
 use machine::reasons;
 use machine::stacks::enter;
+use machine::stacks::full_stack;
 use machine::stacks::put_two;
 use reader::end;
+use reader::kinds;
 use reader::operand;
 
 // Assign: its name, the value, the mark.
@@ -55,11 +58,9 @@ fn enter_block(work: &mut [u64], m: Machine, node: usize) -> Stepped
     requires { ⌜ ((d : Declaration) × (c : Command) × Applicable (now work) m node (command (block (Blk node d c)))) ⌝ }
     ensures { λ r. ⌜ ((d : Declaration) (c : Command) → Steps (now (work .entry)) m node (command (block (Blk node d c))) r (now (work .exit))) ⌝ }
 {
-    if m.values == MOST_VALUE_ENTRIES {
-        return Stepped::Withheld(reasons::VALUE_ENTRIES);
-    }
-    if 508 < m.control {
-        return Stepped::Withheld(reasons::CONTROL_ENTRIES);
+    let full = full_stack(m.values + 1, m.control + 4);
+    if full != 0 {
+        return Stepped::Withheld(full);
     }
     let body = end(work, node + 1);
     let saved = put_value(work, m, 0, m.base as u64);
@@ -88,8 +89,8 @@ fn call(work: &mut [u64], m: Machine, node: usize) -> Stepped
     ensures { λ r. ⌜ ((x : ℕ) (es : List Expression) → Steps (now (work .entry)) m node (command (Call node x es)) r (now (work .exit))) ⌝ }
 {
     let word = operand(work, node);
-    let count = word / 64;
-    if 511 < m.control + count {
+    let count = word / NAMES;
+    if MOST_CONTROL_ENTRIES < m.control + count + 1 {
         return Stepped::Withheld(reasons::CONTROL_ENTRIES);
     }
     let mut machine = put_control(work, m, CALL_MARK + CARRIED_UNIT * word as u64);
@@ -110,10 +111,10 @@ pub fn command_rule(work: &mut [u64], m: Machine, node: usize, which: usize) -> 
     ensures { λ r. ⌜ ((c : Command) → Steps (now (work .entry)) m node (command c) r (now (work .exit))) ⌝ }
 {
     match which {
-        20 => assign(work, m, node),
-        21 => repeat(work, m, node),
-        22 => sequence(work, m, node),
-        23 => enter_block(work, m, node),
+        kinds::ASSIGN => assign(work, m, node),
+        kinds::LOOP => repeat(work, m, node),
+        kinds::CSEQ => sequence(work, m, node),
+        kinds::BLK => enter_block(work, m, node),
         _ => call(work, m, node),
     }
 }

@@ -23,6 +23,7 @@ use machine::stacks::push;
 use machine::stacks::put_three;
 use machine::stacks::put_two;
 use reader::end;
+use reader::kinds;
 use reader::operand;
 
 // Num.
@@ -108,12 +109,12 @@ pub fn expression_rule(work: &mut [u64], m: Machine, node: usize, which: usize) 
     ensures { λ r. ⌜ ((e : Expression) → Steps (now (work .entry)) m node (expression e) r (now (work .exit))) ⌝ }
 {
     match which {
-        1 => number(work, m, node),
-        2 => truth(work, m, node),
-        3 => id(work, m, node),
-        15 => negation(work, m, node),
-        16 => deref(work, m, node),
-        17 => valref(work, m, node),
+        kinds::NUM => number(work, m, node),
+        kinds::BOO => truth(work, m, node),
+        kinds::ID => id(work, m, node),
+        kinds::NOT => negation(work, m, node),
+        kinds::DEREF => deref(work, m, node),
+        kinds::VALREF => valref(work, m, node),
         _ => binary(work, m, node, which),
     }
 }

@@ -37,6 +37,10 @@ pub const TOP_LABEL: usize = VALUE_LABELS - 1;
 // A pointer is one more than the number of its row.
 pub const ROW_AT_POINTER: usize = ROW_LABELS - 1;
 
+// A name is the low part of an operand and of a row's label.
+pub const NAMES: usize = 64;
+pub const NAME_UNIT: u64 = NAMES as u64;
+
 // A row's label: its name, the label of what it binds, and the pointer of the row below it.
 pub const LABEL_UNIT: u64 = 64;
 
@@ -53,9 +57,7 @@ pub const MARK_NUMBERS: u64 = 64;
 
 pub const CARRIED_UNIT: u64 = 4096;
 
-pub const NAMES: u64 = 64;
-
-pub const COUNT_UNIT: u64 = CARRIED_UNIT * NAMES;
+pub const COUNT_UNIT: u64 = CARRIED_UNIT * NAME_UNIT;
 
 // The marks, each with the number of the kind that it belongs to; a block's second has that of CSeq, which has no mark of its own.
 pub const SUM_MARK: u64 = MARK + kinds::SUM as u64;

@@ -6,7 +6,7 @@ ghost use Rattle.machine.specs.Layout.{row-labels, row-payloads};
 ghost use Rattle.machine.specs.Regions.{slots, regions, Fits};
 ghost use Rattle.machine.specs.Lookup.{BindsName, FindsRow};
 use crate::Machine;
-use crate::layout::NAMES;
+use crate::layout::NAME_UNIT;
 use crate::layout::POINTER_UNIT;
 use crate::layout::ROW_AT_POINTER;
 
@@ -19,7 +19,7 @@ fn find_row(work: &[u64], bindings: usize, pointer: usize, name: u64) -> usize
 {
     let mut at = pointer;
     let mut row = work[ROW_AT_POINTER + at];
-    while row % NAMES != name {
+    while row % NAME_UNIT != name {
         at = (row / POINTER_UNIT) as usize;
         row = work[ROW_AT_POINTER + at];
     }

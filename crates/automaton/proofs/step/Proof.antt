@@ -20,7 +20,7 @@ use Rattle.commands.proofs.declarations.close.Reads as close-reads
 use Rattle.commands.proofs.nodes.command_rule.Reads as command-rule-reads
 use Rattle.commands.proofs.declarations.declaration_rule.Reads as declaration-rule-reads
 use Rattle.expressions.proofs.nodes.expression_rule.Reads as expression-rule-reads
-use Rattle.commands.proofs.declarations.make_cell.Reads as make-cell-reads
+use Rattle.commands.proofs.declarations.reference.Reads as reference-reads
 use Rattle.automaton.proofs.marks.mark_rule.Reads as mark-rule-reads
 use Rattle.reader.proofs.kind.Reads as kind-reads
 
@@ -109,8 +109,8 @@ returns-4 c =
     answered (now (start .args .work)) (start .args .m) (getD (now (start .args .work)) (top-control + start .args .m .control) 0) refl (done .result) (done .last .0)
     (λ i s. select-declaration (now (start .args .work)) (getD (now (start .args .work)) (top-control + start .args .m .control) 0) (λ j. Steps (now (start .args .work)) (lowered (start .args .m)) (getD (now (start .args .work)) (top-control + start .args .m .control) 0) j (done .result) (done .last .0)) s (c .before .before .before .before .before .before .before .before .before .if1 .left) (omega (arith, kind-is, c .before .before .before .before .before .if3 .left)) (omega (arith, kind-is, c .before .before .before .before .if4 .taken)) (done .ensures))
 
-make-cell-requires : tie.Need-make-cell-requires
-make-cell-requires c κs =
+reference-requires : tie.Need-reference-requires
+reference-requires c κs =
     let start = c .before .before .before .before .before .before .before .before .before .before in
     let held = applicable (now (start .args .work)) (start .args .m) (getD (now (start .args .work)) (top-control + start .args .m .control) 0) refl (start .pre) in
     let kind-is = c .before .before .before .before .before .kind .ensures in
@@ -122,7 +122,7 @@ same-length-5 c = search needs
 returns-5 : tie.Need-returns-5
 returns-5 c =
     let start = c .before .before .before .before .before .before .before .before .before .before .before .before .before in
-    let done = c .before .before .make-cell in
+    let done = c .before .before .reference in
     let kind-is = c .before .before .before .before .before .before .before .before .kind .ensures in
     answered (now (start .args .work)) (start .args .m) (getD (now (start .args .work)) (top-control + start .args .m .control) 0) refl (done .result) (done .last .0)
     (λ i s. select-reference (now (start .args .work)) (getD (now (start .args .work)) (top-control + start .args .m .control) 0) (λ j. Steps (now (start .args .work)) (lowered (start .args .m)) (getD (now (start .args .work)) (top-control + start .args .m .control) 0) j (done .result) (done .last .0)) s (c .before .before .before .before .before .before .before .before .before .before .if1 .left) (sym kind-is ∙ c .before .before .before .before .if5 .taken) (done .ensures))
@@ -166,7 +166,7 @@ step-spec =
     declaration-rule-requires
     same-length-4
     returns-4
-    make-cell-requires
+    reference-requires
     same-length-5
     returns-5
     close-requires

@@ -10,13 +10,13 @@ use Rattle.rules.specs.paper.Tree.{Formal, block}
 use Rattle.rules.specs.paper.States.{Environment, Store, Entry, environment, locations, call-mark, leave-mark, Item, command, mark, State, state}
 use Rattle.rules.specs.paper.Rules.{Rule, Effect, Matched, match-formals}
 use Rattle.rules.specs.paper.Run.{judge}
-use Rattle.rules.specs.paper.Limits.{most-bindings, most-value-entries}
+use Rattle.rules.specs.paper.Limits.{most-bindings, most-value-entries, most-control-entries}
 use Rattle.machine.specs.Layout.{row-payloads, closure-unit, count-unit, leave-word}
 use Rattle.reader.specs.Stored.{StoredCommand, block-of}
 use Rattle.machine.specs.Regions.{Slot, slot, slots, Regions, regions, Fits, with-control, with-values, raised-control, raised-values}
 use Rattle.machine.specs.Represents.{SegmentAs, Since, none-since, Extends, Mode, running, ControlAs, command-on, leave-on, ValuesAs, frame-on, Models}
 use Rattle.machine.specs.Steps.{StepAnswer, Ready}
-use Rattle.commands.specs.Formals.{with-bound, with-formals, Binding, Binds, framed, with-frame}
+use Rattle.commands.specs.Formals.{with-bound, machine-with-formals, Binding, Binds, framed, with-frame}
 use Rattle.machine.specs.declared.Machine.{Machine}
 use Rattle.machine.specs.declared.Stepped.the-variants.{Made}
 use Rattle.machine.proofs.memory_laws.RegionLaws.{slots-length}
@@ -37,7 +37,7 @@ pub value-regions : {before after : List ℕ} {m r : Machine} {w : ℕ} → PutV
 value-regions {after = after} v = ap (regions after) (v .machine-is) ∙ v .regions-are
 
 pub put-value-fits : (before : List ℕ) (m : Machine) (after : List ℕ) (r : Machine) (w : ℕ) → Fits before m → PutValue before m w after r → m .values < most-value-entries → Fits after r
-put-value-fits before m after r w f v low = value-fits before m f after r (λ q. omega (arith, q, low)) (v .machine-is) (v .regions-are)
+put-value-fits before m after r w f v low = value-fits before m f after r (omega (arith, low)) (v .machine-is) (v .regions-are)
 
 module _ (words : List ℕ) (m : Machine) (base caller below top : ℕ) where
   pub frame-put : (one two three four : List ℕ) (r s t u : Machine) →
@@ -93,13 +93,13 @@ all-bound κ base d p E mode M now place σ =
 -- The machine after its Formals are bound has room for the frame.
 pub record Formed (after : List ℕ) (t : Machine) : Type 0 where
   pub fits : Fits after t
-  pub few-values : t .values ≤ 510
-  pub few-control : t .control ≤ 510
+  pub few-values : t .values + 2 ≤ most-value-entries
+  pub few-control : t .control + 2 ≤ most-control-entries
 
 module _ (words : List ℕ) (m : Machine) (w row : ℕ) (found : RowFound words m w row) (after : List ℕ) (t : Machine)
-    (machine-is : t ≡ with-formals (formal-first words m row + w / count-unit - formal-first words m row) (t .environment) (called words m row))
+    (machine-is : t ≡ machine-with-formals (formal-first words m row + w / count-unit - formal-first words m row) (t .environment) (called words m row))
     (binds : Binds words (called words m row) (formal-first words m row) (formal-first words m row + w / count-unit) t after)
-    (free : m .bindings + w / count-unit ≤ most-bindings) (low : m .values ≤ 510 + w / count-unit) (short : m .control ≤ 510) where
+    (free : m .bindings + w / count-unit ≤ most-bindings) (low : m .values - w / count-unit + 2 ≤ most-value-entries) (short : m .control + 2 ≤ most-control-entries) where
   abbrev κ : Regions
   κ = regions words m
 

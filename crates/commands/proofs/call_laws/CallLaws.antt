@@ -6,7 +6,7 @@ use mathlib.Core.List.{List, [], _∷_}
 use native.Mathlib.Omega.{arith}
 use lib.ListN.{length, getD}
 use Rattle.rules.specs.paper.Tree.{Expression, Call}
-use Rattle.rules.specs.paper.Limits.{names, most-parameters, most-nodes}
+use Rattle.rules.specs.paper.Limits.{names, most-parameters, most-nodes, most-control-entries}
 use Rattle.rules.specs.paper.Refusals.{ControlEntries, reason-number}
 use Rattle.rules.specs.paper.States.{Environment, Store, Entry, Item, expression, command, mark, call-mark, state}
 use Rattle.rules.specs.paper.Rules.{Rule, Effect, goes, put-actuals, Table}
@@ -58,14 +58,14 @@ module _ (words : List ℕ) (m : Machine) (i word : ℕ) (known : word ≡ packe
   operand-of : {x : ℕ} {es : List Expression} → CallAt (regions words m .nodes) i x es → word ≡ x + names * length es
   operand-of a = known ∙ operand-is (node-word words m (a .word)) (omega arith)
 
-  counted : {x : ℕ} {es : List Expression} → CallAt (regions words m .nodes) i x es → word / 64 ≡ length es
+  counted : {x : ℕ} {es : List Expression} → CallAt (regions words m .nodes) i x es → word / names ≡ length es
   counted {x} {es} a = ap (λ w. w / 64) (operand-of a) ∙ number-part x (length es) (a .name-low)
 
   pub operand-low : (x : ℕ) (es : List Expression) → Applicable words m i (command (Call i x es)) → word < 1024
   operand-low x es given = let a = call-at (command-top (regions words m) i (Call i x es) (given .ready .models) .stored) in omega (arith, operand-of a, a .name-low, a .few)
 
   -- A 513th control entry.
-  pub call-withheld : 511 < m .control + word / 64 → (x : ℕ) (es : List Expression) → Steps words m i (command (Call i x es)) (Withheld 36) words
+  pub call-withheld : most-control-entries < m .control + word / names + 1 → (x : ℕ) (es : List Expression) → Steps words m i (command (Call i x es)) (Withheld 36) words
   unfolding reason-number
   call-withheld q x es C X E S L n rule f ready =
       let t = command-top (regions words m) i (Call i x es) (ready .models) in
@@ -189,10 +189,10 @@ module _ (words : List ℕ) (m : Machine) (i word : ℕ) (known : word ≡ packe
     abbrev all-items : List Item
     all-items = put-actuals es (mark (call-mark i x (length es)) ∷ C)
 
-    pub begun : Putting (regions first a .nodes) (running (top .blocks)) (regions first a .control) (word / 64) (i + 1) all-items
+    pub begun : Putting (regions first a .nodes) (running (top .blocks)) (regions first a .control) (word / names) (i + 1) all-items
     begun =
         let tree = call-at (top .stored) in
-        subst (λ κ. Putting (κ .nodes) (running (top .blocks)) (κ .control) (word / 64) (i + 1) all-items) (sym (put-regions put))
+        subst (λ κ. Putting (κ .nodes) (running (top .blocks)) (κ .control) (word / names) (i + 1) all-items) (sym (put-regions put))
         (record {
           items = mark (call-mark i x (length es)) ∷ C;
           rest = es;
@@ -204,10 +204,10 @@ module _ (words : List ℕ) (m : Machine) (i word : ℕ) (known : word ≡ packe
           come-to = refl;
         })
 
-  pub first-room : Fits words m → m .control + word / 64 ≤ 511 → Room (word / 64) first a
-  first-room fits low = room-after (word / 64) (record { fits = fits; left = omega (arith, low) }) put
+  pub first-room : Fits words m → m .control + word / names + 1 ≤ most-control-entries → Room (word / names) first a
+  first-room fits low = room-after (word / names) (record { fits = fits; left = omega (arith, low) }) put
 
-  pub call-made : (after : List ℕ) (r : Machine) (left at : ℕ) → left ≡ 0 → Goes first a (word / 64) (i + 1) after r left at →
+  pub call-made : (after : List ℕ) (r : Machine) (left at : ℕ) → left ≡ 0 → Goes first a (word / names) (i + 1) after r left at →
       (x : ℕ) (es : List Expression) → Steps words m i (command (Call i x es)) (Made r) after
   call-made after r left at none g x es C X E S L n rule f ready =
       let t = top x es ready in

@@ -7,7 +7,7 @@ use native.Mathlib.Omega.{arith}
 use lib.ListN.{length, getD}
 use Rattle.rules.specs.paper.Tree.{Formal, Block, block, Abs}
 use Rattle.rules.specs.paper.Limits.{names, most-parameters, most-nodes, most-bindings}
-use Rattle.rules.specs.paper.Refusals.{Bindings, ValueEntries, ControlEntries, reason-number}
+use Rattle.rules.specs.paper.Refusals.{Bindings, reason-number}
 use Rattle.rules.specs.paper.States.{Bindable, closure, Environment, lookup, Store, Entry, environment, locations, call-mark, leave-mark, Item, command, mark, State, state}
 use Rattle.rules.specs.paper.Rules.{Rule, Effect, goes, Table, call-at, Matched, match-formals}
 use Rattle.machine.specs.Layout.{row-labels, row-payloads, closure-unit, carried-unit, count-unit, call-word}
@@ -19,8 +19,9 @@ use Rattle.machine.specs.Steps.{Ready, Applicable, Steps}
 use Rattle.commands.specs.Formals.{Binding, CanBind}
 use Rattle.machine.specs.declared.Machine.{Machine}
 use Rattle.machine.specs.declared.Stepped.the-variants.{Withheld}
-use Rattle.machine.proofs.state_laws.JudgeLaws.{judged-bindings, judged-values, judged-control}
-use Rattle.machine.proofs.state_laws.ModelLaws.{Sizes, sizes, step-withheld}
+use Rattle.machine.specs.Room.{full-stack}
+use Rattle.machine.proofs.state_laws.JudgeLaws.{judged-bindings}
+use Rattle.machine.proofs.state_laws.ModelLaws.{Sizes, sizes, step-withheld, step-withheld-for-room}
 use Rattle.commands.proofs.declaration_laws.FrameLaws.{pointed, with-pointers, answered, with-stacks, environment-is, rows-height}
 use Rattle.commands.proofs.call_laws.FormalsLaws.{formals-end, Counted, counted}
 
@@ -126,29 +127,24 @@ module _ (words : List ℕ) (m : Machine) where
         answered (Withheld 34) words words (top .effect-is)
         (step-withheld words Bindings _ _ (judged-bindings _ _ _ _ _ _ (omega (arith, z .cells-height, ready .fits .few-cells)) (omega (arith, z .bindings-height, call-numbers w p x k ready .count-is, over))) refl)
 
-    pub call-values-withheld : m .bindings + w / count-unit ≤ most-bindings → 510 + w / count-unit < m .values → (p x k : ℕ) → Steps words m w (mark (call-mark p x k)) (Withheld 35) words
-    unfolding reason-number
-    call-values-withheld free over p x k C X E S L n r e ready =
+    -- The actuals are on the value stack.
+    pub call-actuals : (p x k : ℕ) {C : List Item} {X : List Entry} {E : Environment} {S : Store} {L : List ℕ} {n : ℕ} {r : Rule} {e : Effect} → Ready words m w (mark (call-mark p x k)) C X E S L n r e → w / count-unit ≤ m .values
+    call-actuals p x k {X = X} ready =
         let top = call-top w p x k ready in
         let z = sizes words m (top .models) in
         let count = counted k (top .formals) X (top .definition) (top .matched) (top .matches) in
-        answered (Withheld 35) words words (top .effect-is)
-        (step-withheld words ValueEntries _ _
-        (judged-values _ _ _ _ _ _ (omega (arith, z .cells-height, ready .fits .few-cells)) (omega (arith, z .bindings-height, call-numbers w p x k ready .count-is, free))
-        (omega (arith, z .values-height, count .entries-count, call-numbers w p x k ready .count-is, over)))
-        refl)
+        omega (arith, z .values-height, count .entries-count, call-numbers w p x k ready .count-is)
 
-    pub call-control-withheld : m .bindings + w / count-unit ≤ most-bindings → m .values ≤ 510 + w / count-unit → 510 < m .control → (p x k : ℕ) → Steps words m w (mark (call-mark p x k)) (Withheld 36) words
-    unfolding reason-number
-    call-control-withheld free low over p x k C X E S L n r e ready =
+    pub call-withheld-for-room : (full : ℕ) → m .bindings + w / count-unit ≤ most-bindings → full ≡ full-stack (m .values - w / count-unit + 2) (m .control + 2) → (full ≡ 0 → ⊥) →
+        (p x k : ℕ) → Steps words m w (mark (call-mark p x k)) (Withheld full) words
+    call-withheld-for-room full free is full-there p x k C X E S L n r e ready =
         let top = call-top w p x k ready in
         let z = sizes words m (top .models) in
         let count = counted k (top .formals) X (top .definition) (top .matched) (top .matches) in
-        answered (Withheld 36) words words (top .effect-is)
-        (step-withheld words ControlEntries _ _
-        (judged-control _ _ _ _ _ _ (omega (arith, z .cells-height, ready .fits .few-cells)) (omega (arith, z .bindings-height, call-numbers w p x k ready .count-is, free))
-        (omega (arith, z .values-height, count .entries-count, call-numbers w p x k ready .count-is, low)) (omega (arith, z .control-height, over)))
-        refl)
+        answered (Withheld full) words words (top .effect-is)
+        (step-withheld-for-room words _ _ _ _ _ _ (m .values - w / count-unit + 2) (m .control + 2) full
+        (omega (arith, z .values-height, count .entries-count, call-numbers w p x k ready .count-is)) (omega (arith, z .control-height))
+        (omega (arith, z .cells-height, ready .fits .few-cells)) (omega (arith, z .bindings-height, call-numbers w p x k ready .count-is, free)) is full-there)
 
   -- ---- The closure in its row, and its Formals.
 

@@ -11,7 +11,7 @@ use Rattle.machine.specs.Layout.{top-payload, top-label}
 use Rattle.reader.specs.Pack.{packed-operand}
 use Rattle.machine.specs.Regions.{Slot, slot, Regions, regions, Fits, with-row, raised-rows}
 use Rattle.machine.specs.Represents.{Mode}
-use Rattle.commands.specs.Formals.{with-formals, Binding, CanBind, Binds}
+use Rattle.commands.specs.Formals.{machine-with-formals, Binding, CanBind, Binds}
 use Rattle.machine.specs.declared.Machine.{Machine}
 use Rattle.machine.proofs.state_laws.ModelLaws.{fits-still}
 use Rattle.commands.proofs.call_laws.FormalsLaws.{Numbers, formals-end, NextFormal, next-formal, formal-numbers, formal-link, one-bound, formal-bound}
@@ -44,7 +44,7 @@ pub record Around (before : List ℕ) (m₀ : Machine) (first block : ℕ) (word
   pub within : formal ≤ block
   pub same-size : length words ≡ length before
   pub fits : Fits words m
-  pub machine-is : m ≡ with-formals (formal - first) (m .environment) m₀
+  pub machine-is : m ≡ machine-with-formals (formal - first) (m .environment) m₀
   pub bound-so-far : (base declared pointer : ℕ) (E : Environment) (mode : Mode) (M : Matched) →
       Binding (regions before m₀) base declared pointer E mode M (regions before m₀) first block → Binding (regions before m₀) base declared pointer E mode M (regions words m) formal block
 
@@ -56,7 +56,7 @@ module _ (before : List ℕ) (m₀ : Machine) (first block : ℕ) (can : CanBind
         within = omega (arith, formals-end (can .start .stored));
         same-size = refl;
         fits = f;
-        machine-is = machine-same m₀ (with-formals (first - first) (m₀ .environment) m₀) refl (omega arith) refl refl refl refl (omega arith);
+        machine-is = machine-same m₀ (machine-with-formals (first - first) (m₀ .environment) m₀) refl (omega arith) refl refl refl refl (omega arith);
         bound-so-far = λ base declared pointer E mode M σ. σ;
       }
 
@@ -88,7 +88,7 @@ module _ (before : List ℕ) (m₀ : Machine) (first block : ℕ) (can : CanBind
               fits-still words after m (after-one (raised-rows m)) (around .fits) (size-same after (after-one (raised-rows m)) (raised-rows m) ∙ ap (λ k. k .size) put)
               (around .fits .few-control) (omega (arith, around .fits .few-values)) (omega (arith, some-rows-left few)) (around .fits .few-cells);
           machine-is =
-              machine-same (after-one (raised-rows m)) (with-formals (formal + 1 - first) (m .bindings + 1) m₀) (ap (λ k. k .control) is) (one-value-less (ap (λ k. k .values) is) (around .started)) refl
+              machine-same (after-one (raised-rows m)) (machine-with-formals (formal + 1 - first) (m .bindings + 1) m₀) (ap (λ k. k .control) is) (one-value-less (ap (λ k. k .values) is) (around .started)) refl
               (ap (λ k. k .declared) is) (ap (λ k. k .cells) is) (ap (λ k. k .base) is) (one-row-more (ap (λ k. k .bindings) is) (around .started));
           bound-so-far = λ base declared pointer E mode M σ.
               formal-bound (regions before m₀) base declared pointer E mode M words m formal block
@@ -100,7 +100,7 @@ module _ (before : List ℕ) (m₀ : Machine) (first block : ℕ) (can : CanBind
             subst (λ n. regions after (raised-rows m) ≡ with-row (slot (n % 64 + 64 * getD words (top-label + m .values) 0 + 128 * m .environment) (getD words (top-payload + m .values) 0)) (regions words m))
             name-of written
 
-        is : m ≡ with-formals (formal - first) (m .environment) m₀
+        is : m ≡ machine-with-formals (formal - first) (m .environment) m₀
         is = around .machine-is
 
         one-value-less : m .values ≡ m₀ .values - (formal - first) → first ≤ formal → m .values - 1 ≡ m₀ .values - (formal + 1 - first)
@@ -111,9 +111,9 @@ module _ (before : List ℕ) (m₀ : Machine) (first block : ℕ) (can : CanBind
 
   -- All are bound.
   pub around-last : (words : List ℕ) (m : Machine) (formal : ℕ) → Around before m₀ first block words m formal → block ≤ formal →
-      (m ≡ with-formals (block - first) (m .environment) m₀) × Binds before m₀ first block m words
+      (m ≡ machine-with-formals (block - first) (m .environment) m₀) × Binds before m₀ first block m words
   around-last words m formal around done =
-      (around .machine-is ∙ ap (λ i. with-formals (i - first) (m .environment) m₀) last, λ base declared pointer E mode M σ. subst (λ i. Binding (regions before m₀) base declared pointer E mode M (regions words m) i block) last (around .bound-so-far base declared pointer E mode M σ))
+      (around .machine-is ∙ ap (λ i. machine-with-formals (i - first) (m .environment) m₀) last, λ base declared pointer E mode M σ. subst (λ i. Binding (regions before m₀) base declared pointer E mode M (regions words m) i block) last (around .bound-so-far base declared pointer E mode M σ))
     where
       last : formal ≡ block
       last = omega (arith, around .within, done)

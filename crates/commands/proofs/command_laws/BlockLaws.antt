@@ -7,12 +7,11 @@ use mathlib.Core.List.{List, [], _∷_}
 use native.Mathlib.Omega.{arith}
 use lib.ListN.{length, getD}
 use Rattle.rules.specs.paper.Tree.{Command, block, Blk, Declaration}
-use Rattle.rules.specs.paper.Refusals.{ValueEntries, ControlEntries, reason-number}
 use Rattle.rules.specs.paper.States.{Environment, Store, Entry, locations, Item, command, declaration, mark, extend-mark, leave-mark, state}
 use Rattle.rules.specs.paper.Rules.{Rule, Effect, goes, Table}
 use Rattle.rules.specs.paper.Rules as Rules
 use Rattle.rules.specs.paper.Run.{judge}
-use Rattle.rules.specs.paper.Limits.{most-nodes, most-value-entries}
+use Rattle.rules.specs.paper.Limits.{most-nodes, most-value-entries, most-control-entries}
 use Rattle.machine.specs.Layout.{cell-payloads, cell-labels, mark-word, leave-word}
 use Rattle.reader.specs.Pack.{packed-end}
 use Rattle.reader.specs.Stored.{StoredCommand, block-of, blk, StoredDeclaration}
@@ -22,8 +21,8 @@ use Rattle.machine.specs.Steps.{StepAnswer, Applicable, Steps}
 use Rattle.machine.specs.declared.Machine.{Machine}
 use Rattle.machine.specs.declared.Stepped.the-variants.{Made, Withheld}
 use Rattle.machine.proofs.memory_laws.RegionLaws.{slots-length}
-use Rattle.machine.proofs.state_laws.JudgeLaws.{judged-values, judged-control}
-use Rattle.machine.proofs.state_laws.ModelLaws.{sizes, step-made, step-withheld}
+use Rattle.machine.specs.Room.{full-stack}
+use Rattle.machine.proofs.state_laws.ModelLaws.{sizes, step-made, step-withheld-for-room}
 use Rattle.machine.proofs.stack_laws.SharedLaws.{Put, put-regions, value-fits}
 use Rattle.machine.proofs.stack_laws.RoomLaws.{Room, room-after}
 use Rattle.machine.proofs.state_laws.ItemLaws.{after-node, declaration-root, root-end, lowered, command-top}
@@ -96,31 +95,18 @@ opened-fits f = record { room = f .room; few-control = f .few-control; few-value
 
 -- ---- The answers.
 
-pub block-values-withheld : (words : List ℕ) (m : Machine) (i : ℕ) → m .values ≡ most-value-entries → (d : Declaration) (c : Command) → Steps words m i (command (block (Blk i d c))) (Withheld 35) words
-unfolding reason-number
-block-values-withheld words m i q d c C X E S L n rule f ready =
+pub block-withheld : (words : List ℕ) (m : Machine) (i full : ℕ) → full ≡ full-stack (m .values + 1) (m .control + 4) → (full ≡ 0 → ⊥) →
+    (d : Declaration) (c : Command) → Steps words m i (command (block (Blk i d c))) (Withheld full) words
+block-withheld words m i full is full-there d c C X E S L n rule f ready =
     let t = command-top (regions words m) i (block (Blk i d c)) (ready .models) in
     let z = sizes words m (lowered (t .rest)) in
     let fits = ready .fits in
-    subst (λ g. StepAnswer (judge false g) (Withheld 35) words words) (block-effect (ready .applies))
-    (step-withheld words ValueEntries _ _
-    (judged-values (declaration d ∷ mark extend-mark ∷ command c ∷ mark (leave-mark i n) ∷ C) (locations L ∷ X) E S [] n (omega (arith, z .cells-height, fits .few-cells)) (omega (arith, z .bindings-height, fits .few-bindings)) (omega (arith, z .values-height, q)))
-    refl)
-
-pub block-control-withheld : (words : List ℕ) (m : Machine) (i : ℕ) → (m .values ≡ most-value-entries → ⊥) → 508 < m .control →
-    (d : Declaration) (c : Command) → Steps words m i (command (block (Blk i d c))) (Withheld 36) words
-unfolding reason-number
-block-control-withheld words m i few q d c C X E S L n rule f ready =
-    let t = command-top (regions words m) i (block (Blk i d c)) (ready .models) in
-    let z = sizes words m (lowered (t .rest)) in
-    let fits = ready .fits in
-    subst (λ g. StepAnswer (judge false g) (Withheld 36) words words) (block-effect (ready .applies))
-    (step-withheld words ControlEntries _ _
-    (judged-control (declaration d ∷ mark extend-mark ∷ command c ∷ mark (leave-mark i n) ∷ C) (locations L ∷ X) E S [] n (omega (arith, z .cells-height, fits .few-cells)) (omega (arith, z .bindings-height, fits .few-bindings)) (omega (arith, z .values-height, fits .few-values, few)) (omega (arith, z .control-height, q)))
-    refl)
+    subst (λ g. StepAnswer (judge false g) (Withheld full) words words) (block-effect (ready .applies))
+    (step-withheld-for-room words (declaration d ∷ mark extend-mark ∷ command c ∷ mark (leave-mark i n) ∷ C) (locations L ∷ X) E S [] n (m .values + 1) (m .control + 4) full
+    (omega (arith, z .values-height)) (omega (arith, z .control-height)) (omega (arith, z .cells-height, fits .few-cells)) (omega (arith, z .bindings-height, fits .few-bindings)) is full-there)
 
 -- What `enter_block` does.
-module _ (words : List ℕ) (m : Machine) (fits : Fits words m) (few : m .values ≡ most-value-entries → ⊥) (low : m .control ≤ 508) (saved : List ℕ) (u : Machine) (q : u ≡ raised-values m)
+module _ (words : List ℕ) (m : Machine) (fits : Fits words m) (few : m .values + 1 ≤ most-value-entries) (low : m .control + 4 ≤ most-control-entries) (saved : List ℕ) (u : Machine) (q : u ≡ raised-values m)
     (e : regions saved (raised-values m) ≡ with-values (slot 0 (m .base) ∷ regions words m .values) (regions words m)) where
   pub block-room : Room 4 saved (opened u)
   block-room = record { fits = opened-fits (value-fits words m fits saved u few q e); left = omega (arith, low, ap (λ k. k .control) q) }

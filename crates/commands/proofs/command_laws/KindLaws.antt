@@ -122,5 +122,5 @@ module _ (words : List ℕ) (m : Machine) (i kind : ℕ) (known : kind ≡ packe
   pub bind-there : kind ≡ 30 → (x : ℕ) × (b : Bound) × (c ≡ Bind i x b)
   bind-there = is-bind standing-declaration
 
-  pub join-there : (kind ≡ 30 → ⊥) → (d₁ d₂ : Declaration) × (c ≡ DSeq i d₁ d₂)
-  join-there = is-join standing-declaration
+  pub declaration-sequence-there : (kind ≡ 30 → ⊥) → (d₁ d₂ : Declaration) × (c ≡ DSeq i d₁ d₂)
+  declaration-sequence-there = is-join standing-declaration

@@ -79,12 +79,12 @@ join-effect : {C : List Item} {E : Environment} {S : Store} {L : List ℕ} {n : 
 join-effect Rules.dseq = refl
 
 -- The first declaration's place is a node's.
-pub join-low : (words : List ℕ) (m : Machine) (i : ℕ) (d₁ d₂ : Declaration) → Applicable words m i (declaration (DSeq i d₁ d₂)) → i + 1 < most-nodes
-join-low words m i d₁ d₂ a = declaration-root (join-at (declaration-top (regions words m) i (DSeq i d₁ d₂) (a .ready .models) .stored) .first) .word .place-low
+pub declaration-sequence-low : (words : List ℕ) (m : Machine) (i : ℕ) (d₁ d₂ : Declaration) → Applicable words m i (declaration (DSeq i d₁ d₂)) → i + 1 < most-nodes
+declaration-sequence-low words m i d₁ d₂ a = declaration-root (join-at (declaration-top (regions words m) i (DSeq i d₁ d₂) (a .ready .models) .stored) .first) .word .place-low
 
-pub join-steps : (words : List ℕ) (m : Machine) (i : ℕ) (r : Stepped) (after : List ℕ) (second : ℕ) → second ≡ packed-end (getD words (i + 1) 0) →
+pub declaration-sequence-steps : (words : List ℕ) (m : Machine) (i : ℕ) (r : Stepped) (after : List ℕ) (second : ℕ) → second ≡ packed-end (getD words (i + 1) 0) →
     PutsThree words m (mark-word dseq-mark) second (i + 1) r after → (d₁ d₂ : Declaration) → Steps words m i (declaration (DSeq i d₁ d₂)) r after
-join-steps words m i r after second q puts d₁ d₂ C X E S L n rule f ready =
+declaration-sequence-steps words m i r after second q puts d₁ d₂ C X E S L n rule f ready =
     let t = declaration-top (regions words m) i (DSeq i d₁ d₂) (ready .models) in
     let a = join-at (t .stored) in
     let u = t .rest in

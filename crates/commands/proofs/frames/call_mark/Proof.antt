@@ -1,9 +1,13 @@
 -- call_mark: the closure's block with its Formals bound, or 34, 35, 36.
 use Prim.Native.Nat.{_+_, _-_, _*_, _/_, _%_, _<_, _≤_}
+use mathlib.Core.Path.{sym, _∙_}
 use native.Mathlib.Omega.{arith}
 use denote.Ref.{now}
+use Rattle.rules.specs.paper.Limits.{most-value-entries, most-control-entries}
+use Rattle.machine.specs.Layout.{count-unit}
 use Rattle.machine.specs.Regions.{Fits}
-use Rattle.commands.proofs.call_laws.CallMarkLaws.{CallNumbers, call-numbers, call-bindings-withheld, call-values-withheld, call-control-withheld, RowFound, called-fits, call-looked, row-low, call-can-bind}
+use Rattle.machine.proofs.state_laws.JudgeLaws.{room-left}
+use Rattle.commands.proofs.call_laws.CallMarkLaws.{CallNumbers, call-numbers, call-bindings-withheld, call-actuals, call-withheld-for-room, RowFound, called-fits, call-looked, row-low, call-can-bind}
 use Rattle.commands.proofs.call_laws.CallFrameLaws.{Formed, call-formed, call-made}
 use borrow.Author.Needs.{needs}
 use Rattle.commands.proofs.frames.call_mark.Statement.{statement}
@@ -13,6 +17,17 @@ use Rattle.commands.proofs.frames.call_mark.Lts as lts
 use Rattle.commands.proofs.frames.bind_formals.Reads as bind-formals-reads
 use Rattle.commands.proofs.frames.put_frame.Reads as put-frame-reads
 use Rattle.machine.proofs.lookup.row_of.Reads as row-of-reads
+use Rattle.machine.proofs.stacks.full_stack.Reads as full-stack-reads
+
+abbrev claims : lts.Claims
+claims = (full-stack-reads.Asked, full-stack-reads.Learnt, row-of-reads.Asked, row-of-reads.Learnt, bind-formals-reads.Asked, bind-formals-reads.Learnt, put-frame-reads.Asked, put-frame-reads.Learnt)
+
+-- Both stacks have room for the frame.
+left : (c : lts.Else2 claims reads.Pre reads.Post) →
+    let start = c .before .before .before .before .before .before .before in
+    let m = start .args .m in
+    (m .values - start .args .word / count-unit + 2 ≤ most-value-entries) × (m .control + 2 ≤ most-control-entries)
+left c = room-left _ _ (sym (c .before .full-stack .ensures) ∙ c .if2 .left)
 
 add-if1 : tie.Need-add-if1
 add-if1 c = search needs
@@ -20,14 +35,20 @@ add-if1 c = search needs
 returns : tie.Need-returns
 returns c = call-bindings-withheld _ _ _ (c .if1 .taken)
 
-add-if2 : tie.Need-add-if2
-add-if2 c = search needs
+sub-full-stack : tie.Need-sub-full-stack
+sub-full-stack c = call-actuals _ _ _ _ _ _ (c .before .before .before .before .pre .3 .ready)
+
+add-full-stack : tie.Need-add-full-stack
+add-full-stack c = search needs
+
+add-full-stack-2 : tie.Need-add-full-stack-2
+add-full-stack-2 c = search needs
+
+full-stack-requires : tie.Need-full-stack-requires
+full-stack-requires c κs = search needs
 
 returns-2 : tie.Need-returns-2
-returns-2 c = call-values-withheld _ _ _ (c .before .before .if1 .left) (c .if2 .taken)
-
-returns-3 : tie.Need-returns-3
-returns-3 c = call-control-withheld _ _ _ (c .before .before .before .before .if1 .left) (c .before .before .if2 .left) (c .if3 .taken)
+returns-2 c = call-withheld-for-room _ _ _ _ (c .before .before .before .before .if1 .left) (c .before .full-stack .ensures) (c .if2 .taken)
 
 row-of-requires : tie.Need-row-of-requires
 row-of-requires c κs = let given = c .before .before .before .before .before .before .before .before .pre in (given .3 .ready .fits, call-looked _ _ _ _ _ _ (given .3 .ready))
@@ -62,17 +83,19 @@ put-frame-requires : tie.Need-put-frame-requires
 put-frame-requires c κs =
     let given = c .before .before .before .before .before .before .before .before .before .before .before .before .before .before .before .pre in
     let bound = c .before .before .before .bind-formals in
-    let formed = call-formed _ _ _ _ (c .before .before .before .before .before .before .row-of .ensures) _ _ (bound .ensures .0) (bound .ensures .1) (c .before .before .before .before .before .before .before .before .before .before .before .before .if1 .left) (c .before .before .before .before .before .before .before .before .before .before .if2 .left) (c .before .before .before .before .before .before .before .before .if3 .left) _ _ _ (given .3 .ready) in
+    let some = left (c .before .before .before .before .before .before .before .before) in
+    let formed = call-formed _ _ _ _ (c .before .before .before .before .before .before .row-of .ensures) _ _ (bound .ensures .0) (bound .ensures .1) (c .before .before .before .before .before .before .before .before .before .before .before .before .if1 .left) (some .0) (some .1) _ _ _ (given .3 .ready) in
     (formed .fits, (formed .few-values, formed .few-control))
 
 same-length : tie.Need-same-length
 same-length c = search needs
 
-returns-4 : tie.Need-returns-4
-returns-4 c p x k C X E S L n r e ready =
+returns-3 : tie.Need-returns-3
+returns-3 c p x k C X E S L n r e ready =
     let bound = c .before .before .before .before .before .before .bind-formals in
     let put = c .before .before .put-frame in
-    call-made _ _ _ _ (c .before .before .before .before .before .before .before .before .before .row-of .ensures) _ _ (bound .ensures .0) (bound .ensures .1) (c .before .before .before .before .before .before .before .before .before .before .before .before .before .before .before .if1 .left) (c .before .before .before .before .before .before .before .before .before .before .before .before .before .if2 .left) (c .before .before .before .before .before .before .before .before .before .before .before .if3 .left) p x k ready _ _ (put .ensures .0) (put .ensures .1)
+    let some = left (c .before .before .before .before .before .before .before .before .before .before .before) in
+    call-made _ _ _ _ (c .before .before .before .before .before .before .before .before .before .row-of .ensures) _ _ (bound .ensures .0) (bound .ensures .1) (c .before .before .before .before .before .before .before .before .before .before .before .before .before .before .before .if1 .left) (some .0) (some .1) p x k ready _ _ (put .ensures .0) (put .ensures .1)
 
 pub call-mark-spec : {M : Type 1} → statement M
 call-mark-spec =
@@ -80,9 +103,11 @@ call-mark-spec =
     (tie.spec
     add-if1
     returns
-    add-if2
+    sub-full-stack
+    add-full-stack
+    add-full-stack-2
+    full-stack-requires
     returns-2
-    returns-3
     row-of-requires
     add-closure
     mul-closure
@@ -94,4 +119,4 @@ call-mark-spec =
     bind-formals-requires
     put-frame-requires
     same-length
-    returns-4)
+    returns-3)

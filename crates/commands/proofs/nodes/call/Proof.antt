@@ -25,6 +25,9 @@ operand-requires c κs = let start = c .before .before in omega (arith, command-
 add-if1 : tie.Need-add-if1 Inv-loop μ-loop
 add-if1 c = record { fits = omega (arith, operand-low _ _ _ _ (c .before .operand .ensures) _ _ (c .before .before .before .before .pre .2), c .before .before .before .before .pre .2 .ready .fits .few-control) }
 
+add-if1-2 : tie.Need-add-if1-2 Inv-loop μ-loop
+add-if1-2 c = record { fits = omega (arith, operand-low _ _ _ _ (c .before .operand .ensures) _ _ (c .before .before .before .before .pre .2), c .before .before .before .before .pre .2 .ready .fits .few-control) }
+
 same-length : tie.Need-same-length Inv-loop μ-loop
 same-length c = search needs
 
@@ -81,6 +84,7 @@ call-spec =
     μ-loop
     operand-requires
     add-if1
+    add-if1-2
     same-length
     returns
     mul-put-control

@@ -1,9 +1,12 @@
 -- enter_block: the location set on the value stack, and four entries on control.
-use mathlib.Core.Path.{_∙_}
+use Prim.Native.Nat.{_+_, _≤_}
+use mathlib.Core.Path.{sym, _∙_}
 use native.Mathlib.Omega.{arith}
+use Rattle.rules.specs.paper.Limits.{most-value-entries, most-control-entries}
+use Rattle.machine.proofs.state_laws.JudgeLaws.{room-left}
 use Rattle.machine.proofs.stack_laws.RoomLaws.{Room, room-for, room-after, was-put}
 use Rattle.commands.proofs.command_laws.CommandLaws.{command-low}
-use Rattle.commands.proofs.command_laws.BlockLaws.{opened, block-low, block-values-withheld, block-control-withheld, block-room, block-made}
+use Rattle.commands.proofs.command_laws.BlockLaws.{opened, block-low, block-withheld, block-room, block-made}
 use borrow.Author.Needs.{needs}
 use Rattle.commands.proofs.nodes.enter_block.Statement.{statement}
 use Rattle.commands.proofs.nodes.enter_block.Tie as tie
@@ -11,17 +14,25 @@ use Rattle.commands.proofs.nodes.enter_block.Reads as reads
 use Rattle.commands.proofs.nodes.enter_block.Lts as lts
 use Rattle.machine.proofs.memory.put_control.Reads as put-control-reads
 use Rattle.machine.proofs.memory.put_value.Reads as put-value-reads
+use Rattle.machine.proofs.stacks.full_stack.Reads as full-stack-reads
 use Rattle.reader.proofs.end.Reads as end-reads
 
 abbrev claims : lts.Claims
-claims = (end-reads.Asked, end-reads.Learnt, put-value-reads.Asked, put-value-reads.Learnt, put-control-reads.Asked, put-control-reads.Learnt)
+claims = (full-stack-reads.Asked, full-stack-reads.Learnt, end-reads.Asked, end-reads.Learnt, put-value-reads.Asked, put-value-reads.Learnt, put-control-reads.Asked, put-control-reads.Learnt)
+
+-- Both stacks have room for what is put on them.
+left : (c : lts.Else1 claims reads.Pre reads.Post) →
+    let m = c .before .before .before .before .before .args .m in
+    (m .values + 1 ≤ most-value-entries) × (m .control + 4 ≤ most-control-entries)
+left c = room-left _ _ (sym (c .before .full-stack .ensures) ∙ c .if1 .left)
 
 -- The room on control, which the four entries take up one by one.
 room : (c : lts.After-put-value claims reads.Pre reads.Post) → Room 4 (c .put-value .last .0) (opened (c .put-value .result))
 room c =
     let start = c .before .before .before .before .before .before .before .before .before in
     let put = c .put-value .ensures in
-    block-room _ _ (start .pre .2 .ready .fits) (c .before .before .before .before .before .before .if1 .left) (omega (arith, c .before .before .before .before .if2 .left)) _ _ (put .0) (put .1)
+    let some = left (c .before .before .before .before) in
+    block-room _ _ (start .pre .2 .ready .fits) (some .0) (some .1) _ _ (put .0) (put .1)
 
 first-room : (c : lts.After-put-control claims reads.Pre reads.Post) → Room 3 (c .put-control .last .0) (c .put-control .result)
 first-room c = room-after 3 (room (c .before .before .before .before)) (was-put (c .put-control .ensures))
@@ -32,11 +43,17 @@ second-room c = room-after 2 (first-room (c .before .before .before .before)) (w
 third-room : (c : lts.After-put-control3 claims reads.Pre reads.Post) → Room 1 (c .put-control3 .last .0) (c .put-control3 .result)
 third-room c = room-after 1 (second-room (c .before .before .before .before)) (was-put (c .put-control3 .ensures))
 
-returns : tie.Need-returns
-returns c = block-values-withheld _ _ _ (c .if1 .taken)
+add-full-stack : tie.Need-add-full-stack
+add-full-stack c = search needs
 
-returns-2 : tie.Need-returns-2
-returns-2 c = block-control-withheld _ _ _ (c .before .before .if1 .left) (c .if2 .taken)
+add-full-stack-2 : tie.Need-add-full-stack-2
+add-full-stack-2 c = search needs
+
+full-stack-requires : tie.Need-full-stack-requires
+full-stack-requires c κs = search needs
+
+returns : tie.Need-returns
+returns c = block-withheld _ _ _ _ (c .before .full-stack .ensures) (c .if1 .taken)
 
 add-end : tie.Need-add-end
 add-end c = record { fits = omega (arith, command-low _ _ _ _ (c .before .before .before .before .before .before .pre .2)) }
@@ -45,7 +62,7 @@ end-requires : tie.Need-end-requires
 end-requires c κs = let start = c .before .before .before .before .before .before in omega (arith, block-low _ _ _ _ _ (start .pre .2), start .pre .2 .ready .fits .room)
 
 put-value-requires : tie.Need-put-value-requires
-put-value-requires c κs = search needs
+put-value-requires c κs = (c .before .before .before .before .before .before .before .before .pre .2 .ready .fits, omega (arith, left (c .before .before .before) .0))
 
 mul-put-control : tie.Need-mul-put-control
 mul-put-control c = record { fits = omega (arith, room (c .before .before .before) .fits .few-bindings) }
@@ -79,8 +96,8 @@ same-length c =
     let first = second .before .before .before .before in
     fourth .put-control4 .kept .0 ∙ third .put-control3 .kept .0 ∙ second .put-control2 .kept .0 ∙ first .put-control .kept .0 ∙ first .before .before .before .before .put-value .kept .0
 
-returns-3 : tie.Need-returns-3
-returns-3 c =
+returns-2 : tie.Need-returns-2
+returns-2 c =
     let fourth = c .before .before in
     let third = fourth .before .before .before .before in
     let second = third .before .before .before .before in
@@ -88,15 +105,18 @@ returns-3 c =
     let saved = first .before .before .before .before in
     let start = saved .before .before .before .before .before .before .before .before .before in
     let put = saved .put-value .ensures in
-    block-made _ _ (start .pre .2 .ready .fits) (saved .before .before .before .before .before .before .if1 .left) (omega (arith, saved .before .before .before .before .if2 .left)) _ _ (put .0) (put .1) _ _ _ _ _ _ _ _ _ _
+    let some = left (saved .before .before .before .before) in
+    block-made _ _ (start .pre .2 .ready .fits) (some .0) (some .1) _ _ (put .0) (put .1) _ _ _ _ _ _ _ _ _ _
     (was-put (first .put-control .ensures)) (was-put (second .put-control2 .ensures)) (was-put (third .put-control3 .ensures)) (was-put (fourth .put-control4 .ensures)) (saved .before .before .end .ensures)
 
 pub enter-block-spec : {M : Type 1} → statement M
 enter-block-spec =
     tie.close
     (tie.spec
+    add-full-stack
+    add-full-stack-2
+    full-stack-requires
     returns
-    returns-2
     add-end
     end-requires
     put-value-requires
@@ -108,4 +128,4 @@ enter-block-spec =
     add-put-control-2
     put-control-requires-4
     same-length
-    returns-3)
+    returns-2)

@@ -1,11 +1,11 @@
--- make_cell: the contents, the mark.
+-- reference: the contents, the mark.
 use native.Mathlib.Omega.{arith}
 use Rattle.commands.proofs.declaration_laws.DeclarationLaws.{reference-low, reference-steps}
 use borrow.Author.Needs.{needs}
-use Rattle.commands.proofs.declarations.make_cell.Statement.{statement}
-use Rattle.commands.proofs.declarations.make_cell.Tie as tie
-use Rattle.commands.proofs.declarations.make_cell.Reads as reads
-use Rattle.commands.proofs.declarations.make_cell.Lts as lts
+use Rattle.commands.proofs.declarations.reference.Statement.{statement}
+use Rattle.commands.proofs.declarations.reference.Tie as tie
+use Rattle.commands.proofs.declarations.reference.Reads as reads
+use Rattle.commands.proofs.declarations.reference.Lts as lts
 use Rattle.machine.proofs.stacks.put_two.Reads as put-two-reads
 
 add-put-two : tie.Need-add-put-two
@@ -20,5 +20,5 @@ same-length c = search needs
 returns : tie.Need-returns
 returns c = reference-steps _ _ _ _ _ (c .before .before .put-two .ensures)
 
-pub make-cell-spec : {M : Type 1} → statement M
-make-cell-spec = tie.close (tie.spec add-put-two put-two-requires same-length returns)
+pub reference-spec : {M : Type 1} → statement M
+reference-spec = tie.close (tie.spec add-put-two put-two-requires same-length returns)
