@@ -32,6 +32,7 @@ const STEPS: u64 = 30;
 
 // The kinds below these are expressions, and commands.
 const COMMANDS: usize = kinds::ASSIGN;
+
 const DECLARATIONS: usize = kinds::BIND;
 
 // How a run ends, with the steps made and the machine in its last state: control is empty, or a step is withheld, with the number of the

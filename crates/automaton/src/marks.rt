@@ -16,49 +16,37 @@ use expressions::marks::not_mark;
 use expressions::marks::order_mark;
 use machine::Machine;
 use machine::Stepped;
+use machine::layout::EXTEND;
+use machine::layout::LEAVE;
 use machine::layout::MARK_NUMBERS;
+use reader::kinds;
 
-// The rule of a mark, by the kind it belongs to.
+// The rule of a mark, by its number.
 pub fn mark_rule(work: &mut [u64], m: Machine, word: u64) -> Stepped
     requires { ⌜ ((k : Mark) × Applicable (now work) m word (mark k)) ⌝ }
     ensures { λ r. ⌜ ((k : Mark) → Steps (now (work .entry)) m word (mark k) r (now (work .exit))) ⌝ }
 {
-    let kind = word % MARK_NUMBERS;
-    if kind < 8 {
-        return arithmetic_mark(work, m, word);
+    let number = (word % MARK_NUMBERS) as usize;
+    match number {
+        kinds::SUM => arithmetic_mark(work, m, word),
+        kinds::SUB => arithmetic_mark(work, m, word),
+        kinds::MUL => arithmetic_mark(work, m, word),
+        kinds::DIV => arithmetic_mark(work, m, word),
+        kinds::EQ => equal_mark(work, m, word),
+        kinds::LT => order_mark(work, m, word),
+        kinds::LE => order_mark(work, m, word),
+        kinds::GT => order_mark(work, m, word),
+        kinds::GE => order_mark(work, m, word),
+        kinds::AND => logic_mark(work, m, word),
+        kinds::OR => logic_mark(work, m, word),
+        kinds::NOT => not_mark(work, m, word),
+        kinds::ASSIGN => assign_mark(work, m, word),
+        kinds::LOOP => loop_mark(work, m, word),
+        LEAVE => leave_mark(work, m, word),
+        EXTEND => extend_mark(work, m, word),
+        kinds::CALL => call_mark(work, m, word),
+        kinds::BIND => bind_mark(work, m, word),
+        kinds::DSEQ => dseq_mark(work, m, word),
+        _ => ref_mark(work, m, word),
     }
-    if kind == 8 {
-        return equal_mark(work, m, word);
-    }
-    if kind < 13 {
-        return order_mark(work, m, word);
-    }
-    if kind < 15 {
-        return logic_mark(work, m, word);
-    }
-    if kind == 15 {
-        return not_mark(work, m, word);
-    }
-    if kind == 20 {
-        return assign_mark(work, m, word);
-    }
-    if kind == 21 {
-        return loop_mark(work, m, word);
-    }
-    if kind == 22 {
-        return leave_mark(work, m, word);
-    }
-    if kind == 23 {
-        return extend_mark(work, m, word);
-    }
-    if kind == 24 {
-        return call_mark(work, m, word);
-    }
-    if kind == 30 {
-        return bind_mark(work, m, word);
-    }
-    if kind == 31 {
-        return dseq_mark(work, m, word);
-    }
-    ref_mark(work, m, word)
 }

@@ -14,19 +14,19 @@ use machine::layout::COUNT_UNIT;
 use machine::layout::LABEL_UNIT;
 use machine::layout::LEAVE_MARK;
 use machine::layout::MOST_BINDINGS;
-use machine::layout::NAMES;
 use machine::layout::NAME_UNIT;
+use machine::layout::NAMES;
 use machine::layout::POINTER_UNIT;
 use machine::layout::ROW_PAYLOADS;
 use machine::layout::SECOND_PAYLOAD;
 use machine::layout::TOP_LABEL;
 use machine::layout::TOP_PAYLOAD;
 use machine::lookup::row_of;
-use machine::stacks::full_stack;
 use machine::memory::put_control;
 use machine::memory::put_row;
 use machine::memory::put_value;
 use machine::reasons;
+use machine::stacks::full_stack;
 use reader::operand;
 
 // Bind's: a row for the name, on those that the declaration made before.

@@ -39,6 +39,7 @@ pub const ROW_AT_POINTER: usize = ROW_LABELS - 1;
 
 // A name is the low part of an operand and of a row's label.
 pub const NAMES: usize = 64;
+
 pub const NAME_UNIT: u64 = NAMES as u64;
 
 // A row's label: its name, the label of what it binds, and the pointer of the row below it.
@@ -59,7 +60,12 @@ pub const CARRIED_UNIT: u64 = 4096;
 
 pub const COUNT_UNIT: u64 = CARRIED_UNIT * NAME_UNIT;
 
-// The marks, each with the number of the kind that it belongs to; a block's second has that of CSeq, which has no mark of its own.
+// A mark has the number of the kind that it belongs to; a block's second has that of CSeq, which has no mark of its own.
+pub const EXTEND: usize = kinds::BLK;
+
+pub const LEAVE: usize = kinds::CSEQ;
+
+// The words of the marks, without what they carry.
 pub const SUM_MARK: u64 = MARK + kinds::SUM as u64;
 
 pub const SUB_MARK: u64 = MARK + kinds::SUB as u64;
@@ -80,9 +86,9 @@ pub const ASSIGN_MARK: u64 = MARK + kinds::ASSIGN as u64;
 
 pub const LOOP_MARK: u64 = MARK + kinds::LOOP as u64;
 
-pub const LEAVE_MARK: u64 = MARK + kinds::CSEQ as u64;
+pub const LEAVE_MARK: u64 = MARK + LEAVE as u64;
 
-pub const EXTEND_MARK: u64 = MARK + kinds::BLK as u64;
+pub const EXTEND_MARK: u64 = MARK + EXTEND as u64;
 
 pub const CALL_MARK: u64 = MARK + kinds::CALL as u64;
 

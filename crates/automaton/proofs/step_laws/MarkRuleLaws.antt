@@ -4,8 +4,8 @@ use mathlib.Core.Path.{_≡_, refl, sym, subst}
 use mathlib.Core.Bool.{cond}
 use mathlib.Core.List.{List, _∷_}
 use native.Mathlib.Omega.{arith}
-use borrow.Author.Tests.{lt-ltb, le-ltb, ne-eqb}
-use lib.Dec.{eqb, ltb}
+use borrow.Author.Tests.{ne-eqb}
+use lib.Dec.{eqb}
 use Rattle.rules.specs.paper.Kinds.{operator-number}
 use Rattle.rules.specs.paper.Tree.{Arithmetic, Sum, Sub, Mul, Div, Order, Lt, Le, Gt, Ge, Logic, And, Or, Operator, arithmetic, Eq, order, logic}
 use Rattle.rules.specs.paper.Limits.{names}
@@ -20,17 +20,29 @@ use Rattle.machine.specs.declared.Stepped.{Stepped}
 pub data Arm : Type 0 where
   on-arithmetic on-equal on-order on-logic on-not on-assign on-loop on-leave on-extend on-call on-bind on-dseq on-ref : Arm
 
--- By the number of the kind, in the order of the code's tests.
+-- By the number, in the order of the code's arms.
 abbrev pub arm-of : ℕ → Arm
 arm-of k =
-    cond (ltb k 8) on-arithmetic
+    cond (eqb k 4) on-arithmetic
+    (cond (eqb k 5) on-arithmetic
+    (cond (eqb k 6) on-arithmetic
+    (cond (eqb k 7) on-arithmetic
     (cond (eqb k 8) on-equal
-    (cond (ltb k 13) on-order
-    (cond (ltb k 15) on-logic
+    (cond (eqb k 9) on-order
+    (cond (eqb k 10) on-order
+    (cond (eqb k 11) on-order
+    (cond (eqb k 12) on-order
+    (cond (eqb k 13) on-logic
+    (cond (eqb k 14) on-logic
     (cond (eqb k 15) on-not
     (cond (eqb k 20) on-assign
     (cond (eqb k 21) on-loop
-    (cond (eqb k 22) on-leave (cond (eqb k 23) on-extend (cond (eqb k 24) on-call (cond (eqb k 30) on-bind (cond (eqb k 31) on-dseq on-ref)))))))))))
+    (cond (eqb k 22) on-leave
+    (cond (eqb k 23) on-extend
+    (cond (eqb k 24) on-call
+    (cond (eqb k 30) on-bind
+    (cond (eqb k 31) on-dseq
+    on-ref))))))))))))))))))
 
 -- Which marks have the rule.
 abbrev pub Has : (w : ℕ) → Arm → Mark → Type 0
@@ -66,8 +78,8 @@ operator-has w (order Ge) q = by-kind w 12 (operator-mark (order Ge)) (omega ari
 operator-has w (logic And) q = by-kind w 13 (operator-mark (logic And)) (omega arith) (And, q, refl)
 operator-has w (logic Or) q = by-kind w 14 (operator-mark (logic Or)) (omega arith) (Or, q, refl)
 
-second-kind : (w m : ℕ) → w ≡ leave-word m → w % 64 ≡ 22
-second-kind w m q = omega arith
+leave-kind : (w m : ℕ) → w ≡ leave-word m → w % 64 ≡ 22
+leave-kind w m q = omega arith
 
 call-kind : (w m : ℕ) → w ≡ call-word m → w % 64 ≡ 24
 call-kind w m q = omega arith
@@ -81,37 +93,37 @@ has (ref-on {w = w} q h) = by-kind w 40 ref-mark (omega (arith, q)) refl
 has (bind-on {w = w} q h) = by-kind w 30 bind-mark (omega (arith, q)) refl
 has (dseq-on {w = w} q h) = by-kind w 31 dseq-mark (omega (arith, q)) refl
 has (extend-on {w = w} q h) = by-kind w 23 extend-mark (omega (arith, q)) refl
-has (leave-on {m = m} {w = w} {p = p} q h) = by-kind w 22 (leave-mark p m) (second-kind w m q) (p, m, refl)
+has (leave-on {m = m} {w = w} {p = p} q h) = by-kind w 22 (leave-mark p m) (leave-kind w m q) (p, m, refl)
 has (call-on {w = w} {p = p} {x = x} {k = k} q l g h) = by-kind w 24 (call-mark p x k) (call-kind w (x + names * k) q) (p, x, k, refl)
 
--- ---- The tests that are no equation.
+-- ---- The last arm: none of the numbers of the others.
 
-module _ (k : ℕ) where
-  pub is-arithmetic : k < 8 → arm-of k ≡ on-arithmetic
-  is-arithmetic a = rw (lt-ltb k 8 a)
+abbrev pub Others : ℕ → Type 0
+Others k = ((((((((((((((((((Unit {0} × (k ≡ 4 → ⊥)) × (k ≡ 5 → ⊥)) × (k ≡ 6 → ⊥)) × (k ≡ 7 → ⊥)) × (k ≡ 8 → ⊥)) × (k ≡ 9 → ⊥)) × (k ≡ 10 → ⊥)) × (k ≡ 11 → ⊥)) × (k ≡ 12 → ⊥)) × (k ≡ 13 → ⊥)) × (k ≡ 14 → ⊥)) × (k ≡ 15 → ⊥)) × (k ≡ 20 → ⊥)) × (k ≡ 21 → ⊥)) × (k ≡ 22 → ⊥)) × (k ≡ 23 → ⊥)) × (k ≡ 24 → ⊥)) × (k ≡ 30 → ⊥)) × (k ≡ 31 → ⊥)
 
-  pub is-order : 8 ≤ k → (k ≡ 8 → ⊥) → k < 13 → arm-of k ≡ on-order
-  is-order a b c = rw (le-ltb k 8 a, ne-eqb k 8 b, lt-ltb k 13 c)
-
-  pub is-logic : 13 ≤ k → k < 15 → arm-of k ≡ on-logic
-  is-logic c d = rw (le-ltb k 8 (omega arith), ne-eqb k 8 (λ q. omega (arith, q, c)), le-ltb k 13 c, lt-ltb k 15 d)
-
-  pub is-ref : 15 ≤ k → (k ≡ 15 → ⊥) → (k ≡ 20 → ⊥) → (k ≡ 21 → ⊥) → (k ≡ 22 → ⊥) → (k ≡ 23 → ⊥) → (k ≡ 24 → ⊥) → (k ≡ 30 → ⊥) → (k ≡ 31 → ⊥) → arm-of k ≡ on-ref
-  is-ref d e f g h i j l m =
-      rw (
-        le-ltb k 8 (omega arith),
-        ne-eqb k 8 (λ q. omega (arith, q, d)),
-        le-ltb k 13 (omega arith),
-        le-ltb k 15 d,
-        ne-eqb k 15 e,
-        ne-eqb k 20 f,
-        ne-eqb k 21 g,
-        ne-eqb k 22 h,
-        ne-eqb k 23 i,
-        ne-eqb k 24 j,
-        ne-eqb k 30 l,
-        ne-eqb k 31 m,
-      )
+pub is-ref : (k : ℕ) → Others k → arm-of k ≡ on-ref
+is-ref k h =
+    rw (
+      ne-eqb k 4 (h .0 .0 .0 .0 .0 .0 .0 .0 .0 .0 .0 .0 .0 .0 .0 .0 .0 .0 .1),
+      ne-eqb k 5 (h .0 .0 .0 .0 .0 .0 .0 .0 .0 .0 .0 .0 .0 .0 .0 .0 .0 .1),
+      ne-eqb k 6 (h .0 .0 .0 .0 .0 .0 .0 .0 .0 .0 .0 .0 .0 .0 .0 .0 .1),
+      ne-eqb k 7 (h .0 .0 .0 .0 .0 .0 .0 .0 .0 .0 .0 .0 .0 .0 .0 .1),
+      ne-eqb k 8 (h .0 .0 .0 .0 .0 .0 .0 .0 .0 .0 .0 .0 .0 .0 .1),
+      ne-eqb k 9 (h .0 .0 .0 .0 .0 .0 .0 .0 .0 .0 .0 .0 .0 .1),
+      ne-eqb k 10 (h .0 .0 .0 .0 .0 .0 .0 .0 .0 .0 .0 .0 .1),
+      ne-eqb k 11 (h .0 .0 .0 .0 .0 .0 .0 .0 .0 .0 .0 .1),
+      ne-eqb k 12 (h .0 .0 .0 .0 .0 .0 .0 .0 .0 .0 .1),
+      ne-eqb k 13 (h .0 .0 .0 .0 .0 .0 .0 .0 .0 .1),
+      ne-eqb k 14 (h .0 .0 .0 .0 .0 .0 .0 .0 .1),
+      ne-eqb k 15 (h .0 .0 .0 .0 .0 .0 .0 .1),
+      ne-eqb k 20 (h .0 .0 .0 .0 .0 .0 .1),
+      ne-eqb k 21 (h .0 .0 .0 .0 .0 .1),
+      ne-eqb k 22 (h .0 .0 .0 .0 .1),
+      ne-eqb k 23 (h .0 .0 .0 .1),
+      ne-eqb k 24 (h .0 .0 .1),
+      ne-eqb k 30 (h .0 .1),
+      ne-eqb k 31 (h .1),
+    )
 
 -- ---- What the rule's function needs.
 
