@@ -1,16 +1,21 @@
 #!/usr/bin/env bash
 # Runs the program on each stored case, NAME.in, and compares what it writes with NAME.out, byte for byte.
-# The program is target/bin/pirun, which `rt check pirun` makes. The last line counts: 'N passed, M failed'.
+# The program is target/bin/pirun, which `rt check pirun` makes. A file without the other of its pair has failed.
+# The last line counts: 'N passed, M failed'.
 set -u
 cd "$(dirname "$0")" || exit 2
 program=../../target/bin/pirun
 passed=0
 failed=0
-written=$(mktemp)
+if [ ! -x "$program" ]; then
+    echo 'all: FAILED, there is no target/bin/pirun'
+    echo '0 passed, 1 failed'
+    exit 1
+fi
+written=$(mktemp) || exit 2
 trap 'rm -f "$written"' EXIT
-for input in *.in; do
-    name=${input%.in}
-    if "$program" <"$input" >"$written" && cmp -s "$written" "$name.out"; then
+for name in $(printf '%s\n' *.in *.out | sed 's/\.[a-z]*$//' | sort -u); do
+    if "$program" >"$written" <"$name.in" && cmp -s "$written" "$name.out"; then
         passed=$((passed + 1))
     else
         failed=$((failed + 1))

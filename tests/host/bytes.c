@@ -2,11 +2,6 @@
  * The byte forms. On whole words they answer as the word forms do, wherever the bytes stand; for other
  * lengths the answer follows from n, r and the length alone.
  */
-#ifndef PI_BYTES
-/* The library has no byte forms yet. */
-typedef int no_byte_forms;
-#else
-
 #include "tests.h"
 
 #include "buffers.h"
@@ -299,5 +294,3 @@ void test_bytes(size_t count, uint64_t seed)
     test_byte_lengths();
     test_bytes_by_chance(count, seed);
 }
-
-#endif

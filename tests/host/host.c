@@ -44,9 +44,7 @@ int main(int count, char **arguments)
     test_paper();
     test_refusals();
     test_chance((size_t)images, seed);
-#ifdef PI_BYTES
     test_bytes((size_t)images, seed);
-#endif
     test_threads();
     return test_close();
 }

@@ -18,12 +18,10 @@ void test_refusals(void);
 /* So many images of each sort, made by chance from a seed. */
 void test_chance(size_t count, uint64_t seed);
 
-/* Calls at once from several threads, and how much stack a call takes. */
-void test_threads(void);
-
-#ifdef PI_BYTES
 /* The byte forms against the word forms. */
 void test_bytes(size_t count, uint64_t seed);
-#endif
+
+/* Calls at once from several threads, and how much stack a call takes. */
+void test_threads(void);
 
 #endif

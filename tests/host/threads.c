@@ -100,7 +100,6 @@ static void run_words(void)
     pi_run(image, image_length, registers, image[1], PI_MOST_BUDGET, work, PI_WORK_WORDS);
 }
 
-#ifdef PI_BYTES
 static uint8_t bytes[4 * IMAGE_ROOM];
 
 static void fill_bytes(void)
@@ -125,7 +124,6 @@ static void run_bytes(void)
     pi_run_bytes(bytes, 4 * image_length, values, 8 * (size_t)image[1], PI_MOST_BUDGET, work,
                  PI_WORK_WORDS);
 }
-#endif
 
 /* A call, and where the stack stood when its thread made it. */
 typedef struct Measured {
@@ -248,9 +246,7 @@ static void test_stack(void)
             test_fault("shape %lu does not pass", (unsigned long)index);
         check = most(check, used_by(check_words));
         run = most(run, used_by(run_words));
-#ifdef PI_BYTES
         on_bytes = most(on_bytes, most(used_by(check_bytes), used_by(run_bytes)));
-#endif
     }
     if (check >= MOST_STACK || run >= MOST_STACK)
         test_fault("a call takes more than %d bytes", MOST_STACK);

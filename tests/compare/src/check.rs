@@ -64,11 +64,11 @@ pub fn compare_with(
         return Ok(answer);
     }
     let call = format!("check of {} words, work slice of {work_length} words", image.len());
-    Err(Box::new(Difference { call, faults, image: image.to_vec(), input: None }))
+    Err(Box::new(Difference { call, faults, image: image.to_vec(), bytes: Vec::new() }))
 }
 
 /// A reply as the paper would say it, with its numbers.
-fn said(reply: CheckReply) -> String {
+pub fn said(reply: CheckReply) -> String {
     let CheckReply { refusal, value, place } = reply;
     let words = match (refusal, value, place) {
         (0, COMMAND, 0) => "command".to_string(),

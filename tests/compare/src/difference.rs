@@ -1,6 +1,6 @@
 //! What differs between the engine and the second interpreter in one call, for
-//! a reader: the call, what differs, the image as a tree and as words, and the
-//! program's whole input as bytes.
+//! a reader: the call, what differs, the image as a tree and as words, and what
+//! was handed over as bytes.
 
 use second::kinds::by_number;
 use second::reader::read;
@@ -14,8 +14,8 @@ pub struct Difference {
     /// What differs, each in words; at least one.
     pub faults: Vec<String>,
     pub image: Vec<u32>,
-    /// The program's whole input; none for a call of the library.
-    pub input: Option<Vec<u8>>,
+    /// What was handed over as bytes, each with its name.
+    pub bytes: Vec<(&'static str, Vec<u8>)>,
 }
 
 impl Display for Difference {
@@ -35,16 +35,16 @@ impl Display for Difference {
             )?,
         }
         write!(to, "the image in hexadecimal:\n{}", hexadecimal(&self.image))?;
-        match &self.input {
-            None => Ok(()),
-            Some(input) => write!(to, "\nthe input byte by byte:\n{}", bytes(input)),
+        for (what, bytes) in &self.bytes {
+            write!(to, "\n{what} byte by byte:\n{}", in_hexadecimal(bytes))?;
         }
+        Ok(())
     }
 }
 
 /// Bytes in hexadecimal on one line, as `xxd -r -p` reads them.
-fn bytes(input: &[u8]) -> String {
-    input.iter().map(|byte| format!("{byte:02x}")).collect::<Vec<_>>().join(" ")
+fn in_hexadecimal(bytes: &[u8]) -> String {
+    bytes.iter().map(|byte| format!("{byte:02x}")).collect::<Vec<_>>().join(" ")
 }
 
 /// The words of an image that is no tree: its counts, then a node a line as far

@@ -3,7 +3,7 @@
 //! Nothing is tested before a call: slices of any length and any budget are
 //! handed over, as a host may hand them over.
 
-/// What `pi_check` returns. Refusal 0: the image passes, the value is the root's
+/// What `pi_check` and `pi_check_bytes` return. Refusal 0: the image passes, the value is the root's
 /// code or [`COMMAND`], and the place is 0. Otherwise the paper's number and
 /// place, and the value is 0.
 #[repr(C)]
@@ -17,7 +17,7 @@ pub struct CheckReply {
 /// The value of a root that is a command.
 pub const COMMAND: u64 = 8;
 
-/// What `pi_run` returns. Refusal 0: the run ended normally, the outcome is one
+/// What `pi_run` and `pi_run_bytes` return. Refusal 0: the run ended normally, the outcome is one
 /// of [`NONE`], [`NUMBER`], [`TRUTH`] and [`CELL`], the value is the number as a
 /// two's complement word, 0 or 1, the cell's number, or 0 for none, and the place
 /// is 0. Otherwise the paper's number and place, and outcome and value are 0.
@@ -50,6 +50,23 @@ extern "C" {
         work: *mut u64,
         work_len: usize,
     ) -> RunReply;
+
+    fn pi_check_bytes(
+        image: *const u8,
+        image_len: usize,
+        work: *mut u64,
+        work_len: usize,
+    ) -> CheckReply;
+
+    fn pi_run_bytes(
+        image: *const u8,
+        image_len: usize,
+        registers: *mut u8,
+        registers_len: usize,
+        budget: u64,
+        work: *mut u64,
+        work_len: usize,
+    ) -> RunReply;
 }
 
 /// The engine's answer to an image.
@@ -63,6 +80,28 @@ pub fn run(image: &[u32], registers: &mut [u64], budget: u64, work: &mut [u64]) 
     // Each pointer is its slice's own, and each length its slice's length.
     unsafe {
         pi_run(
+            image.as_ptr(),
+            image.len(),
+            registers.as_mut_ptr(),
+            registers.len(),
+            budget,
+            work.as_mut_ptr(),
+            work.len(),
+        )
+    }
+}
+
+/// The engine's answer to an image of bytes.
+pub fn check_bytes(image: &[u8], work: &mut [u64]) -> CheckReply {
+    // Each pointer is its slice's own, and each length its slice's length.
+    unsafe { pi_check_bytes(image.as_ptr(), image.len(), work.as_mut_ptr(), work.len()) }
+}
+
+/// The engine's run of an image of bytes over registers of 8 bytes each.
+pub fn run_bytes(image: &[u8], registers: &mut [u8], budget: u64, work: &mut [u64]) -> RunReply {
+    // Each pointer is its slice's own, and each length its slice's length.
+    unsafe {
+        pi_run_bytes(
             image.as_ptr(),
             image.len(),
             registers.as_mut_ptr(),

@@ -1,7 +1,7 @@
 //! The program's inputs with a change: bytes missing, too many, other ones.
 
+use second::bytes::words;
 use second::generate::random::Random;
-use second::program::words;
 
 /// The longest input that fits: 2,000 nodes and 16 registers.
 pub const LONGEST_THAT_FITS: usize = 8 + 8 * 2_000 + 8 * 16;
@@ -39,7 +39,7 @@ fn beyond_all_that_fit(input: &[u8], random: &mut Random) -> Vec<u8> {
 }
 
 /// One byte is another, at the beginning as often as anywhere.
-fn with_another_byte(input: &[u8], random: &mut Random) -> Vec<u8> {
+pub fn with_another_byte(input: &[u8], random: &mut Random) -> Vec<u8> {
     let mut input = input.to_vec();
     if !input.is_empty() {
         let most = if random.chance(1, 2) { input.len() } else { input.len().min(16) };

@@ -2,13 +2,16 @@
 //! interpreter.
 //!
 //! [`engine`] is the engine's C interface as safe functions. A comparison, as in
-//! [`check`] and [`run`], makes one call on [`guarded`] buffers full of junk, asks
-//! the second interpreter what must have come of it, and answers a [`difference`]
-//! where anything is otherwise: the reply, the registers, the work words, a word
-//! outside the slices. [`program`] does so with a run of the program.
-//! [`sample`] makes calls from the second interpreter's generators, [`inputs`]
-//! changes the program's inputs, and [`tally`] counts what they were answered.
+//! [`check`], [`run`] and [`bytes`], makes one call on [`guarded`] buffers full of
+//! junk, asks the second interpreter what must have come of it, and answers a
+//! [`difference`] where anything is otherwise: the reply, the registers, the work
+//! words, a word outside the slices. [`program`] does so with a run of the program.
+//! [`sample`] makes calls from the second interpreter's generators, [`byte_calls`]
+//! and [`inputs`] make others from calls on bytes and from the program's inputs, and
+//! [`tally`] counts what they were answered.
 
+pub mod byte_calls;
+pub mod bytes;
 pub mod check;
 pub mod difference;
 pub mod engine;

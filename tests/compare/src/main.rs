@@ -2,7 +2,7 @@
 
 use compare::difference::Difference;
 use compare::program::Program;
-use compare::sample::{compare_check, compare_program, compare_run};
+use compare::sample::{compare_bytes, compare_check, compare_program, compare_run};
 use compare::sample::{Mixture, Sample, CHECKED, RUN};
 use compare::tally::Tally;
 use second::generate::Family;
@@ -21,6 +21,10 @@ usage: compare COMMAND
   run COUNT SEED             compares the runs of COUNT images: a short run at
                              every budget, a long one at some
   run COUNT SEED FAMILY      the same, of one family
+  bytes COUNT SEED           compares the calls on bytes of COUNT images: whole, at
+                             some budgets, and with lengths, bytes, registers, work
+                             words or a budget changed
+  bytes COUNT SEED FAMILY    the same, of one family
   program COUNT SEED         compares what the program prints for COUNT images with
                              starting values, and for inputs made from them: cut,
                              lengthened, changed
@@ -41,9 +45,10 @@ const PROGRESS: Duration = Duration::from_secs(2);
 type Comparison = fn(Sample, &mut Tally) -> Result<(), Box<Difference>>;
 
 /// The comparisons by their command, each with the mixture of families it takes.
-const COMPARISONS: [(&str, Comparison, &Mixture); 3] = [
+const COMPARISONS: [(&str, Comparison, &Mixture); 4] = [
     ("check", compare_check, &CHECKED),
     ("run", compare_run, &RUN),
+    ("bytes", compare_bytes, &CHECKED),
     (PROGRAM, compare_program, &RUN),
 ];
 /// The comparison that needs the program.

@@ -2,7 +2,7 @@
 //! output, nothing on standard error, and exit status 0.
 
 use crate::difference::Difference;
-use second::program::words;
+use second::bytes::{integers, words};
 use std::env;
 use std::io::{ErrorKind, Write};
 use std::path::PathBuf;
@@ -144,7 +144,7 @@ pub fn compare_with(
     }
     let (image, starts) = parts(input);
     let call = format!("program on {} bytes, starting values {starts:?}", input.len());
-    Err(Box::new(Difference { call, faults, image, input: Some(input.to_vec()) }))
+    Err(Box::new(Difference { call, faults, image, bytes: vec![("the input", input.to_vec())] }))
 }
 
 /// An output without its values: the refusal, or 0, and the outcome in words.
@@ -169,6 +169,5 @@ fn quoted(bytes: &[u8]) -> String {
 fn parts(input: &[u8]) -> (Vec<u32>, Vec<i64>) {
     let nodes = words(input).first().map_or(0, |nodes| *nodes as usize);
     let (image, rest) = input.split_at(input.len().min(8 + 8 * nodes));
-    let value = |eight: &[u8]| i64::from_le_bytes(eight.try_into().expect("eight bytes"));
-    (words(image), rest.chunks_exact(8).map(value).collect())
+    (words(image), integers(rest))
 }

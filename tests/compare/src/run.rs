@@ -90,7 +90,7 @@ pub fn compare_with(
         "run of {} words, registers {starts:?}, budget {budget}, work slice of {work_length} words",
         image.len(),
     );
-    Err(Box::new(Difference { call, faults, image: image.clone(), input: None }))
+    Err(Box::new(Difference { call, faults, image: image.clone(), bytes: Vec::new() }))
 }
 
 /// The same; a difference is told at the budget where it begins to show, as far as
@@ -124,7 +124,7 @@ pub fn as_words(integers: &[i64]) -> Vec<u64> {
 }
 
 /// A reply as the paper would say it, with its numbers.
-fn in_full(reply: RunReply) -> String {
+pub fn in_full(reply: RunReply) -> String {
     let RunReply { refusal, outcome, value, place, steps } = reply;
     let words = match (refusal, outcome, value, place) {
         (0, NONE, 0, 0) => "none".to_string(),

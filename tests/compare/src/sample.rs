@@ -1,6 +1,8 @@
 //! Calls made from the second interpreter's generators, the same for the same
 //! family and seed everywhere.
 
+use crate::byte_calls::{ByteCall, NEAR_BUDGETS};
+use crate::bytes::{self, RanOnBytes};
 use crate::difference::Difference;
 use crate::inputs::changed;
 use crate::program::{self, Program};
@@ -26,6 +28,9 @@ pub const SHORT_RUN: u64 = 300;
 /// of them are compared at the greatest budget.
 pub const LONG_RUN: u64 = 20_000;
 
+/// So many changed calls on bytes are made from one sample.
+pub const CHANGED: usize = 4;
+
 /// One case of a generator.
 #[derive(Clone, Copy, Debug)]
 pub struct Sample {
@@ -36,7 +41,8 @@ pub struct Sample {
 /// How many of each hundred samples are of which family.
 pub type Mixture = [(usize, Family); 10];
 
-/// For checks. Large cases take the second interpreter longest and are seldom.
+/// For checks, and for calls on bytes. Large cases take the second interpreter
+/// longest and are seldom.
 pub const CHECKED: Mixture = [
     (20, Family::Small),
     (6, Family::Medium),
@@ -140,6 +146,63 @@ pub fn compare_run(sample: Sample, tally: &mut Tally) -> Result<(), Box<Differen
         compare(&with_a_fault(own, random), random)?;
     }
     Ok(())
+}
+
+/// Compares the calls on bytes of one sample: whole, at budgets near its end and near
+/// the limit, and some with changes; each call as a check and as a run.
+pub fn compare_bytes(sample: Sample, tally: &mut Tally) -> Result<(), Box<Difference>> {
+    let random = &mut sample.random();
+    let own = ByteCall::of(&sample.case());
+    if own.budget > MOST_BUDGET || own.work_length < WORK_WORDS {
+        compare_both(sample, &own, random, tally)?;
+    }
+    let whole = ByteCall { budget: LONG_RUN, work_length: *random.pick(&ENOUGH), ..own };
+    let ran = compare_both(sample, &whole, random, tally)?;
+    let (near, steps) = (*random.pick(&NEAR_BUDGETS), ran.reply.steps);
+    let budgets = match ran.refused() {
+        1..=refusal::WORK => vec![near],
+        _ => vec![near, steps.saturating_sub(1), steps, steps + 1],
+    };
+    for budget in budgets {
+        let call = affordable(ByteCall { budget, ..whole.clone() }, random);
+        compare_both(sample, &call, random, tally)?;
+    }
+    for _ in 0..CHANGED {
+        let call = affordable(whole.changed(random), random);
+        compare_both(sample, &call, random, tally)?;
+    }
+    Ok(())
+}
+
+/// Compares one call on bytes as a check and as a run.
+fn compare_both(
+    sample: Sample,
+    call: &ByteCall,
+    random: &mut Random,
+    tally: &mut Tally,
+) -> Result<RanOnBytes, Box<Difference>> {
+    let named = |difference| sample.named(difference);
+    let answer = bytes::compare_check(call, random).map_err(named)?;
+    let ran = bytes::compare_run(call, random).map_err(named)?;
+    let (refusal, words) = check::in_words(answer);
+    tally.count(refusal, format!("check: {words}"));
+    let (refusal, words) = run::in_words(ran.reply);
+    tally.count(refusal, format!("run: {words}"));
+    Ok(ran)
+}
+
+/// The call; of the runs that are taken for endless, all but one in twelve with a
+/// lower budget.
+fn affordable(mut call: ByteCall, random: &mut Random) -> ByteCall {
+    if (LONG_RUN + 1..=MOST_BUDGET).contains(&call.budget) {
+        let ByteCall { image, registers, work_length, .. } = &call;
+        let reply = second::bytes::run(image, &mut registers.clone(), LONG_RUN, *work_length);
+        let endless = reply.refusal().is_some_and(|refusal| refusal.number == refusal::STEPS);
+        if endless && !random.chance(1, 12) {
+            call.budget = LONG_RUN;
+        }
+    }
+    call
 }
 
 /// Compares the program on one sample: on its image with the starting values, and

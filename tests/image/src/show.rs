@@ -4,10 +4,11 @@
 
 use crate::parse::{fixed_children, wanted_name};
 use crate::stored::split;
+use second::bytes::words;
 use second::engine::{check, Answer, WORK_WORDS};
 use second::kinds::{by_number, Kind, Row, Wanted, MOST_COUNT, MOST_DEPTH, MOST_NODES};
 use second::kinds::{MOST_REGISTERS, NAMES};
-use second::program::{print_answer, words};
+use second::program::print_answer;
 use second::reader::Counts;
 
 /// The tree in these bytes: an image, or an image with its starting values. The

@@ -1,6 +1,6 @@
 //! Bytes as they are stored: an image, or an image with its starting values.
 
-use second::program::words;
+use second::bytes::{integers, words};
 use second::reader::Counts;
 use second::refusal::{Refusal, LENGTH};
 
@@ -16,7 +16,5 @@ pub fn split(bytes: &[u8]) -> Result<(Vec<u32>, Vec<i64>), Refusal> {
     if bytes.len() != image_bytes && bytes.len() != image_bytes + 8 * registers as usize {
         return Err(Refusal::whole(LENGTH));
     }
-    let value = |eight: &[u8]| i64::from_le_bytes(eight.try_into().expect("eight bytes"));
-    let values = bytes[image_bytes..].chunks_exact(8).map(value).collect();
-    Ok((all[..counts.words()].to_vec(), values))
+    Ok((all[..counts.words()].to_vec(), integers(&bytes[image_bytes..])))
 }

@@ -20,10 +20,13 @@ pub fn bytes_of(words: &[u32]) -> Vec<u8> {
     words.iter().flat_map(|word| word.to_le_bytes()).collect()
 }
 
+/// The bytes of registers: 8-byte two's complement, least byte first.
+pub fn register_bytes(registers: &[i64]) -> Vec<u8> {
+    registers.iter().flat_map(|value| value.to_le_bytes()).collect()
+}
+
 /// What the program reads from standard input: the image, then the starting
-/// values as 8-byte two's complement, least byte first.
+/// values.
 pub fn program_input(image: &[u32], registers: &[i64]) -> Vec<u8> {
-    let mut bytes = bytes_of(image);
-    bytes.extend(registers.iter().flat_map(|value| value.to_le_bytes()));
-    bytes
+    [bytes_of(image), register_bytes(registers)].concat()
 }

@@ -68,7 +68,12 @@ pub fn run(image: &[u32], registers: &mut [i64], budget: u64, work_length: usize
     if registers.len() != routine.registers as usize {
         return refused(Refusal::whole(refusal::REGISTERS), 0);
     }
-    let mut execution = Execution::start(&routine, registers, budget);
+    run_passed(&routine, registers, budget)
+}
+
+/// The steps of a routine that has passed, over as many registers as it has.
+pub fn run_passed(routine: &Routine, registers: &mut [i64], budget: u64) -> Reply {
+    let mut execution = Execution::start(routine, registers, budget);
     let reason = execution.finish(|_| {});
     registers.copy_from_slice(&execution.state().registers(registers.len()));
     match reason {

@@ -4,7 +4,8 @@
 //! and shares nothing with the engine it is held against. Data flows one way:
 //!
 //! words → [`reader`] → tree → [`checker`] → [`execution`] (states, rules,
-//! limits) → [`engine`] (the host's calls) → [`program`] (bytes to text).
+//! limits) → [`engine`] (the host's calls) → [`bytes`] (the same on bytes) and
+//! [`program`] (bytes to text).
 //!
 //! Beside that stand what test programs need: [`build`] to write a tree down,
 //! [`encode`] to turn it into an image, [`show`] to print it, and [`generate`]
@@ -12,6 +13,7 @@
 
 pub mod arithmetic;
 pub mod build;
+pub mod bytes;
 pub mod chain;
 pub mod checker;
 pub mod encode;

@@ -1,10 +1,10 @@
 //! The command line of the second interpreter.
 
-use second::engine::{check, Answer, WORK_WORDS};
+use second::bytes::{check, whole_image};
+use second::engine::{Answer, WORK_WORDS};
 use second::generate::Family;
-use second::program::{print_answer, program, with_budget, words};
-use second::reader::{read, Counts};
-use second::refusal::{self, Refusal};
+use second::program::{print_answer, program, with_budget};
+use second::reader::read;
 use second::show::{from_hexadecimal, hexadecimal, show};
 use std::io::{Read, Write};
 use std::process::ExitCode;
@@ -60,13 +60,7 @@ fn answer(arguments: &[String]) -> Result<Vec<u8>, String> {
             let budget = number(budget, "BUDGET")?;
             Ok(with_budget(&input(options)?, budget))
         }
-        ["check", options @ ..] => {
-            let answer = match whole_image(&input(options)?) {
-                Ok(image) => check(&image, WORK_WORDS),
-                Err(refusal) => Answer::Refused(refusal),
-            };
-            Ok(print_answer(answer).into())
-        }
+        ["check", options @ ..] => Ok(print_answer(check(&input(options)?, WORK_WORDS)).into()),
         ["show", options @ ..] => {
             match whole_image(&input(options)?).and_then(|image| read(&image)) {
                 Ok(routine) => Ok(show(&routine).into()),
@@ -102,19 +96,6 @@ fn input(options: &[&str]) -> Result<Vec<u8>, String> {
     let text = String::from_utf8(bytes).map_err(|_| "standard input is no text".to_string())?;
     let words = from_hexadecimal(&text).map_err(|piece| format!("{piece} is no 32-bit word"))?;
     Ok(second::encode::bytes_of(&words))
-}
-
-/// The image in these bytes. A byte count that does not fit n is 1, judged where
-/// the length is.
-fn whole_image(bytes: &[u8]) -> Result<Vec<u32>, Refusal> {
-    let image = words(bytes);
-    if let [nodes, registers, ..] = *image {
-        let counts = Counts::judge(nodes, registers)?;
-        if bytes.len() != 4 * counts.words() {
-            return Err(Refusal::whole(refusal::LENGTH));
-        }
-    }
-    Ok(image)
 }
 
 fn generate(family: &str, seed: &str, count: &str, inputs: bool) -> Result<Vec<u8>, String> {

@@ -1,6 +1,7 @@
 //! The program: standard input's bytes to standard output's text (the paper's
 //! "The program and its cases").
 
+use crate::bytes::{integers, words};
 use crate::engine::{run, Answer, Outcome, Reply, MOST_BUDGET, WORK_WORDS};
 use crate::reader::Counts;
 use crate::refusal::{self, Refusal};
@@ -37,17 +38,6 @@ fn split(input: &[u8]) -> Result<(Vec<u32>, Vec<i64>), u32> {
     }
     let (image, starts) = input.split_at(image_bytes);
     Ok((words(image), integers(starts)))
-}
-
-/// Little-endian words. Bytes at the end that make no whole word are left out.
-pub fn words(bytes: &[u8]) -> Vec<u32> {
-    let word = |four: &[u8]| u32::from_le_bytes(four.try_into().expect("four bytes"));
-    bytes.chunks_exact(4).map(word).collect()
-}
-
-fn integers(bytes: &[u8]) -> Vec<i64> {
-    let integer = |eight: &[u8]| i64::from_le_bytes(eight.try_into().expect("eight bytes"));
-    bytes.chunks_exact(8).map(integer).collect()
 }
 
 fn refused(number: u32) -> Reply {

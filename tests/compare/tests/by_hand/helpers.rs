@@ -2,18 +2,22 @@
 //! say what must come of it. The answer is the one that the engine and the second
 //! interpreter give alike.
 
+use compare::byte_calls::ByteCall;
+use compare::bytes::RanOnBytes;
 use compare::run::Ran;
 use compare::sample::SHORT_RUN;
-use compare::{check, run, Difference};
+use compare::{bytes, check, run, Difference};
 use second::build::image;
+use second::encode::{bytes_of, register_bytes};
 use second::engine::{Answer, Outcome, Reply, MOST_BUDGET, WORK_WORDS};
 use second::generate::random::Random;
 use second::generate::Case;
 use second::tree::{Place, Root};
 use second::Refusal;
 
-/// The reply and the registers after a run. It is compared at this budget and at
-/// lower ones: every one of a short run, the last ones and some more of a long.
+/// The reply and the registers after a run. It is compared at this budget, on bytes
+/// too, and at lower ones: every one of a short run, the last ones and some more of a
+/// long.
 pub fn run_at(image: &[u32], starts: &[i64], budget: u64) -> (Reply, Vec<i64>) {
     let random = &mut Random::new(budget);
     let case = Case {
@@ -23,6 +27,8 @@ pub fn run_at(image: &[u32], starts: &[i64], budget: u64) -> (Reply, Vec<i64>) {
         work_length: WORK_WORDS + random.below(3),
     };
     let Ran { reply, registers } = agreed(run::compare(&case, random));
+    let on_bytes = agreed(bytes::compare_run(&ByteCall::of(&case), random));
+    assert_eq!((on_bytes.reply, on_bytes.registers), (reply, register_bytes(&registers)));
     let lower: Vec<u64> = match reply.steps {
         steps @ 0..=SHORT_RUN => (0..=steps).collect(),
         steps => {
@@ -63,14 +69,30 @@ pub fn refused(number: u32, place: Place) -> Outcome {
     Outcome::Refused(Refusal::new(number, place))
 }
 
-/// The checker's answer to an image, given work words enough.
+/// The checker's answer to an image, given work words enough; the same on bytes.
 pub fn checked(image: &[u32]) -> Answer {
-    agreed(check::compare(image, WORK_WORDS, &mut Random::new(0)))
+    let answer = agreed(check::compare(image, WORK_WORDS, &mut Random::new(0)));
+    assert_eq!(checked_bytes(&bytes_of(image), WORK_WORDS), answer);
+    answer
 }
 
 /// The checker's answer to a tree with this many registers.
 pub fn checked_tree(registers: u32, root: impl Into<Root>) -> Answer {
     checked(&image(registers, root))
+}
+
+/// The checker's answer to an image of bytes.
+pub fn checked_bytes(image: &[u8], work_length: usize) -> Answer {
+    let call = ByteCall { image: image.to_vec(), registers: vec![], budget: 0, work_length };
+    agreed(bytes::compare_check(&call, &mut Random::new(0)))
+}
+
+/// The reply and the register bytes after a run on bytes.
+pub fn run_bytes(image: &[u8], starts: &[u8], budget: u64, work_length: usize) -> (Reply, Vec<u8>) {
+    let (image, registers) = (image.to_vec(), starts.to_vec());
+    let call = ByteCall { image, registers, budget, work_length };
+    let RanOnBytes { reply, registers } = agreed(bytes::compare_run(&call, &mut Random::new(0)));
+    (reply, registers)
 }
 
 pub fn answer_refused(number: u32, place: Place) -> Answer {

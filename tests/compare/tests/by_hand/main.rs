@@ -9,6 +9,8 @@ mod arithmetic;
 mod blocks;
 #[path = "../../../second/tests/suite/budget.rs"]
 mod budget;
+#[path = "../../../second/tests/suite/bytes.rs"]
+mod bytes;
 #[path = "../../../second/tests/suite/calls.rs"]
 mod calls;
 #[path = "../../../second/tests/suite/cases.rs"]

@@ -29,6 +29,18 @@ fn run_counts_what_it_compared() {
 }
 
 #[test]
+fn bytes_counts_what_it_compared() {
+    let (output, _, status) = compare(&["bytes", "100", "9"]);
+    assert_eq!(status, Some(0), "{output}");
+    assert!(output.contains("bytes: 100 images, "), "{output}");
+    assert!(output.contains(" calls, no difference"), "{output}");
+    assert!(
+        output.contains("  check: refused 1\n") && output.contains("  run: none\n"),
+        "{output}"
+    );
+}
+
+#[test]
 fn program_counts_what_it_compared() {
     let (output, _, status) = compare(&["program", "100", "9"]);
     assert_eq!(status, Some(0), "{output}");
@@ -61,7 +73,7 @@ fn another_program_is_named_by_pirun() {
 #[test]
 fn each_command_takes_each_family() {
     for (family, _) in second::generate::Family::ALL {
-        for command in ["check", "run", "program"] {
+        for command in ["check", "run", "bytes", "program"] {
             let (output, _, status) = compare(&[command, "3", "18446744073709551614", family]);
             assert_eq!(status, Some(0), "{output}");
             assert!(output.contains(&format!("{command}: 3 images, ")), "{output}");
@@ -75,7 +87,7 @@ fn help_goes_to_standard_output() {
     for word in ["help", "--help", "-h"] {
         let (output, error, status) = compare(&[word]);
         assert_eq!((status, error.as_str()), (Some(0), ""));
-        for command in ["check", "run", "program"] {
+        for command in ["check", "run", "bytes", "program"] {
             assert!(output.contains(&format!("  {command} COUNT SEED")));
         }
     }
@@ -83,12 +95,13 @@ fn help_goes_to_standard_output() {
 
 #[test]
 fn bad_usage_says_what_is_wrong() {
-    let cases: [(&[&str], &str); 10] = [
+    let cases: [(&[&str], &str); 11] = [
         (&[], "no command"),
         (&["compare"], "no command compare"),
         (&["check"], "check takes COUNT, SEED"),
         (&["check", "1"], "check takes COUNT, SEED"),
         (&["run", "1"], "run takes COUNT, SEED"),
+        (&["bytes", "1"], "bytes takes COUNT, SEED"),
         (&["program", "1"], "program takes COUNT, SEED"),
         (&["check", "1", "2", "small", "4"], "check takes COUNT, SEED"),
         (&["check", "many", "2"], "COUNT must be a whole number, not many"),

@@ -1,6 +1,8 @@
 //! What the tests share: comparisons that must find nothing, and the paper's
 //! images.
 
+use compare::byte_calls::ByteCall;
+use compare::bytes::{self, RanOnBytes};
 use compare::program::{self, Program};
 use compare::run::Ran;
 use compare::sample::SHORT_RUN;
@@ -43,6 +45,22 @@ pub fn agreed_tree_run(root: impl Into<Root>, starts: &[i64]) -> Ran {
         agreed_run(&case, random);
     }
     whole
+}
+
+/// What comes of a call on bytes for both.
+pub fn agreed_run_bytes(call: &ByteCall, random: &mut Random) -> RanOnBytes {
+    bytes::compare_run(call, random).unwrap_or_else(|difference| panic!("{difference}"))
+}
+
+/// The answer that both give to a call's image of bytes.
+pub fn agreed_check_bytes(call: &ByteCall, random: &mut Random) -> Answer {
+    bytes::compare_check(call, random).unwrap_or_else(|difference| panic!("{difference}"))
+}
+
+/// The refusals that both give to a call on bytes, or 0: the check's and the run's.
+pub fn refused_on_bytes(call: &ByteCall, random: &mut Random) -> (u32, u32) {
+    let refusal = agreed_check_bytes(call, random).refusal();
+    (refusal.map_or(0, |refusal| refusal.number), agreed_run_bytes(call, random).refused())
 }
 
 /// The program, which must be there.

@@ -1,6 +1,7 @@
 //! The engine held against the second interpreter: a folder a function of the
 //! engine and one for the program, a file a subject.
 
+mod bytes;
 mod check;
 mod command_line;
 mod helpers;

@@ -1,6 +1,7 @@
 //! What the tests share: run an image, say what must come of it.
 
 use second::build::image;
+use second::bytes;
 use second::engine::{check, run, Answer, Outcome, Reply, MOST_BUDGET, WORK_WORDS};
 use second::tree::{Place, Root};
 use second::Refusal;
@@ -47,6 +48,18 @@ pub fn checked(image: &[u32]) -> Answer {
 /// The checker's answer to a tree with this many registers.
 pub fn checked_tree(registers: u32, root: impl Into<Root>) -> Answer {
     checked(&image(registers, root))
+}
+
+/// The checker's answer to an image of bytes.
+pub fn checked_bytes(image: &[u8], work_length: usize) -> Answer {
+    bytes::check(image, work_length)
+}
+
+/// The reply and the register bytes after a run on bytes.
+pub fn run_bytes(image: &[u8], starts: &[u8], budget: u64, work_length: usize) -> (Reply, Vec<u8>) {
+    let mut registers = starts.to_vec();
+    let reply = bytes::run(image, &mut registers, budget, work_length);
+    (reply, registers)
 }
 
 pub fn answer_refused(number: u32, place: Place) -> Answer {

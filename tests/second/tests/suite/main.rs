@@ -7,6 +7,7 @@ mod helpers;
 mod arithmetic;
 mod blocks;
 mod budget;
+mod bytes;
 mod calls;
 mod cases;
 mod claims;

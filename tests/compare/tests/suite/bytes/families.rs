@@ -1,0 +1,95 @@
+//! Every family of the generators on bytes: some eighty thousand calls in all, as
+//! checks and as runs, about half of them with changes.
+
+use compare::sample::{compare_bytes, Sample, CHECKED};
+use compare::tally::Tally;
+use second::generate::Family;
+
+/// Compares the calls on bytes of so many images; the tally says what came up.
+fn family(family: Family, count: u64) -> Tally {
+    let mut tally = Tally::default();
+    for seed in 0..count {
+        let sample = Sample { family, seed: 0xb17e_0000 + seed };
+        compare_bytes(sample, &mut tally).unwrap_or_else(|difference| panic!("{difference}"));
+    }
+    assert!(tally.calls() >= 10 * count);
+    tally
+}
+
+/// Each of these came up, so often at least.
+fn reaches(tally: &Tally, refusals: &[u32], often: u64) {
+    for number in refusals {
+        assert!(tally.refused(*number) >= often, "{number} in\n{}", tally.text());
+    }
+}
+
+#[test]
+fn small() {
+    let tally = family(Family::Small, 700);
+    reaches(&tally, &[0, 1, 2, 3, 4, 5, 20, 21, 22, 30, 31, 32], 5);
+}
+
+#[test]
+fn medium() {
+    let tally = family(Family::Medium, 200);
+    reaches(&tally, &[0, 1, 2, 20, 21, 22, 30, 31, 32], 5);
+}
+
+#[test]
+fn large() {
+    let tally = family(Family::Large, 60);
+    reaches(&tally, &[0, 1, 2, 20, 21, 22, 30], 5);
+}
+
+#[test]
+fn faulty() {
+    let tally = family(Family::Faulty, 300);
+    reaches(&tally, &[0, 1, 2, 20, 30, 31, 32], 50);
+}
+
+#[test]
+fn limits() {
+    let tally = family(Family::Limits, 300);
+    reaches(&tally, &[0, 1, 2, 6, 20, 30, 33, 34, 35, 36], 10);
+}
+
+#[test]
+fn damaged() {
+    let tally = family(Family::Damaged, 1_000);
+    reaches(&tally, &[0, 1, 2, 3, 4, 5, 6, 10, 11, 12, 13, 14, 20, 21, 22, 30], 5);
+}
+
+#[test]
+fn shaped() {
+    let tally = family(Family::Shaped, 700);
+    reaches(&tally, &[0, 1, 2, 10, 11, 20, 21, 22, 30], 10);
+}
+
+#[test]
+fn plausible() {
+    let tally = family(Family::Plausible, 700);
+    reaches(&tally, &[0, 1, 2, 3, 4, 5, 21, 22], 10);
+}
+
+#[test]
+fn words() {
+    let tally = family(Family::Words, 400);
+    reaches(&tally, &[1, 2, 21, 22], 10);
+}
+
+#[test]
+fn host() {
+    let tally = family(Family::Host, 500);
+    reaches(&tally, &[0, 1, 2, 3, 4, 5, 10, 11, 20, 21, 22, 30], 10);
+}
+
+/// The mixture that long comparisons are made of.
+#[test]
+fn mixture() {
+    let mut tally = Tally::default();
+    for seed in 0..600 {
+        compare_bytes(Sample::mixed(seed, &CHECKED), &mut tally)
+            .unwrap_or_else(|difference| panic!("{difference}"));
+    }
+    reaches(&tally, &[0, 1, 2, 3, 4, 5, 6, 10, 11, 20, 21, 22, 30, 31, 32], 1);
+}
