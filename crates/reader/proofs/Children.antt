@@ -1,4 +1,4 @@
--- How many children a node has and what is wanted of them, by the code's tables.
+-- How many children a node has and their sorts, by the code's tables.
 use Prim.Native.Nat.{ℕ, zero, suc, _+_, _-_, _/_, _<_}
 use mathlib.Core.Path.{_≡_, refl, sym, ap, _∙_, subst}
 use mathlib.Core.List.{List, [], _∷_, _++_}
@@ -8,20 +8,19 @@ use native.Mathlib.Nat.{not-suc-le-zero}
 use native.Mathlib.Numerals.{add-one}
 use lib.Dec.{T, ltb, ltb→lt}
 use lib.ListN.{length, getD, replicate, length-replicate, length-append}
-use Rattle.rules.specs.proofs.Basics.{missing}
-use Rattle.rules.specs.paper.Kinds.{Kind, kind-of, operand-bound, operand-fits, num, boo, id, deref, valref, binary, negation, assign, loop, cseq, blk, call, bind, dseq, expression-kind, command-kind, declaration-kind, ref, abs, formal, upper-part}
+use Rattle.rules.specs.proofs.Basics.{missing, append-nothing}
+use Rattle.rules.specs.paper.Kinds.{Kind, kind-of, operand-bound, operand-fits, num, boo, id, deref, valref, binary, negation, assign, loop, cseq, blk, call, bind, dseq, expression-kind, command-kind, declaration-kind, ref, abs, formal, upper-part, Sort, an-expression, a-formal, a-block, child-sorts}
 use Rattle.rules.specs.paper.Reader.{}
 use Rattle.rules.specs.proofs.reading.ReaderNodes.{number-of}
-use Rattle.reader.specs.Scan.{Want, an-expression, a-formal, a-block, child-wants}
-use Rattle.reader.specs.Tables.{want-of, wants-by, wants-at, rest-wants, rest-wants-by, rest-wants-at, WantedAt}
+use Rattle.reader.specs.Tables.{sort-of-number, sorts-by, sorts-at, rest-sorts, rest-sorts-by, rest-sorts-at, SortedAt}
 use Rattle.reader.specs.Answers.{Passing}
 use Rattle.reader.specs.KindRows.{counts, firsts, lasts}
 use Rattle.reader.proofs.Rows.{static-count, all-below, at-each, Row-at, no-kind, a-kind, RowOf, row-at}
 use Rattle.reader.proofs.Faults.{known-low}
 
-known-wants : (k w : ℕ) (kind : Kind) → kind-of k ≡ some kind → wants-at k w ≡ child-wants kind w
-unfolding wants-at
-known-wants k w kind q = ap (wants-by w) q
+known-sorts : (k w : ℕ) (kind : Kind) → kind-of k ≡ some kind → sorts-at k w ≡ child-sorts kind w
+unfolding sorts-at
+known-sorts k w kind q = ap (sorts-by w) q
 
 pub passing-low : (k w : ℕ) → Passing k w → k < 43
 passing-low k w p = known-low k (p .which) (p .known)
@@ -43,12 +42,12 @@ abs-kind : kind-of 41 ≡ some abs
 unfolding kind-of
 abs-kind = refl
 
-pub call-count : (k w : ℕ) → k ≡ 24 → w / 64 ≡ length (wants-at k w)
-call-count k w q = sym (ap length (ap (λ j. wants-at j w) q ∙ known-wants 24 w (command-kind call) call-kind) ∙ length-replicate (w / 64) an-expression)
+pub call-count : (k w : ℕ) → k ≡ 24 → w / 64 ≡ length (sorts-at k w)
+call-count k w q = sym (ap length (ap (λ j. sorts-at j w) q ∙ known-sorts 24 w (command-kind call) call-kind) ∙ ap length (append-nothing (replicate (w / 64) an-expression)) ∙ length-replicate (w / 64) an-expression)
 
-pub abs-count : (k w : ℕ) → k ≡ 41 → w + 1 ≡ length (wants-at k w)
+pub abs-count : (k w : ℕ) → k ≡ 41 → w + 1 ≡ length (sorts-at k w)
 abs-count k w q =
-    sym (ap length (ap (λ j. wants-at j w) q ∙ known-wants 41 w abs abs-kind) ∙ length-append (replicate w a-formal) (a-block ∷ []) ∙ ap (λ j. j + 1) (length-replicate w a-formal))
+    sym (ap length (ap (λ j. sorts-at j w) q ∙ known-sorts 41 w abs abs-kind) ∙ length-append (replicate w a-formal) (a-block ∷ []) ∙ ap (λ j. j + 1) (length-replicate w a-formal))
 
 operand-low : (k w : ℕ) (p : Passing k w) (kind : Kind) → kind-of k ≡ some kind → w < operand-bound kind
 unfolding operand-fits
@@ -59,7 +58,7 @@ unfolding operand-bound
 abs-low k w p q = operand-low k w p abs (ap kind-of q ∙ abs-kind)
 
 -- any other kind
-static-same : (k w : ℕ) (kind : Kind) → kind-of k ≡ some kind → ¬ (k ≡ 24) → ¬ (k ≡ 41) → static-count kind ≡ length (child-wants kind w)
+static-same : (k w : ℕ) (kind : Kind) → kind-of k ≡ some kind → ¬ (k ≡ 24) → ¬ (k ≡ 41) → static-count kind ≡ length (child-sorts kind w)
 static-same k w (expression-kind num) q c a = refl
 static-same k w (expression-kind boo) q c a = refl
 static-same k w (expression-kind id) q c a = refl
@@ -78,22 +77,22 @@ static-same k w ref q c a = refl
 static-same k w abs q c a = absurd (a (sym (number-of k abs q)))
 static-same k w formal q c a = refl
 
-pub static-counted : (k w : ℕ) → Passing k w → ¬ (k ≡ 24) → ¬ (k ≡ 41) → getD counts k 0 ≡ length (wants-at k w)
+pub static-counted : (k w : ℕ) → Passing k w → ¬ (k ≡ 24) → ¬ (k ≡ 41) → getD counts k 0 ≡ length (sorts-at k w)
 static-counted k w p c a =
-    row-of k (p .which) (p .known) .counted ∙ static-same k w (p .which) (p .known) c a ∙ sym (ap length (known-wants k w (p .which) (p .known)))
+    row-of k (p .which) (p .known) .counted ∙ static-same k w (p .which) (p .known) c a ∙ sym (ap length (known-sorts k w (p .which) (p .known)))
 
--- ---- What is wanted of the children, from the last one back.
+-- ---- The sorts of the children, from the last one back.
 
-replicate-wants : (n : ℕ) → replicate n an-expression ≡ rest-wants (command-kind call) n
-replicate-wants zero = refl
-replicate-wants (suc zero) = refl
-replicate-wants (suc (suc n)) = ap {B = List Want} (λ r. an-expression ∷ r) (replicate-wants (suc n))
+replicate-sorts : (n : ℕ) → replicate n an-expression ≡ rest-sorts (command-kind call) n
+replicate-sorts zero = refl
+replicate-sorts (suc zero) = refl
+replicate-sorts (suc (suc n)) = ap {B = List Sort} (λ r. an-expression ∷ r) (replicate-sorts (suc n))
 
-abs-wants : (n : ℕ) → replicate n a-formal ++ (a-block ∷ []) ≡ rest-wants abs (suc n)
-abs-wants zero = refl
-abs-wants (suc n) = ap {B = List Want} (λ r. a-formal ∷ r) (abs-wants n)
+abs-sorts : (n : ℕ) → replicate n a-formal ++ (a-block ∷ []) ≡ rest-sorts abs (suc n)
+abs-sorts zero = refl
+abs-sorts (suc n) = ap {B = List Sort} (λ r. a-formal ∷ r) (abs-sorts n)
 
-rest-of : (kind : Kind) (w : ℕ) → child-wants kind w ≡ rest-wants kind (length (child-wants kind w))
+rest-of : (kind : Kind) (w : ℕ) → child-sorts kind w ≡ rest-sorts kind (length (child-sorts kind w))
 rest-of (expression-kind num) w = refl
 rest-of (expression-kind boo) w = refl
 rest-of (expression-kind id) w = refl
@@ -105,22 +104,22 @@ rest-of (command-kind assign) w = refl
 rest-of (command-kind loop) w = refl
 rest-of (command-kind cseq) w = refl
 rest-of (command-kind blk) w = refl
-rest-of (command-kind call) w = replicate-wants (upper-part w) ∙ ap (rest-wants (command-kind call)) (sym (length-replicate (upper-part w) an-expression))
+rest-of (command-kind call) w = append-nothing (replicate (upper-part w) an-expression) ∙ replicate-sorts (upper-part w) ∙ ap (rest-sorts (command-kind call)) (sym (ap length (append-nothing (replicate (upper-part w) an-expression)) ∙ length-replicate (upper-part w) an-expression))
 rest-of (declaration-kind bind) w = refl
 rest-of (declaration-kind dseq) w = refl
 rest-of ref w = refl
 rest-of abs w =
-    abs-wants w
-    ∙ ap (rest-wants abs) (sym (length-append (replicate w a-formal) (a-block ∷ []) ∙ ap (λ j. j + 1) (length-replicate w a-formal) ∙ add-one w))
+    abs-sorts w
+    ∙ ap (rest-sorts abs) (sym (length-append (replicate w a-formal) (a-block ∷ []) ∙ ap (λ j. j + 1) (length-replicate w a-formal) ∙ add-one w))
 rest-of formal w = refl
 
 -- All children, from the first on.
-pub all-wants : (k w : ℕ) → Passing k w → rest-wants-at k (length (wants-at k w)) ≡ wants-at k w
-unfolding rest-wants-at
-all-wants k w p =
-    ap (rest-wants-by (length (wants-at k w))) (p .known)
-    ∙ ap (λ l. rest-wants (p .which) (length l)) (known-wants k w (p .which) (p .known))
-    ∙ sym (rest-of (p .which) w) ∙ sym (known-wants k w (p .which) (p .known))
+pub all-sorts : (k w : ℕ) → Passing k w → rest-sorts-at k (length (sorts-at k w)) ≡ sorts-at k w
+unfolding rest-sorts-at
+all-sorts k w p =
+    ap (rest-sorts-by (length (sorts-at k w))) (p .known)
+    ∙ ap (λ l. rest-sorts (p .which) (length l)) (known-sorts k w (p .which) (p .known))
+    ∙ sym (rest-of (p .which) w) ∙ sym (known-sorts k w (p .which) (p .known))
 
 firsts-low : T (all-below (λ k. ltb (getD firsts k 0) 7) 43)
 firsts-low = tt
@@ -128,20 +127,20 @@ firsts-low = tt
 lasts-low : T (all-below (λ k. ltb (getD lasts k 0) 7) 43)
 lasts-low = tt
 
-pub last-wanted : (k left : ℕ) → k < 43 → left ≡ 1 → WantedAt k left (getD lasts k 0)
-last-wanted k left h q =
+pub last-sorted : (k left : ℕ) → k < 43 → left ≡ 1 → SortedAt k left (getD lasts k 0)
+last-sorted k left h q =
     record {
       low = ltb→lt (getD lasts k 0) 7 (at-each (λ k. ltb (getD lasts k 0) 7) 43 lasts-low k h);
-      head = λ kind p. rw q (ap {B = List Want} (λ w. w ∷ []) (sym (row-of k kind p .last)));
+      head = λ kind p. rw q (ap {B = List Sort} (λ w. w ∷ []) (sym (row-of k kind p .last)));
     }
 
-pub first-wanted : (k left : ℕ) → k < 43 → 0 < left → ¬ (left ≡ 1) → WantedAt k left (getD firsts k 0)
-first-wanted k zero h g q = absurd (not-suc-le-zero g)
-first-wanted k (suc zero) h g q = absurd (q refl)
-first-wanted k (suc (suc n)) h g q =
+pub first-sorted : (k left : ℕ) → k < 43 → 0 < left → ¬ (left ≡ 1) → SortedAt k left (getD firsts k 0)
+first-sorted k zero h g q = absurd (not-suc-le-zero g)
+first-sorted k (suc zero) h g q = absurd (q refl)
+first-sorted k (suc (suc n)) h g q =
     record {
       low = ltb→lt (getD firsts k 0) 7 (at-each (λ k. ltb (getD firsts k 0) 7) 43 firsts-low k h);
-      head = λ kind p. ap {B = List Want} (λ w. w ∷ rest-wants kind (suc n)) (sym (row-of k kind p .first)) ∙ ap {B = List Want} (λ m. want-of (getD firsts k 0) ∷ rest-wants kind m) (less n);
+      head = λ kind p. ap {B = List Sort} (λ w. w ∷ rest-sorts kind (suc n)) (sym (row-of k kind p .first)) ∙ ap {B = List Sort} (λ m. sort-of-number (getD firsts k 0) ∷ rest-sorts kind m) (less n);
     }
   where
     less : (n : ℕ) → suc n ≡ suc (suc n) - 1

@@ -7,11 +7,10 @@ use native.Mathlib.Omega.{arith}
 use lib.Dec.{T, ltb→lt, lt→ltb}
 use lib.ListN.{getD}
 use Rattle.rules.specs.proofs.Basics.{true-test, false-test}
-use Rattle.rules.specs.paper.Kinds.{Kind, kind-of, operand-bound, operand-fits, num, boo, id, deref, valref, binary, negation, assign, loop, cseq, blk, call, bind, dseq, expression-kind, command-kind, declaration-kind, ref, abs, formal, kind-number}
+use Rattle.rules.specs.paper.Kinds.{Kind, kind-of, operand-bound, operand-fits, num, boo, id, deref, valref, binary, negation, assign, loop, cseq, blk, call, bind, dseq, expression-kind, command-kind, declaration-kind, ref, abs, formal, kind-number, is-of}
 use Rattle.rules.specs.paper.Tree.{arithmetic, Eq, order, logic, Sum, Sub, Mul, Div, Lt, Le, Gt, Ge, And, Or}
 use Rattle.rules.specs.proofs.reading.ReaderNodes.{number-of}
-use Rattle.reader.specs.Scan.{accepts}
-use Rattle.reader.specs.Tables.{want-of, fault-by, fault-of}
+use Rattle.reader.specs.Tables.{sort-of-number, fault-by, fault-of}
 use Rattle.reader.specs.KindRows.{bounds, accepted}
 use Rattle.reader.proofs.Rows.{bit, Row-at, no-kind, a-kind, RowOf, row-at}
 
@@ -58,30 +57,30 @@ high-kind k h = by (kind-of k) refl
         clash : k < 43 → ⊥
         clash l = omega (arith, h, l)
 
-pub fault-high : (want k w : ℕ) → 43 ≤ k → 3 ≡ fault-of want k w
+pub fault-high : (sort k w : ℕ) → 43 ≤ k → 3 ≡ fault-of sort k w
 unfolding fault-of
-fault-high want k w h = ap (fault-by (want-of want) w) (sym (high-kind k h))
+fault-high sort k w h = ap (fault-by (sort-of-number sort) w) (sym (high-kind k h))
 
-pub fault-none : (want k w : ℕ) → k < 43 → getD bounds k 0 ≡ 0 → 3 ≡ fault-of want k w
+pub fault-none : (sort k w : ℕ) → k < 43 → getD bounds k 0 ≡ 0 → 3 ≡ fault-of sort k w
 unfolding fault-of
-fault-none want k w h z = by (row-at k h)
+fault-none sort k w h z = by (row-at k h)
   where
-    by : Row-at k → 3 ≡ fault-by (want-of want) w (kind-of k)
-    by (no-kind q b) = ap (fault-by (want-of want) w) (sym q)
+    by : Row-at k → 3 ≡ fault-by (sort-of-number sort) w (kind-of k)
+    by (no-kind q b) = ap (fault-by (sort-of-number sort) w) (sym q)
     by (a-kind kind q b row) = absurd (b z)
 
 -- With a kind in the row, the tests of the tables are those of the kind.
-module _ (want k w : ℕ) (low : k < 43) (few : want < 7) (known : ¬ (getD bounds k 0 ≡ 0)) where
-  by-row : (n : ℕ) → ((kind : Kind) → RowOf k kind → n ≡ fault-by (want-of want) w (some kind)) → n ≡ fault-of want k w
+module _ (sort k w : ℕ) (low : k < 43) (few : sort < 7) (known : ¬ (getD bounds k 0 ≡ 0)) where
+  by-row : (n : ℕ) → ((kind : Kind) → RowOf k kind → n ≡ fault-by (sort-of-number sort) w (some kind)) → n ≡ fault-of sort k w
   unfolding fault-of
   by-row n f = by (row-at k low)
     where
-      by : Row-at k → n ≡ fault-by (want-of want) w (kind-of k)
+      by : Row-at k → n ≡ fault-by (sort-of-number sort) w (kind-of k)
       by (no-kind q b) = absurd (known b)
-      by (a-kind kind q b row) = f kind row ∙ ap (fault-by (want-of want) w) (sym q)
+      by (a-kind kind q b row) = f kind row ∙ ap (fault-by (sort-of-number sort) w) (sym q)
 
-  pub fault-sort : getD accepted (want * 43 + k) 0 ≡ 0 → 5 ≡ fault-of want k w
-  fault-sort z = by-row 5 (λ kind row. refused _ (accepts (want-of want) kind) (sym (row .accepts-it want few) ∙ z))
+  pub fault-sort : getD accepted (sort * 43 + k) 0 ≡ 0 → 5 ≡ fault-of sort k w
+  fault-sort z = by-row 5 (λ kind row. refused _ (is-of (sort-of-number sort) kind) (sym (row .is-of-it sort few) ∙ z))
     where
       refused : (x : ℕ) (t : Bool) → bit t ≡ 0 → _≡_ {A = ℕ} 5 (cond t x 5)
       refused x true q = absurd (one q)
@@ -90,9 +89,9 @@ module _ (want k w : ℕ) (low : k < 43) (few : want < 7) (known : ¬ (getD boun
           one e = omega arith
       refused x false q = refl
 
-  pub fault-operand : ¬ (getD accepted (want * 43 + k) 0 ≡ 0) → getD bounds k 0 ≤ w → 4 ≡ fault-of want k w
+  pub fault-operand : ¬ (getD accepted (sort * 43 + k) 0 ≡ 0) → getD bounds k 0 ≤ w → 4 ≡ fault-of sort k w
   unfolding operand-fits
-  fault-operand z h = by-row 4 (λ kind row. refused (accepts (want-of want) kind) (operand-fits kind w) (λ e. z (row .accepts-it want few ∙ e))
+  fault-operand z h = by-row 4 (λ kind row. refused (is-of (sort-of-number sort) kind) (operand-fits kind w) (λ e. z (row .is-of-it sort few ∙ e))
       (false-test (operand-fits kind w) (λ t. clash (ltb→lt w (operand-bound kind) t) (subst (λ b. b ≤ w) (row .bounded) h))))
     where
       clash : {b : ℕ} → w < b → b ≤ w → ⊥
@@ -103,9 +102,9 @@ module _ (want k w : ℕ) (low : k < 43) (few : want < 7) (known : ¬ (getD boun
       refused true false p q = refl
       refused false u p q = absurd (p refl)
 
-  pub fault-free : ¬ (getD accepted (want * 43 + k) 0 ≡ 0) → w < getD bounds k 0 → 0 ≡ fault-of want k w
+  pub fault-free : ¬ (getD accepted (sort * 43 + k) 0 ≡ 0) → w < getD bounds k 0 → 0 ≡ fault-of sort k w
   unfolding operand-fits
-  fault-free z h = by-row 0 (λ kind row. passed (accepts (want-of want) kind) (operand-fits kind w) (λ e. z (row .accepts-it want few ∙ e))
+  fault-free z h = by-row 0 (λ kind row. passed (is-of (sort-of-number sort) kind) (operand-fits kind w) (λ e. z (row .is-of-it sort few ∙ e))
       (true-test (operand-fits kind w) (lt→ltb w (operand-bound kind) (subst (λ b. w < b) (row .bounded) h))))
     where
       passed : (t u : Bool) → ¬ (bit t ≡ 0) → u ≡ true → _≡_ {A = ℕ} 0 (cond t (cond u 0 4) 5)

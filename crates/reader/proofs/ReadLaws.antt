@@ -13,19 +13,19 @@ use lib.Seq.{getD-take, getD-drop}
 use Rattle.rules.specs.proofs.Basics.{passed-test}
 use Rattle.rules.specs.paper.Refusals.{Refusal, refusal-number}
 use Rattle.rules.specs.paper.Refusals as Refusals
-use Rattle.rules.specs.paper.Kinds.{Kind, kind-of, operand-fits}
+use Rattle.rules.specs.paper.Kinds.{Kind, kind-of, operand-fits, Sort, is-of, child-sorts}
 use Rattle.rules.specs.paper.Reader.{Node, Got, refused, got, Read, then, give, Header, or-refuse, node, nodes-of}
 use Rattle.rules.specs.claims.Listing.{a-node}
 use Rattle.rules.specs.proofs.reading.ReaderNodes.{number-of}
 use Rattle.reader.specs.Pack.{pack, node-words}
 use Rattle.reader.specs.Put.{put, set-put}
-use Rattle.reader.specs.Scan.{Want, accepts, accepting, child-wants, scan-list, scan}
-use Rattle.reader.specs.Tables.{want-of, fault-by, fault-of, wants-at, rest-wants-at}
+use Rattle.reader.specs.Scan.{accepting, scan-list, scan}
+use Rattle.reader.specs.Tables.{sort-of-number, fault-by, fault-of, sorts-at, rest-sorts-at}
 use Rattle.reader.specs.Answers.{nodes-at, Readable, Passing, Outcome}
 use Rattle.reader.specs.declared.Scanned.{Scanned}
 use Rattle.reader.specs.declared.Scanned.the-variants.{Next, Refused}
 use Rattle.reader.proofs.AnswerLaws.{two-answers, same-next, kept-same}
-use Rattle.reader.proofs.Children.{all-wants}
+use Rattle.reader.proofs.Children.{all-sorts}
 use Rattle.reader.proofs.Faults.{known-low}
 
 -- The kind and the operand of a node, in an image of n nodes.
@@ -36,13 +36,13 @@ abbrev pub operand-at : List ℕ → (n at : ℕ) → ℕ
 operand-at words n at = getD words (2 + n + at) 0
 
 -- What reading a node comes to, and reading the last so many children of a node.
-abbrev pub Node-outcome : List ℕ → (n at want levels : ℕ) → Scanned → (before after : List ℕ) → Type 0
-Node-outcome words n at want levels r before after =
-    Outcome (nodes-at words n) n at (scan levels (want-of want) at (drop at (nodes-at words n))) r before after
+abbrev pub Node-outcome : List ℕ → (n at sort levels : ℕ) → Scanned → (before after : List ℕ) → Type 0
+Node-outcome words n at sort levels r before after =
+    Outcome (nodes-at words n) n at (scan levels (sort-of-number sort) at (drop at (nodes-at words n))) r before after
 
 abbrev pub Children-outcome : List ℕ → (n at kind left levels : ℕ) → Scanned → (before after : List ℕ) → Type 0
 Children-outcome words n at kind left levels r before after =
-    Outcome (nodes-at words n) n at (scan-list (scan levels) (rest-wants-at kind left) at (drop at (nodes-at words n))) r before after
+    Outcome (nodes-at words n) n at (scan-list (scan levels) (rest-sorts-at kind left) at (drop at (nodes-at words n))) r before after
 
 -- ---- The node at a place, and past the last one.
 
@@ -88,9 +88,9 @@ found at w rest kind = got (record { place = at; kind = kind; operand = w }) (su
 abbrev fitting : (at w : ℕ) → List Node → Bool → Kind → Got (Header Kind)
 fitting at w rest t kind = cond t (found at w rest kind) (refused Refusals.Operand at)
 
-checked-node : (want : Want) (k w at : ℕ) (rest : List Node) → ¬ (fault-by want w (kind-of k) ≡ 0) → (x : Refusal) × (refusal-number x ≡ fault-by want w (kind-of k)) × (node (accepting want) at (a-node k w ∷ rest) ≡ refused x at)
+checked-node : (sort : Sort) (k w at : ℕ) (rest : List Node) → ¬ (fault-by sort w (kind-of k) ≡ 0) → (x : Refusal) × (refusal-number x ≡ fault-by sort w (kind-of k)) × (node (accepting sort) at (a-node k w ∷ rest) ≡ refused x at)
 unfolding node refusal-number
-checked-node want k w at rest h = by-kind (kind-of k) h
+checked-node sort k w at rest h = by-kind (kind-of k) h
   where
     by-operand : (kind : Kind) (t : Bool) → ¬ (_≡_ {A = ℕ} (cond t 0 4) 0) →
         (x : Refusal) × (refusal-number x ≡ cond t 0 4) × (fitting at w rest t kind ≡ refused x at)
@@ -103,16 +103,16 @@ checked-node want k w at rest h = by-kind (kind-of k) h
     by-sort kind true g = by-operand kind (operand-fits kind w) g
     by-sort kind false g = (Refusals.Tree, refl, refl)
 
-    by-kind : (o : Option Kind) → ¬ (fault-by want w o ≡ 0) →
-        (x : Refusal) × (refusal-number x ≡ fault-by want w o)
-        × (or-refuse Refusals.Kind at o (λ kind. or-refuse Refusals.Tree at (accepting want kind) (λ c. fitting at w rest (operand-fits kind w) c)) ≡ refused x at)
+    by-kind : (o : Option Kind) → ¬ (fault-by sort w o ≡ 0) →
+        (x : Refusal) × (refusal-number x ≡ fault-by sort w o)
+        × (or-refuse Refusals.Kind at o (λ kind. or-refuse Refusals.Tree at (accepting sort kind) (λ c. fitting at w rest (operand-fits kind w) c)) ≡ refused x at)
     by-kind none g = (Refusals.Kind, refl, refl)
-    by-kind (some kind) g = by-sort kind (accepts want kind) g
+    by-kind (some kind) g = by-sort kind (is-of sort kind) g
 
-passed-node : (want : Want) (k w at : ℕ) (rest : List Node) → fault-by want w (kind-of k) ≡ 0 →
-    (kind : Kind) × (kind-of k ≡ some kind) × T (operand-fits kind w) × (node (accepting want) at (a-node k w ∷ rest) ≡ found at w rest kind)
+passed-node : (sort : Sort) (k w at : ℕ) (rest : List Node) → fault-by sort w (kind-of k) ≡ 0 →
+    (kind : Kind) × (kind-of k ≡ some kind) × T (operand-fits kind w) × (node (accepting sort) at (a-node k w ∷ rest) ≡ found at w rest kind)
 unfolding node
-passed-node want k w at rest h = by-kind (kind-of k) refl h
+passed-node sort k w at rest h = by-kind (kind-of k) refl h
   where
     off : {A : Type 0} {m : ℕ} → _≡_ {A = ℕ} (suc m) 0 → A
     off e = absurd (never e)
@@ -131,76 +131,76 @@ passed-node want k w at rest h = by-kind (kind-of k) refl h
     by-sort kind true g = by-operand kind (operand-fits kind w) refl g
     by-sort kind false g = off g
 
-    by-kind : (o : Option Kind) → kind-of k ≡ o → fault-by want w o ≡ 0 →
+    by-kind : (o : Option Kind) → kind-of k ≡ o → fault-by sort w o ≡ 0 →
         (kind : Kind) × (kind-of k ≡ some kind) × T (operand-fits kind w)
-        × (or-refuse Refusals.Kind at o (λ kind. or-refuse Refusals.Tree at (accepting want kind) (λ c. fitting at w rest (operand-fits kind w) c)) ≡ found at w rest kind)
+        × (or-refuse Refusals.Kind at o (λ kind. or-refuse Refusals.Tree at (accepting sort kind) (λ c. fitting at w rest (operand-fits kind w) c)) ≡ found at w rest kind)
     by-kind none q g = off g
-    by-kind (some kind) q g = let b = by-sort kind (accepts want kind) g in (kind, q, b .0, b .1)
+    by-kind (some kind) q g = let b = by-sort kind (is-of sort kind) g in (kind, q, b .0, b .1)
 
-pub passes : (want k w : ℕ) → fault-of want k w ≡ 0 → Passing k w
+pub passes : (sort k w : ℕ) → fault-of sort k w ≡ 0 → Passing k w
 unfolding fault-of
-passes want k w h = let p = passed-node (want-of want) k w 0 [] h in record { which = p .0; known = p .1; fits = p .2 }
+passes sort k w h = let p = passed-node (sort-of-number sort) k w 0 [] h in record { which = p .0; known = p .1; fits = p .2 }
 
 -- ---- Reading a node.
 
-none-left : (d at : ℕ) (w : Want) → scan d w at [] ≡ refused Refusals.Tree at
+none-left : (d at : ℕ) (w : Sort) → scan d w at [] ≡ refused Refusals.Tree at
 unfolding scan node
 none-left zero at w = refl
 none-left (suc d) at w = refl
 
 -- a place past the last node
-pub missing-node : (words work : List ℕ) (n at want levels : ℕ) → Readable work words n at → n ≤ at →
-    Node-outcome words n at want levels (Refused 5 at) work work
+pub missing-node : (words work : List ℕ) (n at sort levels : ℕ) → Readable work words n at → n ≤ at →
+    Node-outcome words n at sort levels (Refused 5 at) work work
 unfolding refusal-number
-missing-node words work n at want levels r h =
-    subst (λ g. Outcome (nodes-at words n) n at g (Refused 5 at) work work) (sym (ap (scan levels (want-of want) at) (nodes-past words n (r .sized) at h) ∙ none-left levels at (want-of want)))
+missing-node words work n at sort levels r h =
+    subst (λ g. Outcome (nodes-at words n) n at g (Refused 5 at) work work) (sym (ap (scan levels (sort-of-number sort) at) (nodes-past words n (r .sized) at h) ∙ none-left levels at (sort-of-number sort)))
     (record { answer = refl; kept = kept-same n work })
 
 -- the node's own fault
-fault-first : (d at k w : ℕ) (want : Want) (rest : List Node) (x : Refusal) → node (accepting want) at (a-node k w ∷ rest) ≡ refused x at → scan d want at (a-node k w ∷ rest) ≡ refused x at
+fault-first : (d at k w : ℕ) (sort : Sort) (rest : List Node) (x : Refusal) → node (accepting sort) at (a-node k w ∷ rest) ≡ refused x at → scan d sort at (a-node k w ∷ rest) ≡ refused x at
 unfolding scan
-fault-first zero at k w want rest x q = rw q
-fault-first (suc d) at k w want rest x q = rw q
+fault-first zero at k w sort rest x q = rw q
+fault-first (suc d) at k w sort rest x q = rw q
 
-pub faulty-node : (words work : List ℕ) (n at want levels f : ℕ) → Readable work words n at → at < n →
-    f ≡ fault-of want (kind-at words at) (operand-at words n at) → ¬ (f ≡ 0) →
-    Node-outcome words n at want levels (Refused f at) work work
+pub faulty-node : (words work : List ℕ) (n at sort levels f : ℕ) → Readable work words n at → at < n →
+    f ≡ fault-of sort (kind-at words at) (operand-at words n at) → ¬ (f ≡ 0) →
+    Node-outcome words n at sort levels (Refused f at) work work
 unfolding fault-of
-faulty-node words work n at want levels f r h q z =
-    let c = checked-node (want-of want) (kind-at words at) (operand-at words n at) at (drop (at + 1) (nodes-at words n)) (λ e. z (q ∙ e)) in
+faulty-node words work n at sort levels f r h q z =
+    let c = checked-node (sort-of-number sort) (kind-at words at) (operand-at words n at) at (drop (at + 1) (nodes-at words n)) (λ e. z (q ∙ e)) in
     subst (λ g. Outcome (nodes-at words n) n at g (Refused f at) work work)
-    (sym (ap (scan levels (want-of want) at) (node-here words n (r .sized) at h) ∙ fault-first levels at _ _ (want-of want) _ (c .0) (c .2)))
+    (sym (ap (scan levels (sort-of-number sort) at) (node-here words n (r .sized) at h) ∙ fault-first levels at _ _ (sort-of-number sort) _ (c .0) (c .2)))
     (record { answer = ap (λ x. Refused x at) (q ∙ sym (c .1)); kept = kept-same n work })
 
 -- no level left
-deep-first : (at k w : ℕ) (want : Want) (rest : List Node) (kind : Kind) → node (accepting want) at (a-node k w ∷ rest) ≡ found at w rest kind → scan 0 want at (a-node k w ∷ rest) ≡ refused Refusals.Depth at
+deep-first : (at k w : ℕ) (sort : Sort) (rest : List Node) (kind : Kind) → node (accepting sort) at (a-node k w ∷ rest) ≡ found at w rest kind → scan 0 sort at (a-node k w ∷ rest) ≡ refused Refusals.Depth at
 unfolding scan
-deep-first at k w want rest kind q = rw q
+deep-first at k w sort rest kind q = rw q
 
-pub deep-node : (words work : List ℕ) (n at want levels : ℕ) → Readable work words n at → at < n →
-    fault-of want (kind-at words at) (operand-at words n at) ≡ 0 → levels ≡ 0 →
-    Node-outcome words n at want levels (Refused 6 at) work work
+pub deep-node : (words work : List ℕ) (n at sort levels : ℕ) → Readable work words n at → at < n →
+    fault-of sort (kind-at words at) (operand-at words n at) ≡ 0 → levels ≡ 0 →
+    Node-outcome words n at sort levels (Refused 6 at) work work
 unfolding fault-of refusal-number
-deep-node words work n at want levels r h q z =
-    let p = passed-node (want-of want) (kind-at words at) (operand-at words n at) at (drop (at + 1) (nodes-at words n)) q in
+deep-node words work n at sort levels r h q z =
+    let p = passed-node (sort-of-number sort) (kind-at words at) (operand-at words n at) at (drop (at + 1) (nodes-at words n)) q in
     subst (λ g. Outcome (nodes-at words n) n at g (Refused 6 at) work work)
-    (sym (ap (λ d. scan d (want-of want) at (drop at (nodes-at words n))) z ∙ ap (scan 0 (want-of want) at) (node-here words n (r .sized) at h) ∙ deep-first at _ _ (want-of want) _ (p .0) (p .3)))
+    (sym (ap (λ d. scan d (sort-of-number sort) at (drop at (nodes-at words n))) z ∙ ap (scan 0 (sort-of-number sort) at) (node-here words n (r .sized) at h) ∙ deep-first at _ _ (sort-of-number sort) _ (p .0) (p .3)))
     (record { answer = refl; kept = kept-same n work })
 
--- with its children: the reader goes on with what is wanted of them
-opened-node : (words : List ℕ) (n at want d : ℕ) → length words ≡ 2 + 2 * n → at < n →
-    fault-of want (kind-at words at) (operand-at words n at) ≡ 0 →
-    scan (suc d) (want-of want) at (drop at (nodes-at words n))
-    ≡ then (scan-list (scan d) (wants-at (kind-at words at) (operand-at words n at)) (at + 1) (drop (at + 1) (nodes-at words n)))
+-- with its children: the reader goes on with their sorts
+opened-node : (words : List ℕ) (n at sort d : ℕ) → length words ≡ 2 + 2 * n → at < n →
+    fault-of sort (kind-at words at) (operand-at words n at) ≡ 0 →
+    scan (suc d) (sort-of-number sort) at (drop at (nodes-at words n))
+    ≡ then (scan-list (scan d) (sorts-at (kind-at words at) (operand-at words n at)) (at + 1) (drop (at + 1) (nodes-at words n)))
     (λ below. give (node-words (kind-at words at) (operand-at words n at) at below))
-unfolding fault-of scan wants-at
-opened-node words n at want d sized h q =
+unfolding fault-of scan sorts-at
+opened-node words n at sort d sized h q =
     let k = getD words (2 + at) 0 in
     let w = getD words (2 + n + at) 0 in
-    let p = passed-node (want-of want) k w at (drop (at + 1) (nodes-at words n)) q in
-    ap (scan (suc d) (want-of want) at) (node-here words n sized at h)
+    let p = passed-node (sort-of-number sort) k w at (drop (at + 1) (nodes-at words n)) q in
+    ap (scan (suc d) (sort-of-number sort) at) (node-here words n sized at h)
     ∙ rw (p .3, p .1, number-of k (p .0) (p .1))
-    (ap (λ i. then (scan-list (scan d) (child-wants (p .0) w) i (drop (at + 1) (nodes-at words n))) (λ below. give (node-words k w at below))) (sym (add-one at)))
+    (ap (λ i. then (scan-list (scan d) (child-sorts (p .0) w) i (drop (at + 1) (nodes-at words n))) (λ below. give (node-words k w at below))) (sym (add-one at)))
 
 -- what was refused stays so, whatever would follow
 pub refused-then : (nodes : List Node) (n i at x p : ℕ) (g : Got (List ℕ)) (k : List ℕ → Read (List ℕ)) (r : Scanned) (work work′ : List ℕ) → Outcome nodes n i g r work work′ → r ≡ Refused x p →
@@ -231,8 +231,8 @@ finish-next nodes n at k w end (got ws j rest) r work work′ o e =
     after = omega (arith, o .counted)
 
 -- What `read_node` answers, from what its children's reading did.
-module _ (words work work′ : List ℕ) (n at want levels count : ℕ) (r : Scanned) (readable : Readable work words n at) (here : at < n)
-    (sound : fault-of want (kind-at words at) (operand-at words n at) ≡ 0) (deep : ¬ (levels ≡ 0)) (counted : count ≡ length (wants-at (kind-at words at) (operand-at words n at)))
+module _ (words work work′ : List ℕ) (n at sort levels count : ℕ) (r : Scanned) (readable : Readable work words n at) (here : at < n)
+    (sound : fault-of sort (kind-at words at) (operand-at words n at) ≡ 0) (deep : ¬ (levels ≡ 0)) (counted : count ≡ length (sorts-at (kind-at words at) (operand-at words n at)))
     (children : Children-outcome words n (at + 1) (kind-at words at) count (levels - 1) r work work′) where
   abbrev kind : ℕ
   kind = kind-at words at
@@ -241,24 +241,24 @@ module _ (words work work′ : List ℕ) (n at want levels count : ℕ) (r : Sca
   operand = operand-at words n at
 
   abbrev children-read : Got (List ℕ)
-  children-read = scan-list (scan (levels - 1)) (rest-wants-at kind count) (at + 1) (drop (at + 1) (nodes-at words n))
+  children-read = scan-list (scan (levels - 1)) (rest-sorts-at kind count) (at + 1) (drop (at + 1) (nodes-at words n))
 
-  opened-here : scan levels (want-of want) at (drop at (nodes-at words n)) ≡ then children-read (λ below. give (node-words kind operand at below))
+  opened-here : scan levels (sort-of-number sort) at (drop at (nodes-at words n)) ≡ then children-read (λ below. give (node-words kind operand at below))
   opened-here =
-      ap (λ d. scan d (want-of want) at (drop at (nodes-at words n))) (level levels deep)
-      ∙ opened-node words n at want (levels - 1) (readable .sized) here sound
+      ap (λ d. scan d (sort-of-number sort) at (drop at (nodes-at words n))) (level levels deep)
+      ∙ opened-node words n at sort (levels - 1) (readable .sized) here sound
       ∙ ap (λ l. then (scan-list (scan (levels - 1)) l (at + 1) (drop (at + 1) (nodes-at words n))) (λ below. give (node-words kind operand at below)))
-      (sym (ap (rest-wants-at kind) counted ∙ all-wants kind operand (passes want kind operand sound)))
+      (sym (ap (rest-sorts-at kind) counted ∙ all-sorts kind operand (passes sort kind operand sound)))
     where
       level : (d : ℕ) → ¬ (d ≡ 0) → d ≡ suc (d - 1)
       level d z = omega (arith, z)
 
-  pub node-refused : (x p : ℕ) → r ≡ Refused x p → Node-outcome words n at want levels (Refused x p) work work′
+  pub node-refused : (x p : ℕ) → r ≡ Refused x p → Node-outcome words n at sort levels (Refused x p) work work′
   node-refused x p e =
       subst (λ g. Outcome (nodes-at words n) n at g (Refused x p) work work′) (sym opened-here)
       (refused-then (nodes-at words n) n (at + 1) at x p children-read (λ below. give (node-words kind operand at below)) r work work′ children e)
 
-  pub node-next : (end : ℕ) → r ≡ Next end → Node-outcome words n at want levels (Next end) work (set work′ at (pack kind operand end))
+  pub node-next : (end : ℕ) → r ≡ Next end → Node-outcome words n at sort levels (Next end) work (set work′ at (pack kind operand end))
   node-next end e =
       subst (λ g. Outcome (nodes-at words n) n at g (Next end) work (set work′ at (pack kind operand end))) (sym opened-here)
       (finish-next (nodes-at words n) n at kind operand end children-read r work work′ children e)

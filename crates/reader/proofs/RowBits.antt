@@ -13,9 +13,9 @@ use Rattle.reader.proofs.Rows.{all-below, at-each}
 pub same-rows : (f g : ℕ → ℕ) → T (all-below (λ k. eqb (f k) (g k)) 43) → (k : ℕ) → k < 43 → f k ≡ g k
 same-rows f g t k h = eqb→eq (f k) (g k) (at-each (λ k. eqb (f k) (g k)) 43 t k h)
 
-pub accepted-row : (w mask : ℕ) → T (all-below (λ k. eqb (bit-at mask k) (getD accepted (w * 43 + k) 0)) 43) → (want k r : ℕ) → want ≡ w → k < 43 → r ≡ bit-at mask k →
-    r ≡ getD accepted (want * 43 + k) 0
-accepted-row w mask t want k r q h is = is ∙ same-rows (bit-at mask) (λ k. getD accepted (w * 43 + k) 0) t k h ∙ ap (λ v. getD accepted (v * 43 + k) 0) (sym q)
+pub accepted-row : (w mask : ℕ) → T (all-below (λ k. eqb (bit-at mask k) (getD accepted (w * 43 + k) 0)) 43) → (sort k r : ℕ) → sort ≡ w → k < 43 → r ≡ bit-at mask k →
+    r ≡ getD accepted (sort * 43 + k) 0
+accepted-row w mask t sort k r q h is = is ∙ same-rows (bit-at mask) (λ k. getD accepted (w * 43 + k) 0) t k h ∙ ap (λ v. getD accepted (v * 43 + k) 0) (sym q)
 
 pub counted-row : (two more : ℕ) → T (all-below (λ k. eqb (bit-at two k + bit-at more k) (getD counts k 0)) 43) → (k a b : ℕ) → k < 43 → a ≡ bit-at two k → b ≡ bit-at more k →
     a + b ≡ getD counts k 0
@@ -24,9 +24,9 @@ counted-row two more t k a b h p q = sums p q ∙ same-rows (λ k. bit-at two k 
     sums : {x y : ℕ} → a ≡ x → b ≡ y → a + b ≡ x + y
     sums p q = cc
 
-pub wanted-row : (wants : ℕ → ℕ) (one two four : ℕ) → T (all-below (λ k. eqb (bit-at one k + 2 * bit-at two k + 4 * bit-at four k) (wants k)) 43) → (k a b d : ℕ) → k < 43 →
-    a ≡ bit-at one k → b ≡ bit-at two k → d ≡ bit-at four k → a + 2 * b + 4 * d ≡ wants k
-wanted-row wants one two four t k a b d h p q r = sums p q r ∙ same-rows (λ k. bit-at one k + 2 * bit-at two k + 4 * bit-at four k) wants t k h
+pub sorted-row : (sorts : ℕ → ℕ) (one two four : ℕ) → T (all-below (λ k. eqb (bit-at one k + 2 * bit-at two k + 4 * bit-at four k) (sorts k)) 43) → (k a b d : ℕ) → k < 43 →
+    a ≡ bit-at one k → b ≡ bit-at two k → d ≡ bit-at four k → a + 2 * b + 4 * d ≡ sorts k
+sorted-row sorts one two four t k a b d h p q r = sums p q r ∙ same-rows (λ k. bit-at one k + 2 * bit-at two k + 4 * bit-at four k) sorts t k h
   where
     sums : {x y z : ℕ} → a ≡ x → b ≡ y → d ≡ z → a + 2 * b + 4 * d ≡ x + 2 * y + 4 * z
     sums p q r = cc

@@ -9,10 +9,9 @@ use native.Mathlib.Nat.{not-suc-le-zero}
 use lib.Dec.{T, eqb, eqb→eq, eqb-refl}
 use lib.ListN.{getD}
 use Rattle.rules.specs.proofs.Basics.{and-left, and-right}
-use Rattle.rules.specs.paper.Kinds.{Kind, kind-of, operand-bound, num, boo, id, deref, valref, binary, negation, assign, loop, cseq, blk, call, bind, dseq, expression-kind, command-kind, declaration-kind, ref, abs, formal}
-use Rattle.reader.specs.Scan.{Want, an-expression, a-command, a-declaration, a-bound, a-formal, a-block, a-root, accepts}
+use Rattle.rules.specs.paper.Kinds.{Kind, kind-of, operand-bound, num, boo, id, deref, valref, binary, negation, assign, loop, cseq, blk, call, bind, dseq, expression-kind, command-kind, declaration-kind, ref, abs, formal, Sort, an-expression, a-command, a-declaration, a-bound, a-formal, a-block, a-root, is-of}
 use Rattle.reader.specs.KindRows.{bounds, accepted, counts, firsts, lasts}
-use Rattle.reader.specs.Tables.{want-of, first-want, last-want}
+use Rattle.reader.specs.Tables.{sort-of-number, first-sort, last-sort}
 
 -- ---- One test for all rows.
 
@@ -35,14 +34,14 @@ abbrev pub bit : Bool → ℕ
 bit true = 1
 bit false = 0
 
-abbrev want-number : Want → ℕ
-want-number an-expression = 0
-want-number a-command = 1
-want-number a-declaration = 2
-want-number a-bound = 3
-want-number a-formal = 4
-want-number a-block = 5
-want-number a-root = 6
+abbrev sort-number : Sort → ℕ
+sort-number an-expression = 0
+sort-number a-command = 1
+sort-number a-declaration = 2
+sort-number a-bound = 3
+sort-number a-formal = 4
+sort-number a-block = 5
+sort-number a-root = 6
 
 -- how many children a kind has, but for a Call and an Abs
 abbrev pub static-count : Kind → ℕ
@@ -68,9 +67,9 @@ abbrev row-by : ℕ → Option Kind → Bool
 row-by k none = eqb (getD bounds k 0) 0
 row-by k (some kind) =
     not (eqb (getD bounds k 0) 0) && (eqb (getD bounds k 0) (operand-bound kind) &&
-    (all-below (λ w. eqb (getD accepted (w * 43 + k) 0) (bit (accepts (want-of w) kind))) 7 &&
+    (all-below (λ w. eqb (getD accepted (w * 43 + k) 0) (bit (is-of (sort-of-number w) kind))) 7 &&
     (eqb (getD counts k 0) (static-count kind) &&
-    (eqb (getD firsts k 0) (want-number (first-want kind)) && eqb (getD lasts k 0) (want-number (last-want kind))))))
+    (eqb (getD firsts k 0) (sort-number (first-sort kind)) && eqb (getD lasts k 0) (sort-number (last-sort kind))))))
 
 rows-hold : T (all-below (λ k. row-by k (kind-of k)) 43)
 unfolding kind-of operand-bound
@@ -79,34 +78,34 @@ rows-hold = tt
 -- What the tables hold in the row of a kind.
 pub record RowOf (k : ℕ) (kind : Kind) : Type 0 where
   pub bounded : getD bounds k 0 ≡ operand-bound kind
-  pub accepts-it : (w : ℕ) → w < 7 → getD accepted (w * 43 + k) 0 ≡ bit (accepts (want-of w) kind)
+  pub is-of-it : (w : ℕ) → w < 7 → getD accepted (w * 43 + k) 0 ≡ bit (is-of (sort-of-number w) kind)
   pub counted : getD counts k 0 ≡ static-count kind
-  pub first : want-of (getD firsts k 0) ≡ first-want kind
-  pub last : want-of (getD lasts k 0) ≡ last-want kind
+  pub first : sort-of-number (getD firsts k 0) ≡ first-sort kind
+  pub last : sort-of-number (getD lasts k 0) ≡ last-sort kind
 
-want-back : (w : Want) → want-of (want-number w) ≡ w
-want-back an-expression = refl
-want-back a-command = refl
-want-back a-declaration = refl
-want-back a-bound = refl
-want-back a-formal = refl
-want-back a-block = refl
-want-back a-root = refl
+sort-back : (w : Sort) → sort-of-number (sort-number w) ≡ w
+sort-back an-expression = refl
+sort-back a-command = refl
+sort-back a-declaration = refl
+sort-back a-bound = refl
+sort-back a-formal = refl
+sort-back a-block = refl
+sort-back a-root = refl
 
 row-some : (k : ℕ) (kind : Kind) → T (row-by k (some kind)) → RowOf k kind
 row-some k kind t =
     let t₁ = and-right (not (eqb (getD bounds k 0) 0)) _ t in
     let t₂ = and-right (eqb (getD bounds k 0) (operand-bound kind)) _ t₁ in
-    let t₃ = and-right (all-below (λ w. eqb (getD accepted (w * 43 + k) 0) (bit (accepts (want-of w) kind))) 7) _ t₂ in
+    let t₃ = and-right (all-below (λ w. eqb (getD accepted (w * 43 + k) 0) (bit (is-of (sort-of-number w) kind))) 7) _ t₂ in
     let t₄ = and-right (eqb (getD counts k 0) (static-count kind)) _ t₃ in
-    let f : getD firsts k 0 ≡ want-number (first-want kind) = eqb→eq (getD firsts k 0) _ (and-left (eqb (getD firsts k 0) (want-number (first-want kind))) _ t₄) in
-    let l : getD lasts k 0 ≡ want-number (last-want kind) = eqb→eq (getD lasts k 0) _ (and-right (eqb (getD firsts k 0) (want-number (first-want kind))) (eqb (getD lasts k 0) (want-number (last-want kind))) t₄) in
+    let f : getD firsts k 0 ≡ sort-number (first-sort kind) = eqb→eq (getD firsts k 0) _ (and-left (eqb (getD firsts k 0) (sort-number (first-sort kind))) _ t₄) in
+    let l : getD lasts k 0 ≡ sort-number (last-sort kind) = eqb→eq (getD lasts k 0) _ (and-right (eqb (getD firsts k 0) (sort-number (first-sort kind))) (eqb (getD lasts k 0) (sort-number (last-sort kind))) t₄) in
     record {
       bounded = eqb→eq (getD bounds k 0) (operand-bound kind) (and-left (eqb (getD bounds k 0) (operand-bound kind)) _ t₁);
-      accepts-it = λ w h. eqb→eq (getD accepted (w * 43 + k) 0) (bit (accepts (want-of w) kind)) (at-each (λ w. eqb (getD accepted (w * 43 + k) 0) (bit (accepts (want-of w) kind))) 7 (and-left (all-below (λ w. eqb (getD accepted (w * 43 + k) 0) (bit (accepts (want-of w) kind))) 7) _ t₂) w h);
+      is-of-it = λ w h. eqb→eq (getD accepted (w * 43 + k) 0) (bit (is-of (sort-of-number w) kind)) (at-each (λ w. eqb (getD accepted (w * 43 + k) 0) (bit (is-of (sort-of-number w) kind))) 7 (and-left (all-below (λ w. eqb (getD accepted (w * 43 + k) 0) (bit (is-of (sort-of-number w) kind))) 7) _ t₂) w h);
       counted = eqb→eq (getD counts k 0) (static-count kind) (and-left (eqb (getD counts k 0) (static-count kind)) _ t₃);
-      first = ap want-of f ∙ want-back (first-want kind);
-      last = ap want-of l ∙ want-back (last-want kind);
+      first = ap sort-of-number f ∙ sort-back (first-sort kind);
+      last = ap sort-of-number l ∙ sort-back (last-sort kind);
     }
 
 -- The row of a number below 43: no kind and bound 0, or a kind and its row.

@@ -6,7 +6,7 @@ ghost use Prim.Native.Nat.{_<_, _≤_};
 ghost use lib.ListN.{length, drop, getD};
 ghost use Rattle.rules.specs.paper.Reader.{read};
 ghost use Rattle.reader.specs.Scan.{scan};
-ghost use Rattle.reader.specs.Tables.{want-of};
+ghost use Rattle.reader.specs.Tables.{sort-of-number};
 ghost use Rattle.reader.specs.Pack.{pack, packed-kind, packed-operand, packed-end};
 ghost use Rattle.reader.specs.Answers.{nodes-at, Readable, Outcome, ShapeAnswer};
 
@@ -36,20 +36,20 @@ fn read_node(
     image: &[u32],
     n: usize,
     at: usize,
-    want: usize,
+    sort: usize,
     levels: usize,
 ) -> Scanned
     requires { ⌜ Readable (now work) (now image) n at ⌝ }
-    requires { ⌜ want < 7 ⌝ }
+    requires { ⌜ sort < 7 ⌝ }
     requires { ⌜ levels ≤ 64 ⌝ }
-    ensures { λ r. ⌜ Outcome (nodes-at (now (image .entry)) n) n at (scan levels (want-of want) at (drop at (nodes-at (now (image .entry)) n))) r (now (work .entry)) (now (work .exit)) ⌝ }
+    ensures { λ r. ⌜ Outcome (nodes-at (now (image .entry)) n) n at (scan levels (sort-of-number sort) at (drop at (nodes-at (now (image .entry)) n))) r (now (work .entry)) (now (work .exit)) ⌝ }
 {
     if n <= at {
         return Scanned::Refused(5, at);
     }
     let kind = image[2 + at] as usize;
     let operand = image[2 + n + at] as u64;
-    let fault = tables::node_fault(kind, operand, want);
+    let fault = tables::node_fault(kind, operand, sort);
     if fault != 0 {
         return Scanned::Refused(fault, at);
     }
@@ -59,8 +59,8 @@ fn read_node(
     let mut left = tables::child_count(kind, operand);
     let mut end = at + 1;
     while left != 0 {
-        let child_want = tables::child_want(kind, left);
-        let child = read_node(work, image, n, end, child_want, levels - 1);
+        let child_sort = tables::child_sort(kind, left);
+        let child = read_node(work, image, n, end, child_sort, levels - 1);
         let Scanned::Next(next) = child else {
             return child;
         };

@@ -1,10 +1,9 @@
-// The table of kinds, by numbers: what a node's operand is below, where a kind may stand, how many children it has and what is wanted
-// of them.
+// The table of kinds, by numbers: what a node's operand is below, where a kind may stand, how many children it has and their sorts.
 ghost use mathlib.Core.Path.{_≡_};
 ghost use Prim.Native.Nat.{_+_, _*_, _<_};
 ghost use lib.ListN.{length, getD};
 ghost use Rattle.reader.specs.KindRows.{bounds, accepted, counts, firsts, lasts, bit-at};
-ghost use Rattle.reader.specs.Tables.{fault-of, wants-at, WantedAt};
+ghost use Rattle.reader.specs.Tables.{fault-of, sorts-at, SortedAt};
 ghost use Rattle.reader.specs.Answers.{Passing};
 
 // One bit of a mask over the kinds.
@@ -38,28 +37,28 @@ fn bound(kind: usize) -> u64
     63 * has(1074987016, kind) + has(1102748844024, kind)
 }
 
-// 1 where a kind may stand where this is wanted.
-fn stands(want: usize, kind: usize) -> u64
+// 1 where a kind is of a sort.
+fn stands(sort: usize, kind: usize) -> u64
     requires { ⌜ kind < 43 ⌝ }
-    requires { ⌜ want < 7 ⌝ }
-    ensures { λ r. ⌜ r ≡ getD accepted (want * 43 + kind) 0 ⌝ }
+    requires { ⌜ sort < 7 ⌝ }
+    ensures { λ r. ⌜ r ≡ getD accepted (sort * 43 + kind) 0 ⌝ }
 {
-    if want == 0 {
+    if sort == 0 {
         return has(262142, kind);
     }
-    if want == 1 {
+    if sort == 1 {
         return has(32505856, kind);
     }
-    if want == 2 {
+    if sort == 2 {
         return has(3221225472, kind);
     }
-    if want == 3 {
+    if sort == 3 {
         return has(3298535145470, kind);
     }
-    if want == 4 {
+    if sort == 4 {
         return has(4398046511104, kind);
     }
-    if want == 5 {
+    if sort == 5 {
         return has(8388608, kind);
     }
     has(32767998, kind)
@@ -73,7 +72,7 @@ fn count(kind: usize) -> u64
     has(2162196464, kind) + has(1102748647408, kind)
 }
 
-// What is wanted of a child that is not the last.
+// The sort of a child that is not the last.
 fn first(kind: usize) -> u64
     requires { ⌜ kind < 43 ⌝ }
     ensures { λ r. ⌜ r ≡ getD firsts kind 0 ⌝ }
@@ -81,7 +80,7 @@ fn first(kind: usize) -> u64
     has(1077936128, kind) + 2 * has(3229614080, kind) + 4 * has(2199023255552, kind)
 }
 
-// What is wanted of the last child.
+// The sort of the last child.
 fn last(kind: usize) -> u64
     requires { ⌜ kind < 43 ⌝ }
     ensures { λ r. ⌜ r ≡ getD lasts kind 0 ⌝ }
@@ -90,9 +89,9 @@ fn last(kind: usize) -> u64
 }
 
 // The checks of a node but its depth: kind (3), wrong sort (5), operand (4); 0 where it passes them.
-pub(crate) fn node_fault(kind: usize, operand: u64, want: usize) -> u64
-    requires { ⌜ want < 7 ⌝ }
-    ensures { λ r. ⌜ r ≡ fault-of want kind operand ⌝ }
+pub(crate) fn node_fault(kind: usize, operand: u64, sort: usize) -> u64
+    requires { ⌜ sort < 7 ⌝ }
+    ensures { λ r. ⌜ r ≡ fault-of sort kind operand ⌝ }
 {
     if 43 <= kind {
         return 3;
@@ -101,7 +100,7 @@ pub(crate) fn node_fault(kind: usize, operand: u64, want: usize) -> u64
     if limit == 0 {
         return 3;
     }
-    let accepted = stands(want, kind);
+    let accepted = stands(sort, kind);
     if accepted == 0 {
         return 5;
     }
@@ -114,7 +113,7 @@ pub(crate) fn node_fault(kind: usize, operand: u64, want: usize) -> u64
 // How many children a node has.
 pub(crate) fn child_count(kind: usize, operand: u64) -> usize
     requires { ⌜ Passing kind operand ⌝ }
-    ensures { λ r. ⌜ r ≡ length (wants-at kind operand) ⌝ }
+    ensures { λ r. ⌜ r ≡ length (sorts-at kind operand) ⌝ }
 {
     if kind == 24 {
         return (operand / 64) as usize;
@@ -125,11 +124,11 @@ pub(crate) fn child_count(kind: usize, operand: u64) -> usize
     count(kind) as usize
 }
 
-// What is wanted of the child that has this many with it to come.
-pub(crate) fn child_want(kind: usize, left: usize) -> usize
+// The sort of the child that has this many with it to come.
+pub(crate) fn child_sort(kind: usize, left: usize) -> usize
     requires { ⌜ kind < 43 ⌝ }
     requires { ⌜ 0 < left ⌝ }
-    ensures { λ r. ⌜ WantedAt kind left r ⌝ }
+    ensures { λ r. ⌜ SortedAt kind left r ⌝ }
 {
     if left == 1 {
         last(kind) as usize

@@ -1,7 +1,7 @@
--- `tables::first` answers the row of what is wanted of the children before the last.
+-- `tables::first` answers the row of the sorts of the children before the last.
 use lib.ListN.{getD}
 use Rattle.reader.specs.KindRows.{firsts}
-use Rattle.reader.proofs.RowBits.{wanted-row}
+use Rattle.reader.proofs.RowBits.{sorted-row}
 use borrow.Author.Needs.{needs}
 use Rattle.reader.proofs.tables.first.Statement.{statement}
 use Rattle.reader.proofs.tables.first.Tie as tie
@@ -31,7 +31,7 @@ add-result-2 : tie.Need-add-result-2
 add-result-2 c = search needs
 
 returns : tie.Need-returns
-returns c = wanted-row (λ k. getD firsts k 0) 1077936128 3229614080 2199023255552 tt _ _ _ _ (c .before .before .before .pre) (c .before .before .has .ensures) (c .before .has2 .ensures) (c .has3 .ensures)
+returns c = sorted-row (λ k. getD firsts k 0) 1077936128 3229614080 2199023255552 tt _ _ _ _ (c .before .before .before .pre) (c .before .before .has .ensures) (c .before .has2 .ensures) (c .has3 .ensures)
 
 pub first-spec : {M : Type 1} → statement M
 first-spec =

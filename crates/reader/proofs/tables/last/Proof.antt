@@ -1,7 +1,7 @@
--- `tables::last` answers the row of what is wanted of the last child.
+-- `tables::last` answers the row of the sort of the last child.
 use lib.ListN.{getD}
 use Rattle.reader.specs.KindRows.{lasts}
-use Rattle.reader.proofs.RowBits.{wanted-row}
+use Rattle.reader.proofs.RowBits.{sorted-row}
 use borrow.Author.Needs.{needs}
 use Rattle.reader.proofs.tables.last.Statement.{statement}
 use Rattle.reader.proofs.tables.last.Tie as tie
@@ -31,7 +31,7 @@ add-result-2 : tie.Need-add-result-2
 add-result-2 c = search needs
 
 returns : tie.Need-returns
-returns c = wanted-row (λ k. getD lasts k 0) 2200111677440 3221225472 2199023255552 tt _ _ _ _ (c .before .before .before .pre) (c .before .before .has .ensures) (c .before .has2 .ensures) (c .has3 .ensures)
+returns c = sorted-row (λ k. getD lasts k 0) 2200111677440 3221225472 2199023255552 tt _ _ _ _ (c .before .before .before .pre) (c .before .before .has .ensures) (c .before .has2 .ensures) (c .has3 .ensures)
 
 pub last-spec : {M : Type 1} → statement M
 last-spec =

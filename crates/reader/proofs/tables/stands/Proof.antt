@@ -49,7 +49,7 @@ has-requires-7 c κs = search needs
 
 returns-7 : tie.Need-returns-7
 returns-7 c =
-    accepted-row 6 32767998 tt (c .before .before .before .before .before .before .before .args .want) _ _ (omega (arith, c .before .before .before .before .before .before .if1 .left, c .before .before .before .before .before .if2 .left, c .before .before .before .before .if3 .left, c .before .before .before .if4 .left, c .before .before .if5 .left, c .before .if6 .left, c .before .before .before .before .before .before .before .pre .1)) (c .before .before .before .before .before .before .before .pre .0) (c .has7 .ensures)
+    accepted-row 6 32767998 tt (c .before .before .before .before .before .before .before .args .sort) _ _ (omega (arith, c .before .before .before .before .before .before .if1 .left, c .before .before .before .before .before .if2 .left, c .before .before .before .before .if3 .left, c .before .before .before .if4 .left, c .before .before .if5 .left, c .before .if6 .left, c .before .before .before .before .before .before .before .pre .1)) (c .before .before .before .before .before .before .before .pre .0) (c .has7 .ensures)
 
 pub stands-spec : {M : Type 1} → statement M
 stands-spec =
