@@ -20,13 +20,12 @@ use Rattle.rules.specs.proofs.reading.ReaderNodes.{number-of}
 use Rattle.reader.specs.Pack.{pack, node-words}
 use Rattle.reader.specs.Put.{put, set-put}
 use Rattle.reader.specs.Scan.{accepting, scan-list, scan}
-use Rattle.reader.specs.Tables.{sort-of-number, fault-by, fault-of, sorts-at, rest-sorts-at}
+use Rattle.reader.specs.Tables.{sort-of-number, row-word, row-at, fault-by, fault-of, SortedAt}
 use Rattle.reader.specs.Answers.{nodes-at, Readable, Passing, Outcome}
 use Rattle.reader.specs.declared.Scanned.{Scanned}
 use Rattle.reader.specs.declared.Scanned.the-variants.{Next, Refused}
 use Rattle.reader.proofs.AnswerLaws.{two-answers, same-next, kept-same}
-use Rattle.reader.proofs.Children.{all-sorts}
-use Rattle.reader.proofs.Faults.{known-low}
+use Rattle.reader.proofs.TableRows.{row-of-number, known-low}
 
 -- The kind and the operand of a node, in an image of n nodes.
 abbrev pub kind-at : List ℕ → ℕ → ℕ
@@ -35,14 +34,22 @@ kind-at words at = getD words (2 + at) 0
 abbrev pub operand-at : List ℕ → (n at : ℕ) → ℕ
 operand-at words n at = getD words (2 + n + at) 0
 
--- What reading a node comes to, and reading the last so many children of a node.
+-- The sorts of the children of a node with this kind and operand.
+abbrev sorts-by : (operand : ℕ) → Option Kind → List Sort
+sorts-by w none = []
+sorts-by w (some k) = child-sorts k w
+
+unfoldable pub node-sorts : (kind operand : ℕ) → List Sort
+node-sorts k w = sorts-by w (kind-of k)
+
+-- What reading a node comes to, and reading nodes of these sorts.
 abbrev pub Node-outcome : List ℕ → (n at sort levels : ℕ) → Scanned → (before after : List ℕ) → Type 0
 Node-outcome words n at sort levels r before after =
     Outcome (nodes-at words n) n at (scan levels (sort-of-number sort) at (drop at (nodes-at words n))) r before after
 
-abbrev pub Children-outcome : List ℕ → (n at kind left levels : ℕ) → Scanned → (before after : List ℕ) → Type 0
-Children-outcome words n at kind left levels r before after =
-    Outcome (nodes-at words n) n at (scan-list (scan levels) (rest-sorts-at kind left) at (drop at (nodes-at words n))) r before after
+abbrev pub Children-outcome : List ℕ → (n at : ℕ) → List Sort → (levels : ℕ) → Scanned → (before after : List ℕ) → Type 0
+Children-outcome words n at sorts levels r before after =
+    Outcome (nodes-at words n) n at (scan-list (scan levels) sorts at (drop at (nodes-at words n))) r before after
 
 -- ---- The node at a place, and past the last one.
 
@@ -191,9 +198,9 @@ deep-node words work n at sort levels r h q z =
 opened-node : (words : List ℕ) (n at sort d : ℕ) → length words ≡ 2 + 2 * n → at < n →
     fault-of sort (kind-at words at) (operand-at words n at) ≡ 0 →
     scan (suc d) (sort-of-number sort) at (drop at (nodes-at words n))
-    ≡ then (scan-list (scan d) (sorts-at (kind-at words at) (operand-at words n at)) (at + 1) (drop (at + 1) (nodes-at words n)))
+    ≡ then (scan-list (scan d) (node-sorts (kind-at words at) (operand-at words n at)) (at + 1) (drop (at + 1) (nodes-at words n)))
     (λ below. give (node-words (kind-at words at) (operand-at words n at) at below))
-unfolding fault-of scan sorts-at
+unfolding fault-of scan node-sorts
 opened-node words n at sort d sized h q =
     let k = getD words (2 + at) 0 in
     let w = getD words (2 + n + at) 0 in
@@ -231,9 +238,9 @@ finish-next nodes n at k w end (got ws j rest) r work work′ o e =
     after = omega (arith, o .counted)
 
 -- What `read_node` answers, from what its children's reading did.
-module _ (words work work′ : List ℕ) (n at sort levels count : ℕ) (r : Scanned) (readable : Readable work words n at) (here : at < n)
-    (sound : fault-of sort (kind-at words at) (operand-at words n at) ≡ 0) (deep : ¬ (levels ≡ 0)) (counted : count ≡ length (sorts-at (kind-at words at) (operand-at words n at)))
-    (children : Children-outcome words n (at + 1) (kind-at words at) count (levels - 1) r work work′) where
+module _ (words work work′ : List ℕ) (n at sort levels : ℕ) (r : Scanned) (readable : Readable work words n at) (here : at < n)
+    (sound : fault-of sort (kind-at words at) (operand-at words n at) ≡ 0) (deep : ¬ (levels ≡ 0))
+    (children : Children-outcome words n (at + 1) (node-sorts (kind-at words at) (operand-at words n at)) (levels - 1) r work work′) where
   abbrev kind : ℕ
   kind = kind-at words at
 
@@ -241,14 +248,12 @@ module _ (words work work′ : List ℕ) (n at sort levels count : ℕ) (r : Sca
   operand = operand-at words n at
 
   abbrev children-read : Got (List ℕ)
-  children-read = scan-list (scan (levels - 1)) (rest-sorts-at kind count) (at + 1) (drop (at + 1) (nodes-at words n))
+  children-read = scan-list (scan (levels - 1)) (node-sorts kind operand) (at + 1) (drop (at + 1) (nodes-at words n))
 
   opened-here : scan levels (sort-of-number sort) at (drop at (nodes-at words n)) ≡ then children-read (λ below. give (node-words kind operand at below))
   opened-here =
       ap (λ d. scan d (sort-of-number sort) at (drop at (nodes-at words n))) (level levels deep)
       ∙ opened-node words n at sort (levels - 1) (readable .sized) here sound
-      ∙ ap (λ l. then (scan-list (scan (levels - 1)) l (at + 1) (drop (at + 1) (nodes-at words n))) (λ below. give (node-words kind operand at below)))
-      (sym (ap (rest-sorts-at kind) counted ∙ all-sorts kind operand (passes sort kind operand sound)))
     where
       level : (d : ℕ) → ¬ (d ≡ 0) → d ≡ suc (d - 1)
       level d z = omega (arith, z)
@@ -265,16 +270,29 @@ module _ (words work work′ : List ℕ) (n at sort levels count : ℕ) (r : Sca
 
 -- ---- What the calls ask.
 
--- A number that a kind has.
-pub record KindKnown (kind : ℕ) : Type 0 where
-  pub which : Kind
-  pub known : kind-of kind ≡ some which
+module _ (sort k w : ℕ) (sound : fault-of sort k w ≡ 0) where
+  -- the kind of a node that passes its checks
+  abbrev kind-there : Kind
+  kind-there = passes sort k w sound .which
 
-pub known-below : (k : ℕ) → KindKnown k → k < 43
-known-below k h = known-low k (h .which) (h .known)
+  pub kind-low : k < 64
+  kind-low = known-low k _ (passes sort k w sound .known)
 
-pub kind-known : (k w : ℕ) → Passing k w → KindKnown k
-kind-known k w p = record { which = p .which; known = p .known }
+  row-there : (row : ℕ) → row ≡ row-at k → row ≡ row-word kind-there
+  row-there row q = q ∙ row-of-number k kind-there (passes sort k w sound .known)
+
+  sorts-there : child-sorts kind-there w ≡ node-sorts k w
+  unfolding node-sorts
+  sorts-there = sym (ap (sorts-by w) (passes sort k w sound .known))
+
+  -- what its row says of its children
+  pub count-there : (row count : ℕ) → row ≡ row-at k → ((c : Kind) → row ≡ row-word c → count ≡ length (child-sorts c w)) → count ≡ length (node-sorts k w)
+  count-there row count q f = f kind-there (row-there row q) ∙ ap length sorts-there
+
+  pub sort-there : (row left s : ℕ) → row ≡ row-at k → ((c : Kind) (v : ℕ) → row ≡ row-word c → left ≤ length (child-sorts c v) → SortedAt (child-sorts c v) left s) →
+      left ≤ length (node-sorts k w) → SortedAt (node-sorts k w) left s
+  sort-there row left s q f h =
+      subst (λ l. SortedAt l left s) sorts-there (f kind-there w (row-there row q) (subst (λ l. left ≤ length l) (sym sorts-there) h))
 
 pub child-readable : (words work : List ℕ) (n at : ℕ) → Readable work words n at → at < n → Readable work words n (at + 1)
 child-readable words work n at r h = record { sized = r .sized; few = r .few; room = r .room; within = omega arith }

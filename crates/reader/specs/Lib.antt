@@ -5,4 +5,3 @@ pub mod Tables
 pub mod Answers
 pub mod Stored
 pub mod StoredLaws
-pub mod KindRows

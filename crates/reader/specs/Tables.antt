@@ -1,12 +1,28 @@
--- The table of kinds as the code has it: by numbers.
-use Prim.Native.Nat.{ℕ, zero, suc, _-_, _<_}
+-- The table of kinds as the code has it: one row a kind, packed in a word, and what is asked of a row.
+use Prim.Native.Nat.{ℕ, zero, suc, _+_, _-_, _*_, _^_, _<_}
 use mathlib.Core.Path.{_≡_}
-use mathlib.Core.Bool.{cond}
+use mathlib.Core.Bool.{Bool, true, false, cond}
 use mathlib.Core.List.{List, [], _∷_}
 use mathlib.Core.Option.{Option, none, some}
-use Rattle.rules.specs.paper.Kinds.{Kind, assign, loop, cseq, blk, call, bind, dseq, expression-kind, command-kind, declaration-kind, ref, abs, formal, kind-of, operand-fits, Sort, an-expression, a-command, a-declaration, a-bound, a-formal, a-block, a-root, is-of, child-sorts}
+use lib.Dec.{eqb}
+use lib.ListN.{length, drop}
+use Rattle.rules.specs.paper.Kinds.{Kind, kind-of, row-of, operand-fits, Children, these, counted, Sort, an-expression, a-command, a-declaration, a-bound, a-formal, a-block, a-root, is-of}
 
--- What the code's numbers for sorts stand for.
+-- ---- The sorts by number.
+
+-- The numbers of the sorts are those below this one.
+abbrev pub sort-numbers : ℕ
+sort-numbers = 7
+
+abbrev pub sort-number : Sort → ℕ
+sort-number an-expression = 0
+sort-number a-command = 1
+sort-number a-declaration = 2
+sort-number a-bound = 3
+sort-number a-formal = 4
+sort-number a-block = 5
+sort-number a-root = 6
+
 abbrev pub sort-of-number : ℕ → Sort
 sort-of-number zero = an-expression
 sort-of-number (suc zero) = a-command
@@ -16,6 +32,73 @@ sort-of-number (suc (suc (suc (suc zero)))) = a-formal
 sort-of-number (suc (suc (suc (suc (suc zero))))) = a-block
 sort-of-number (suc (suc (suc (suc (suc (suc n)))))) = a-root
 
+-- ---- The word of a row.
+
+abbrev pub bit : Bool → ℕ
+bit true = 1
+bit false = 0
+
+-- The sorts that a kind is of, a bit each.
+abbrev pub sort-bits : Kind → ℕ
+sort-bits k =
+    bit (is-of an-expression k) + 2 * bit (is-of a-command k) + 4 * bit (is-of a-declaration k) + 8 * bit (is-of a-bound k) +
+    16 * bit (is-of a-formal k) + 32 * bit (is-of a-block k) + 64 * bit (is-of a-root k)
+
+-- Of a kind's children, those that its operand does not count; and the sort of those that it counts, if it counts any.
+abbrev pub fixed-sorts : Children → List Sort
+fixed-sorts (these sorts) = sorts
+fixed-sorts (counted count first sorts) = sorts
+
+abbrev pub counted-sort : Children → Sort
+counted-sort (these sorts) = an-expression
+counted-sort (counted count first sorts) = first
+
+-- The sort of the child that has so many after it, where the last children are of these sorts and those before them of the sort `first`.
+abbrev pub sort-after : (first : Sort) → List Sort → ℕ → Sort
+sort-after first [] n = first
+sort-after first (s ∷ sorts) n = cond (eqb n (length sorts)) s (sort-after first sorts n)
+
+abbrev pub sort-from-last : Children → ℕ → Sort
+sort-from-last c n = sort-after (counted-sort c) (fixed-sorts c) n
+
+abbrev pub last-sorts-word : Children → ℕ
+last-sorts-word c =
+    sort-number (sort-from-last c 0) + 8 * sort-number (sort-from-last c 1) + 64 * sort-number (sort-from-last c 2) + 512 * sort-number (sort-from-last c 3)
+
+-- How far an operand is shifted to give the children that it counts: 32 leaves 0. A count is the whole operand or its upper part, and of
+-- the operand 1 only the first is 1.
+abbrev pub count-shift : Children → ℕ
+count-shift (these sorts) = 32
+count-shift (counted count first sorts) = cond (eqb (count 1) 1) 0 6
+
+-- Where the parts of a row begin.
+abbrev pub fixed-at : ℕ
+fixed-at = 7
+
+abbrev pub sorts-at : ℕ
+sorts-at = 9
+
+abbrev pub shift-at : ℕ
+shift-at = 21
+
+abbrev pub operands-at : ℕ
+operands-at = 27
+
+unfoldable pub row-word : Kind → ℕ
+row-word k =
+    let c = row-of k .children in
+    sort-bits k + 2 ^ fixed-at * length (fixed-sorts c) + 2 ^ sorts-at * last-sorts-word c + 2 ^ shift-at * count-shift c + 2 ^ operands-at * row-of k .operands
+
+abbrev pub row-by : Option Kind → ℕ
+row-by none = 0
+row-by (some k) = row-word k
+
+-- The row of the kind with this number; 0 where none has it.
+unfoldable pub row-at : ℕ → ℕ
+row-at n = row-by (kind-of n)
+
+-- ---- What is asked of a row.
+
 abbrev pub fault-by : Sort → (operand : ℕ) → Option Kind → ℕ
 fault-by sort w none = 3
 fault-by sort w (some k) = cond (is-of sort k) (cond (operand-fits k w) 0 4) 5
@@ -24,55 +107,11 @@ fault-by sort w (some k) = cond (is-of sort k) (cond (operand-fits k w) 0 4) 5
 unfoldable pub fault-of : (sort kind operand : ℕ) → ℕ
 fault-of sort n w = fault-by (sort-of-number sort) w (kind-of n)
 
-abbrev pub sorts-by : (operand : ℕ) → Option Kind → List Sort
-sorts-by w none = []
-sorts-by w (some k) = child-sorts k w
-
--- The sort of each child of a node.
-unfoldable pub sorts-at : (kind operand : ℕ) → List Sort
-sorts-at n w = sorts-by w (kind-of n)
-
--- The sort of a child that is not the last, and of the last one, by kind.
-abbrev pub first-sort : Kind → Sort
-first-sort (expression-kind k) = an-expression
-first-sort (command-kind assign) = an-expression
-first-sort (command-kind loop) = an-expression
-first-sort (command-kind cseq) = a-command
-first-sort (command-kind blk) = a-declaration
-first-sort (command-kind call) = an-expression
-first-sort (declaration-kind bind) = a-bound
-first-sort (declaration-kind dseq) = a-declaration
-first-sort ref = an-expression
-first-sort abs = a-formal
-first-sort formal = an-expression
-
-abbrev pub last-sort : Kind → Sort
-last-sort (expression-kind k) = an-expression
-last-sort (command-kind assign) = an-expression
-last-sort (command-kind loop) = a-command
-last-sort (command-kind cseq) = a-command
-last-sort (command-kind blk) = a-command
-last-sort (command-kind call) = an-expression
-last-sort (declaration-kind bind) = a-bound
-last-sort (declaration-kind dseq) = a-declaration
-last-sort ref = an-expression
-last-sort abs = a-block
-last-sort formal = an-expression
-
 -- The sorts of the last so many children.
-abbrev pub rest-sorts : Kind → ℕ → List Sort
-rest-sorts k zero = []
-rest-sorts k (suc zero) = last-sort k ∷ []
-rest-sorts k (suc (suc n)) = first-sort k ∷ rest-sorts k (suc n)
-
-abbrev pub rest-sorts-by : ℕ → Option Kind → List Sort
-rest-sorts-by n none = []
-rest-sorts-by n (some k) = rest-sorts k n
-
-unfoldable pub rest-sorts-at : (kind left : ℕ) → List Sort
-rest-sorts-at kind n = rest-sorts-by n (kind-of kind)
+abbrev pub last-sorts : ℕ → List Sort → List Sort
+last-sorts left sorts = drop (length sorts - left) sorts
 
 -- The number of the sort of the first of the last so many children.
-pub record SortedAt (kind left sort : ℕ) : Type 0 where
-  pub low : sort < 7
-  pub head : (k : Kind) → kind-of kind ≡ some k → rest-sorts k left ≡ sort-of-number sort ∷ rest-sorts k (left - 1)
+pub record SortedAt (sorts : List Sort) (left sort : ℕ) : Type 0 where
+  pub low : sort < sort-numbers
+  pub head : last-sorts left sorts ≡ sort-of-number sort ∷ last-sorts (left - 1) sorts

@@ -1,4 +1,6 @@
 // From the image's words to the shape: each node's checks in the paper's order and, for a whole tree, one work word a node.
+pub mod kinds;
+mod refusals;
 mod tables;
 
 ghost use mathlib.Core.Path.{_≡_};
@@ -6,7 +8,7 @@ ghost use Prim.Native.Nat.{_<_, _≤_};
 ghost use lib.ListN.{length, drop, getD};
 ghost use Rattle.rules.specs.paper.Reader.{read};
 ghost use Rattle.reader.specs.Scan.{scan};
-ghost use Rattle.reader.specs.Tables.{sort-of-number};
+ghost use Rattle.reader.specs.Tables.{sort-numbers, sort-of-number};
 ghost use Rattle.reader.specs.Pack.{pack, packed-kind, packed-operand, packed-end};
 ghost use Rattle.reader.specs.Answers.{nodes-at, Readable, Outcome, ShapeAnswer};
 
@@ -36,11 +38,11 @@ fn read_node(
     image: &[u32],
     n: usize,
     at: usize,
-    sort: usize,
+    sort: u64,
     levels: usize,
 ) -> Scanned
     requires { ⌜ Readable (now work) (now image) n at ⌝ }
-    requires { ⌜ sort < 7 ⌝ }
+    requires { ⌜ sort < sort-numbers ⌝ }
     requires { ⌜ levels ≤ 64 ⌝ }
     ensures { λ r. ⌜ Outcome (nodes-at (now (image .entry)) n) n at (scan levels (sort-of-number sort) at (drop at (nodes-at (now (image .entry)) n))) r (now (work .entry)) (now (work .exit)) ⌝ }
 {
@@ -49,17 +51,18 @@ fn read_node(
     }
     let kind = image[2 + at] as usize;
     let operand = image[2 + n + at] as u64;
-    let fault = tables::node_fault(kind, operand, sort);
+    let row = tables::row(kind);
+    let fault = tables::node_fault(row, operand, sort);
     if fault != 0 {
         return Scanned::Refused(fault, at);
     }
     if levels == 0 {
         return Scanned::Refused(6, at);
     }
-    let mut left = tables::child_count(kind, operand);
+    let mut left = tables::child_count(row, operand);
     let mut end = at + 1;
     while left != 0 {
-        let child_sort = tables::child_sort(kind, left);
+        let child_sort = tables::child_sort(row, left);
         let child = read_node(work, image, n, end, child_sort, levels - 1);
         let Scanned::Next(next) = child else {
             return child;
@@ -93,7 +96,7 @@ pub fn read_image(work: &mut [u64], image: &[u32]) -> Shape
     if image.len() != 2 + 2 * n {
         return Shape::Refused(1, 0);
     }
-    let root = read_node(work, image, n, 0, 6, 64);
+    let root = read_node(work, image, n, 0, tables::ROOT, 64);
     match root {
         Scanned::Next(end) => {
             if end == n {
