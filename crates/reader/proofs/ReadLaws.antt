@@ -17,7 +17,7 @@ use Rattle.rules.specs.paper.Kinds.{Kind, kind-of, operand-fits, Sort, is-of, c
 use Rattle.rules.specs.paper.Reader.{Node, Got, refused, got, Read, then, give, Header, or-refuse, node, nodes-of}
 use Rattle.rules.specs.claims.Listing.{a-node}
 use Rattle.rules.specs.proofs.reading.ReaderNodes.{number-of}
-use Rattle.reader.specs.Pack.{pack, node-words}
+use Rattle.reader.specs.Pack.{kinds-room, pack, node-words}
 use Rattle.reader.specs.Put.{put, set-put}
 use Rattle.reader.specs.Scan.{accepting, scan-list, scan}
 use Rattle.reader.specs.Tables.{sort-of-number, row-word, row-at, fault-by, fault-of, SortedAt}
@@ -275,7 +275,7 @@ module _ (sort k w : ℕ) (sound : fault-of sort k w ≡ 0) where
   abbrev kind-there : Kind
   kind-there = passes sort k w sound .which
 
-  pub kind-low : k < 64
+  pub kind-low : k < kinds-room
   kind-low = known-low k _ (passes sort k w sound .known)
 
   row-there : (row : ℕ) → row ≡ row-at k → row ≡ row-word kind-there

@@ -12,6 +12,7 @@ use Rattle.rules.specs.proofs.Basics.{missing, and-left, and-right}
 use Rattle.rules.specs.paper.Kinds.{Kind, kind-number, row-of, operand-bound, every-kind, kind-in, kind-of, is-of}
 use Rattle.rules.specs.proofs.reading.ReaderNodes.{number-of}
 use Rattle.rules.specs.proofs.reading.ReaderComplete.{kind-known}
+use Rattle.reader.specs.Pack.{kinds-room}
 use Rattle.reader.specs.Tables.{sort-numbers, sort-number, sort-of-number, bit, fixed-sorts, sort-from-last, count-shift, fixed-at, sorts-at, shift-at, operands-at, row-word, row-by, row-at}
 
 -- ---- One test for all numbers below a bound, and one for all kinds.
@@ -136,9 +137,9 @@ row-unknown n h = sym (ap row-by (none-of Unit n every-kind h .1))
 
 -- ---- Kinds fit into their part of a node's word.
 
-kinds-low : T (all-of (λ k. ltb (kind-number k) 64) every-kind)
+kinds-low : T (all-of (λ k. ltb (kind-number k) kinds-room) every-kind)
 unfolding every-kind
 kinds-low = tt
 
-pub known-low : (n : ℕ) (k : Kind) → kind-of n ≡ some k → n < 64
-known-low n k q = subst (λ j. j < 64) (number-of n k q) (ltb→lt (kind-number k) 64 (each-kind (λ c. ltb (kind-number c) 64) kinds-low k))
+pub known-low : (n : ℕ) (k : Kind) → kind-of n ≡ some k → n < kinds-room
+known-low n k q = subst (λ j. j < kinds-room) (number-of n k q) (ltb→lt (kind-number k) kinds-room (each-kind (λ c. ltb (kind-number c) kinds-room) kinds-low k))

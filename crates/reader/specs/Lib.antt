@@ -1,3 +1,4 @@
+pub mod KindNumbers
 pub mod Pack
 pub mod Put
 pub mod Scan

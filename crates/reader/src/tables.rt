@@ -2,7 +2,7 @@
 //   7 bits   the sorts that the kind is of, bit s for the sort with number s
 //   2 bits   how many children it has beside those that its operand counts
 //   12 bits  the sorts of its last four children, from the last one on; the fourth is also that of all children before it
-//   6 bits   how far an operand is shifted to give the children that it counts; 32, which leaves 0, where it counts none
+//   6 bits   how far an operand is shifted to give the children that it counts; a whole word's bits, which leaves 0, where it counts none
 //   37 bits  the number that its operands are below
 use crate::kinds;
 use crate::refusals;
@@ -61,14 +61,25 @@ const IS_BOUND: u64 = 1 << BOUND;
 
 const IS_FORMAL: u64 = 1 << FORMAL;
 
+// The limits on operands (rules, paper/Limits.antt): words, names, type codes, parameters.
+const WORD_BITS: u64 = 32;
+
+const NAME_BITS: u64 = 6;
+
+const NAMES: u64 = 1 << NAME_BITS;
+
+const CODES: u64 = 8;
+
+const MOST_PARAMETERS: u64 = 8;
+
 // How many children: none, one or two; as many as the operand's upper part says; or as many as the operand says, and one more.
-const NO_CHILD: u64 = 0 << FIXED_AT | 32 << SHIFT_AT;
+const NO_CHILD: u64 = 0 << FIXED_AT | WORD_BITS << SHIFT_AT;
 
-const ONE_CHILD: u64 = 1 << FIXED_AT | 32 << SHIFT_AT;
+const ONE_CHILD: u64 = 1 << FIXED_AT | WORD_BITS << SHIFT_AT;
 
-const TWO_CHILDREN: u64 = 2 << FIXED_AT | 32 << SHIFT_AT;
+const TWO_CHILDREN: u64 = 2 << FIXED_AT | WORD_BITS << SHIFT_AT;
 
-const COUNTED: u64 = 0 << FIXED_AT | 6 << SHIFT_AT;
+const COUNTED: u64 = 0 << FIXED_AT | NAME_BITS << SHIFT_AT;
 
 const COUNTED_AND_ONE: u64 = 1 << FIXED_AT | 0 << SHIFT_AT;
 
@@ -77,29 +88,29 @@ const EACH: u64 = 1 << FOURTH_LAST | 1 << THIRD_LAST | 1 << SECOND_LAST | 1 << L
 
 const EACH_BEFORE: u64 = 1 << FOURTH_LAST | 1 << THIRD_LAST | 1 << SECOND_LAST;
 
-// The operands.
-const WORDS: u64 = 4294967296 << OPERANDS_AT;
+// What an operand may be.
+const ANY_WORD: u64 = 1 << WORD_BITS << OPERANDS_AT;
 
-const TRUTHS: u64 = 2 << OPERANDS_AT;
+const A_TRUTH: u64 = 2 << OPERANDS_AT;
 
-const NAMES: u64 = 64 << OPERANDS_AT;
+const A_NAME: u64 = NAMES << OPERANDS_AT;
 
 const ZERO: u64 = 1 << OPERANDS_AT;
 
-const COUNTS: u64 = 9 << OPERANDS_AT;
+const A_COUNT: u64 = (MOST_PARAMETERS + 1) << OPERANDS_AT;
 
-const NAMES_AND_COUNTS: u64 = 64 * 9 << OPERANDS_AT;
+const NAME_AND_COUNT: u64 = NAMES * (MOST_PARAMETERS + 1) << OPERANDS_AT;
 
-const NAMES_AND_CODES: u64 = 64 * 8 << OPERANDS_AT;
+const NAME_AND_CODE: u64 = NAMES * CODES << OPERANDS_AT;
 
 // The rows.
 const NO_KIND: u64 = 0;
 
-const NUM_ROW: u64 = IS_EXPRESSION | NO_CHILD | WORDS;
+const NUM_ROW: u64 = IS_EXPRESSION | NO_CHILD | ANY_WORD;
 
-const BOO_ROW: u64 = IS_EXPRESSION | NO_CHILD | TRUTHS;
+const BOO_ROW: u64 = IS_EXPRESSION | NO_CHILD | A_TRUTH;
 
-const NAME_ROW: u64 = IS_EXPRESSION | NO_CHILD | NAMES;
+const NAME_ROW: u64 = IS_EXPRESSION | NO_CHILD | A_NAME;
 
 const BINARY_ROW: u64 = IS_EXPRESSION
     | TWO_CHILDREN
@@ -109,7 +120,7 @@ const BINARY_ROW: u64 = IS_EXPRESSION
 
 const NOT_ROW: u64 = IS_EXPRESSION | ONE_CHILD | EXPRESSION << LAST | ZERO;
 
-const ASSIGN_ROW: u64 = IS_COMMAND | ONE_CHILD | EXPRESSION << LAST | NAMES;
+const ASSIGN_ROW: u64 = IS_COMMAND | ONE_CHILD | EXPRESSION << LAST | A_NAME;
 
 const LOOP_ROW: u64 = IS_COMMAND
     | TWO_CHILDREN
@@ -121,9 +132,9 @@ const CSEQ_ROW: u64 = IS_COMMAND | TWO_CHILDREN | COMMAND << SECOND_LAST | COMMA
 
 const BLK_ROW: u64 = IS_BLOCK | TWO_CHILDREN | DECLARATION << SECOND_LAST | COMMAND << LAST | ZERO;
 
-const CALL_ROW: u64 = IS_COMMAND | COUNTED | EXPRESSION * EACH | NAMES_AND_COUNTS;
+const CALL_ROW: u64 = IS_COMMAND | COUNTED | EXPRESSION * EACH | NAME_AND_COUNT;
 
-const BIND_ROW: u64 = IS_DECLARATION | ONE_CHILD | BOUND << LAST | NAMES;
+const BIND_ROW: u64 = IS_DECLARATION | ONE_CHILD | BOUND << LAST | A_NAME;
 
 const DSEQ_ROW: u64 = IS_DECLARATION
     | TWO_CHILDREN
@@ -133,9 +144,9 @@ const DSEQ_ROW: u64 = IS_DECLARATION
 
 const REF_ROW: u64 = IS_BOUND | ONE_CHILD | EXPRESSION << LAST | ZERO;
 
-const ABS_ROW: u64 = IS_BOUND | COUNTED_AND_ONE | FORMAL * EACH_BEFORE | BLOCK << LAST | COUNTS;
+const ABS_ROW: u64 = IS_BOUND | COUNTED_AND_ONE | FORMAL * EACH_BEFORE | BLOCK << LAST | A_COUNT;
 
-const FORMAL_ROW: u64 = IS_FORMAL | NO_CHILD | NAMES_AND_CODES;
+const FORMAL_ROW: u64 = IS_FORMAL | NO_CHILD | NAME_AND_CODE;
 
 // The row of the kind with this number; 0 where none has it.
 pub(crate) fn row(kind: usize) -> u64
