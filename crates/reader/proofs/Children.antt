@@ -10,7 +10,7 @@ use lib.ListN.{length, drop, replicate, length-replicate, length-append}
 use Rattle.rules.specs.proofs.Basics.{passed-test}
 use Rattle.rules.specs.paper.Limits.{words}
 use Rattle.rules.specs.paper.Kinds.{Kind, num, boo, id, deref, valref, binary, negation, assign, loop, cseq, blk, call, bind, dseq, expression-kind, command-kind, declaration-kind, ref, abs, formal, row-of, upper-part, Sort, an-expression, a-command, a-declaration, a-bound, a-formal, a-block, a-root, Children, these, counted, sorts-of, child-sorts}
-use Rattle.reader.specs.Tables.{sort-numbers, sort-number, sort-of-number, fixed-sorts, counted-sort, sort-after, sort-from-last, count-shift, fixed-at, sorts-at, shift-at, row-word, last-sorts, SortedAt}
+use Rattle.reader.specs.Tables.{sort-numbers, sort-number, sort-of-number, fixed-sorts, counted-sort, sort-after, sort-from-last, count-shift, fixed-at, fixed-room, sorts-at, sort-bits, sort-room, last-children, shift-at, shift-room, row-word, last-sorts, SortedAt}
 use Rattle.reader.proofs.TableRows.{RowOf, row-of-kind}
 
 -- ---- How many.
@@ -37,13 +37,13 @@ counted-children ref w h = uncounted 1 w h
 counted-children abs w h = omega (arith, length-append (replicate w a-formal) (a-block ∷ []), length-replicate w a-formal)
 counted-children formal w h = uncounted 0 w h
 
-pub child-count : (row w : ℕ) → w < words → (k : Kind) → row ≡ row-word k → row / 2 ^ fixed-at % 4 + w / 2 ^ (row / 2 ^ shift-at % 64) ≡ length (child-sorts k w)
+pub child-count : (row w : ℕ) → w < words → (k : Kind) → row ≡ row-word k → row / 2 ^ fixed-at % fixed-room + w / 2 ^ (row / 2 ^ shift-at % shift-room) ≡ length (child-sorts k w)
 child-count row w h k q =
     let r = row-of-kind row k q in
-    ap (λ n. n + w / 2 ^ (row / 2 ^ shift-at % 64)) (r .fixed) ∙ ap (λ s. length (fixed-sorts (row-of k .children)) + w / 2 ^ s) (r .shift) ∙ counted-children k w h
+    ap (λ n. n + w / 2 ^ (row / 2 ^ shift-at % shift-room)) (r .fixed) ∙ ap (λ s. length (fixed-sorts (row-of k .children)) + w / 2 ^ s) (r .shift) ∙ counted-children k w h
 
-pub child-count-low : (row w : ℕ) → w < words → row / 2 ^ fixed-at % 4 + w / 2 ^ (row / 2 ^ shift-at % 64) < 18446744073709551616
-child-count-low row w h = omega (arith, h, div-le-self w (2 ^ (row / 2 ^ shift-at % 64)))
+pub child-count-low : (row w : ℕ) → w < words → row / 2 ^ fixed-at % fixed-room + w / 2 ^ (row / 2 ^ shift-at % shift-room) < 18446744073709551616
+child-count-low row w h = omega (arith, h, div-le-self w (2 ^ (row / 2 ^ shift-at % shift-room)))
 
 -- ---- The sort of a child, by how many come after it.
 
@@ -123,9 +123,9 @@ sort-back a-root = refl
 
 module _ (row left : ℕ) (some-left : 0 < left) (k : Kind) (w : ℕ) (its-row : row ≡ row-word k) (within : left ≤ length (child-sorts k w)) where
   abbrev of-row : ℕ → ℕ
-  of-row m = row / 2 ^ (sorts-at + 3 * m) % 8
+  of-row m = row / 2 ^ (sorts-at + sort-bits * m) % sort-room
 
-  sorted-by : (m : ℕ) → m < 4 → sort-from-last (row-of k .children) (left - 1) ≡ sort-from-last (row-of k .children) m → SortedAt (child-sorts k w) left (of-row m)
+  sorted-by : (m : ℕ) → m < last-children → sort-from-last (row-of k .children) (left - 1) ≡ sort-from-last (row-of k .children) m → SortedAt (child-sorts k w) left (of-row m)
   sorted-by m h same =
       let is : of-row m ≡ sort-number (sort-from-last (row-of k .children) m) = row-of-kind row k its-row .sorts m h in
       record {
@@ -140,14 +140,14 @@ module _ (row left : ℕ) (some-left : 0 < left) (k : Kind) (w : ℕ) (its-row :
       apart = omega (arith, some-left)
 
   -- one of the last four
-  pub sorted-near : left ≤ 4 → SortedAt (child-sorts k w) left (of-row (left - 1))
+  pub sorted-near : left ≤ last-children → SortedAt (child-sorts k w) left (of-row (left - 1))
   sorted-near h = sorted-by (left - 1) (omega (arith, h, some-left)) refl
 
   -- one before them
-  pub sorted-far : 4 < left → SortedAt (child-sorts k w) left (of-row 3)
-  sorted-far h = sorted-by 3 (omega arith) (before (left - 1) (omega (arith, few, h)) ∙ sym (before 3 (omega (arith, few))))
+  pub sorted-far : last-children < left → SortedAt (child-sorts k w) left (of-row (last-children - 1))
+  sorted-far h = sorted-by (last-children - 1) (omega arith) (before (left - 1) (omega (arith, few, h)) ∙ sym (before (last-children - 1) (omega (arith, few))))
     where
-      few : length (fixed-sorts (row-of k .children)) < 4
+      few : length (fixed-sorts (row-of k .children)) < last-children
       few = row-of-kind row k its-row .few
 
       before : (n : ℕ) → length (fixed-sorts (row-of k .children)) ≤ n → sort-from-last (row-of k .children) n ≡ counted-sort (row-of k .children)

@@ -118,7 +118,7 @@ checked-node sort k w at rest h = by-kind (kind-of k) h
 
 passed-node : (sort : Sort) (k w at : ℕ) (rest : List Node) → fault-by sort w (kind-of k) ≡ 0 →
     (kind : Kind) × (kind-of k ≡ some kind) × T (operand-fits kind w) × (node (accepting sort) at (a-node k w ∷ rest) ≡ found at w rest kind)
-unfolding node
+unfolding node refusal-number
 passed-node sort k w at rest h = by-kind (kind-of k) refl h
   where
     off : {A : Type 0} {m : ℕ} → _≡_ {A = ℕ} (suc m) 0 → A

@@ -13,7 +13,7 @@ use Rattle.rules.specs.paper.Kinds.{Kind, kind-number, row-of, operand-bound, e
 use Rattle.rules.specs.proofs.reading.ReaderNodes.{number-of}
 use Rattle.rules.specs.proofs.reading.ReaderComplete.{kind-known}
 use Rattle.reader.specs.Pack.{kinds-room}
-use Rattle.reader.specs.Tables.{sort-numbers, sort-number, sort-of-number, bit, fixed-sorts, sort-from-last, count-shift, fixed-at, sorts-at, shift-at, operands-at, row-word, row-by, row-at}
+use Rattle.reader.specs.Tables.{sort-numbers, sort-number, sort-of-number, bit, fixed-sorts, sort-from-last, count-shift, fixed-at, fixed-room, sorts-at, sort-bits, sort-room, last-children, shift-at, shift-room, operands-at, row-word, row-by, row-at}
 
 -- ---- One test for all numbers below a bound, and one for all kinds.
 
@@ -56,22 +56,22 @@ pub record RowOf (row : ℕ) (k : Kind) : Type 0 where
   pub known : ¬ (row ≡ 0)
   pub of-sort : (s : ℕ) → s < sort-numbers → row / 2 ^ s % 2 ≡ bit (is-of (sort-of-number s) k)
   pub bounded : row / 2 ^ operands-at ≡ operand-bound k
-  pub fixed : row / 2 ^ fixed-at % 4 ≡ length (fixed-sorts (row-of k .children))
-  pub few : length (fixed-sorts (row-of k .children)) < 4
-  pub sorts : (n : ℕ) → n < 4 → row / 2 ^ (sorts-at + 3 * n) % 8 ≡ sort-number (sort-from-last (row-of k .children) n)
-  pub shift : row / 2 ^ shift-at % 64 ≡ count-shift (row-of k .children)
+  pub fixed : row / 2 ^ fixed-at % fixed-room ≡ length (fixed-sorts (row-of k .children))
+  pub few : length (fixed-sorts (row-of k .children)) < last-children
+  pub sorts : (n : ℕ) → n < last-children → row / 2 ^ (sorts-at + sort-bits * n) % sort-room ≡ sort-number (sort-from-last (row-of k .children) n)
+  pub shift : row / 2 ^ shift-at % shift-room ≡ count-shift (row-of k .children)
 
 abbrev sort-tests : ℕ → Kind → Bool
 sort-tests row k = all-below (λ s. eqb (row / 2 ^ s % 2) (bit (is-of (sort-of-number s) k))) sort-numbers
 
 abbrev child-tests : ℕ → Kind → Bool
-child-tests row k = all-below (λ n. eqb (row / 2 ^ (sorts-at + 3 * n) % 8) (sort-number (sort-from-last (row-of k .children) n))) 4
+child-tests row k = all-below (λ n. eqb (row / 2 ^ (sorts-at + sort-bits * n) % sort-room) (sort-number (sort-from-last (row-of k .children) n))) last-children
 
 abbrev row-test : ℕ → Kind → Bool
 row-test row k =
     not (eqb row 0) && (sort-tests row k && (eqb (row / 2 ^ operands-at) (operand-bound k) &&
-    (eqb (row / 2 ^ fixed-at % 4) (length (fixed-sorts (row-of k .children))) && (ltb (length (fixed-sorts (row-of k .children))) 4 &&
-    (child-tests row k && eqb (row / 2 ^ shift-at % 64) (count-shift (row-of k .children)))))))
+    (eqb (row / 2 ^ fixed-at % fixed-room) (length (fixed-sorts (row-of k .children))) && (ltb (length (fixed-sorts (row-of k .children))) last-children &&
+    (child-tests row k && eqb (row / 2 ^ shift-at % shift-room) (count-shift (row-of k .children)))))))
 
 rows-hold : T (all-of (λ k. row-test (row-word k) k) every-kind)
 unfolding every-kind row-word operand-bound
@@ -82,16 +82,16 @@ tested row k t =
     let t₁ = and-right (not (eqb row 0)) _ t in
     let t₂ = and-right (sort-tests row k) _ t₁ in
     let t₃ = and-right (eqb (row / 2 ^ operands-at) (operand-bound k)) _ t₂ in
-    let t₄ = and-right (eqb (row / 2 ^ fixed-at % 4) (length (fixed-sorts (row-of k .children)))) _ t₃ in
-    let t₅ = and-right (ltb (length (fixed-sorts (row-of k .children))) 4) _ t₄ in
+    let t₄ = and-right (eqb (row / 2 ^ fixed-at % fixed-room) (length (fixed-sorts (row-of k .children)))) _ t₃ in
+    let t₅ = and-right (ltb (length (fixed-sorts (row-of k .children))) last-children) _ t₄ in
     record {
       known = not-zero (and-left (not (eqb row 0)) _ t);
       of-sort = λ s h. eqb→eq (row / 2 ^ s % 2) _ (at-each (λ s. eqb (row / 2 ^ s % 2) (bit (is-of (sort-of-number s) k))) sort-numbers (and-left (sort-tests row k) _ t₁) s h);
       bounded = eqb→eq (row / 2 ^ operands-at) (operand-bound k) (and-left (eqb (row / 2 ^ operands-at) (operand-bound k)) _ t₂);
-      fixed = eqb→eq (row / 2 ^ fixed-at % 4) _ (and-left (eqb (row / 2 ^ fixed-at % 4) (length (fixed-sorts (row-of k .children)))) _ t₃);
-      few = ltb→lt _ 4 (and-left (ltb (length (fixed-sorts (row-of k .children))) 4) _ t₄);
-      sorts = λ n h. eqb→eq (row / 2 ^ (sorts-at + 3 * n) % 8) _ (at-each (λ n. eqb (row / 2 ^ (sorts-at + 3 * n) % 8) (sort-number (sort-from-last (row-of k .children) n))) 4 (and-left (child-tests row k) _ t₅) n h);
-      shift = eqb→eq (row / 2 ^ shift-at % 64) _ (and-right (child-tests row k) (eqb (row / 2 ^ shift-at % 64) (count-shift (row-of k .children))) t₅);
+      fixed = eqb→eq (row / 2 ^ fixed-at % fixed-room) _ (and-left (eqb (row / 2 ^ fixed-at % fixed-room) (length (fixed-sorts (row-of k .children)))) _ t₃);
+      few = ltb→lt _ last-children (and-left (ltb (length (fixed-sorts (row-of k .children))) last-children) _ t₄);
+      sorts = λ n h. eqb→eq (row / 2 ^ (sorts-at + sort-bits * n) % sort-room) _ (at-each (λ n. eqb (row / 2 ^ (sorts-at + sort-bits * n) % sort-room) (sort-number (sort-from-last (row-of k .children) n))) last-children (and-left (child-tests row k) _ t₅) n h);
+      shift = eqb→eq (row / 2 ^ shift-at % shift-room) _ (and-right (child-tests row k) (eqb (row / 2 ^ shift-at % shift-room) (count-shift (row-of k .children))) t₅);
     }
   where
     not-zero : T (not (eqb row 0)) → row ≡ 0 → ⊥

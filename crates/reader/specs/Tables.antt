@@ -6,6 +6,8 @@ use mathlib.Core.List.{List, [], _∷_}
 use mathlib.Core.Option.{Option, none, some}
 use lib.Dec.{eqb}
 use lib.ListN.{length, drop}
+use Rattle.rules.specs.paper.Refusals.{refusal-number}
+use Rattle.rules.specs.paper.Refusals as Refusals
 use Rattle.rules.specs.paper.Kinds.{Kind, kind-of, row-of, operand-fits, Children, these, counted, Sort, an-expression, a-command, a-declaration, a-bound, a-formal, a-block, a-root, is-of}
 
 -- ---- The sorts by number.
@@ -34,13 +36,38 @@ sort-of-number (suc (suc (suc (suc (suc (suc n)))))) = a-root
 
 -- ---- The word of a row.
 
+-- Where the parts of a row begin, after the sorts that the kind is of, and the room that they have.
+abbrev pub fixed-at : ℕ
+fixed-at = 7
+
+abbrev pub fixed-room : ℕ
+fixed-room = 4
+
+abbrev pub sorts-at : ℕ
+sorts-at = 9
+
+abbrev pub sort-bits : ℕ
+sort-bits = 3
+
+abbrev pub sort-room : ℕ
+sort-room = 8
+
+abbrev pub shift-at : ℕ
+shift-at = 21
+
+abbrev pub shift-room : ℕ
+shift-room = 64
+
+abbrev pub operands-at : ℕ
+operands-at = 27
+
 abbrev pub bit : Bool → ℕ
 bit true = 1
 bit false = 0
 
 -- The sorts that a kind is of, a bit each.
-abbrev pub sort-bits : Kind → ℕ
-sort-bits k =
+abbrev pub own-sorts : Kind → ℕ
+own-sorts k =
     bit (is-of an-expression k) + 2 * bit (is-of a-command k) + 4 * bit (is-of a-declaration k) + 8 * bit (is-of a-bound k) +
     16 * bit (is-of a-formal k) + 32 * bit (is-of a-block k) + 64 * bit (is-of a-root k)
 
@@ -61,33 +88,31 @@ sort-after first (s ∷ sorts) n = cond (eqb n (length sorts)) s (sort-after fir
 abbrev pub sort-from-last : Children → ℕ → Sort
 sort-from-last c n = sort-after (counted-sort c) (fixed-sorts c) n
 
-abbrev pub last-sorts-word : Children → ℕ
-last-sorts-word c =
-    sort-number (sort-from-last c 0) + 8 * sort-number (sort-from-last c 1) + 64 * sort-number (sort-from-last c 2) + 512 * sort-number (sort-from-last c 3)
+-- The sorts of the last so many children, from the last one on.
+abbrev pub sorts-from-last : Children → ℕ → ℕ
+sorts-from-last c zero = 0
+sorts-from-last c (suc n) = sorts-from-last c n + sort-room ^ n * sort-number (sort-from-last c n)
 
--- How far an operand is shifted to give the children that it counts: 32 leaves 0. A count is the whole operand or its upper part, and of
--- the operand 1 only the first is 1.
+-- A row has room for the sorts of four; the fourth is also that of all children before it.
+abbrev pub last-children : ℕ
+last-children = 4
+
+-- How far an operand is shifted to give the children that it counts: a word's bits leave 0. A count is the whole operand or what stands
+-- above a name, and of the operand 1 only the first is 1.
+abbrev pub word-bits : ℕ
+word-bits = 32
+
+abbrev pub name-bits : ℕ
+name-bits = 6
+
 abbrev pub count-shift : Children → ℕ
-count-shift (these sorts) = 32
-count-shift (counted count first sorts) = cond (eqb (count 1) 1) 0 6
-
--- Where the parts of a row begin.
-abbrev pub fixed-at : ℕ
-fixed-at = 7
-
-abbrev pub sorts-at : ℕ
-sorts-at = 9
-
-abbrev pub shift-at : ℕ
-shift-at = 21
-
-abbrev pub operands-at : ℕ
-operands-at = 27
+count-shift (these sorts) = word-bits
+count-shift (counted count first sorts) = cond (eqb (count 1) 1) 0 name-bits
 
 unfoldable pub row-word : Kind → ℕ
 row-word k =
     let c = row-of k .children in
-    sort-bits k + 2 ^ fixed-at * length (fixed-sorts c) + 2 ^ sorts-at * last-sorts-word c + 2 ^ shift-at * count-shift c + 2 ^ operands-at * row-of k .operands
+    own-sorts k + 2 ^ fixed-at * length (fixed-sorts c) + 2 ^ sorts-at * sorts-from-last c last-children + 2 ^ shift-at * count-shift c + 2 ^ operands-at * row-of k .operands
 
 abbrev pub row-by : Option Kind → ℕ
 row-by none = 0
@@ -100,10 +125,10 @@ row-at n = row-by (kind-of n)
 -- ---- What is asked of a row.
 
 abbrev pub fault-by : Sort → (operand : ℕ) → Option Kind → ℕ
-fault-by sort w none = 3
-fault-by sort w (some k) = cond (is-of sort k) (cond (operand-fits k w) 0 4) 5
+fault-by sort w none = refusal-number Refusals.Kind
+fault-by sort w (some k) = cond (is-of sort k) (cond (operand-fits k w) 0 (refusal-number Refusals.Operand)) (refusal-number Refusals.Tree)
 
--- The refusal of a node by its own words, but for its depth: kind (3), wrong sort (5), operand (4); 0 for none.
+-- The refusal of a node by its own words, but for its depth: its kind, a wrong sort, its operand; 0 for none.
 unfoldable pub fault-of : (sort kind operand : ℕ) → ℕ
 fault-of sort n w = fault-by (sort-of-number sort) w (kind-of n)
 

@@ -28,17 +28,25 @@ const BLOCK: u64 = 5;
 
 pub(crate) const ROOT: u64 = 6;
 
-// Where the parts of a row begin.
+// Where the parts of a row begin, and the room that they have.
 const FIXED_AT: usize = 7;
+
+const FIXED_ROOM: u64 = 4;
 
 const SORTS_AT: usize = 9;
 
+const SORT_BITS: usize = 3;
+
+const SORT_ROOM: u64 = 8;
+
 const SHIFT_AT: usize = 21;
+
+const SHIFT_ROOM: u64 = 64;
 
 const OPERANDS_AT: usize = 27;
 
 // Where the sorts of the last four children begin.
-const SORT_BITS: usize = 3;
+const LAST_CHILDREN: usize = 4;
 
 const LAST: usize = SORTS_AT;
 
@@ -206,8 +214,8 @@ pub(crate) fn child_count(row: u64, operand: u64) -> usize
     requires { ⌜ operand < words ⌝ }
     ensures { λ r. ⌜ ((k : Kind) → row ≡ row-word k → r ≡ length (child-sorts k operand)) ⌝ }
 {
-    let fixed = (row >> FIXED_AT) % 4;
-    let shift = (row >> SHIFT_AT) % 64;
+    let fixed = (row >> FIXED_AT) % FIXED_ROOM;
+    let shift = (row >> SHIFT_AT) % SHIFT_ROOM;
     (fixed + (operand >> shift)) as usize
 }
 
@@ -216,9 +224,9 @@ pub(crate) fn child_sort(row: u64, left: usize) -> u64
     requires { ⌜ 0 < left ⌝ }
     ensures { λ r. ⌜ ((k : Kind) (w : ℕ) → row ≡ row-word k → left ≤ length (child-sorts k w) → SortedAt (child-sorts k w) left r) ⌝ }
 {
-    if 4 < left {
-        (row >> FOURTH_LAST) % 8
+    if LAST_CHILDREN < left {
+        (row >> FOURTH_LAST) % SORT_ROOM
     } else {
-        (row >> (SORTS_AT + SORT_BITS * (left - 1))) % 8
+        (row >> (SORTS_AT + SORT_BITS * (left - 1))) % SORT_ROOM
     }
 }
