@@ -11,7 +11,7 @@ use Rattle.rules.specs.proofs.Basics.{passed-test}
 use Rattle.rules.specs.paper.Limits.{words}
 use Rattle.rules.specs.paper.Kinds.{Kind, num, boo, id, deref, valref, binary, negation, assign, loop, cseq, blk, call, bind, dseq, expression-kind, command-kind, declaration-kind, ref, abs, formal, row-of, upper-part, Sort, an-expression, a-command, a-declaration, a-bound, a-formal, a-block, a-root, Children, these, counted, sorts-of, child-sorts}
 use Rattle.reader.specs.Tables.{sort-numbers, sort-number, sort-of-number, fixed-sorts, counted-sort, sort-after, sort-from-last, count-shift, fixed-at, fixed-room, sorts-at, sort-bits, sort-room, last-children, shift-at, shift-room, row-word, last-sorts, SortedAt}
-use Rattle.reader.proofs.TableRows.{RowOf, row-of-kind}
+use Rattle.reader.proofs.TableRows.{row-of-kind}
 
 -- ---- How many.
 

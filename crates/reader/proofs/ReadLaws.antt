@@ -21,7 +21,7 @@ use Rattle.reader.specs.Pack.{kinds-room, pack, node-words}
 use Rattle.reader.specs.Put.{put, set-put}
 use Rattle.reader.specs.Scan.{accepting, scan-list, scan}
 use Rattle.reader.specs.Tables.{sort-of-number, row-word, row-at, fault-by, fault-of, SortedAt}
-use Rattle.reader.specs.Answers.{nodes-at, Readable, Passing, Outcome}
+use Rattle.reader.specs.Answers.{nodes-at, Readable, Outcome}
 use Rattle.reader.specs.declared.Scanned.{Scanned}
 use Rattle.reader.specs.declared.Scanned.the-variants.{Next, Refused}
 use Rattle.reader.proofs.AnswerLaws.{two-answers, same-next, kept-same}
@@ -144,16 +144,22 @@ passed-node sort k w at rest h = by-kind (kind-of k) refl h
     by-kind none q g = off g
     by-kind (some kind) q g = let b = by-sort kind (is-of sort kind) g in (kind, q, b .0, b .1)
 
-pub passes : (sort k w : ℕ) → fault-of sort k w ≡ 0 → Passing k w
+-- A node whose kind is known and whose operand is one of its kind's.
+record Passing (kind operand : ℕ) : Type 0 where
+  which : Kind
+  known : kind-of kind ≡ some which
+  fits : T (operand-fits which operand)
+
+passes : (sort k w : ℕ) → fault-of sort k w ≡ 0 → Passing k w
 unfolding fault-of
 passes sort k w h = let p = passed-node (sort-of-number sort) k w 0 [] h in record { which = p .0; known = p .1; fits = p .2 }
 
 -- ---- Reading a node.
 
-none-left : (d at : ℕ) (w : Sort) → scan d w at [] ≡ refused Refusals.Tree at
+none-left : (d at : ℕ) (sort : Sort) → scan d sort at [] ≡ refused Refusals.Tree at
 unfolding scan node
-none-left zero at w = refl
-none-left (suc d) at w = refl
+none-left zero at sort = refl
+none-left (suc d) at sort = refl
 
 -- a place past the last node
 pub missing-node : (words work : List ℕ) (n at sort levels : ℕ) → Readable work words n at → n ≤ at →

@@ -11,12 +11,12 @@ use Rattle.reader.specs.Pack.{node-words}
 
 -- A kind, where it is of this sort.
 abbrev pub accepting : Sort → Kind → Option Kind
-accepting w k = cond (is-of w k) (some k) none
+accepting sort k = cond (is-of sort k) (some k) none
 
 -- Children one after the other, each by its sort.
 unfoldable pub scan-list : (Sort → Read (List ℕ)) → List Sort → Read (List ℕ)
 scan-list one [] = give []
-scan-list one (w ∷ ws) = one w >>= λ a. scan-list one ws >>= λ b. give (a ++ b)
+scan-list one (s ∷ sorts) = one s >>= λ a. scan-list one sorts >>= λ b. give (a ++ b)
 
 -- A node with its descendants, with this many levels of depth left for it.
 unfoldable pub scan : (levels : ℕ) → Sort → Read (List ℕ)

@@ -1,6 +1,6 @@
 -- Which tree the work words hold (the reader's promise): `Stored.. words d i j t` says that the node at place i is the root of t,
 -- that t's nodes end before j and t is at most d deep, and that each of its nodes has its word.
-use Prim.Native.Nat.{ℕ, zero, suc, _+_, _*_, _%_, _/_, _<_, _≤_}
+use Prim.Native.Nat.{ℕ, suc, _+_, _*_, _<_, _≤_}
 use mathlib.Core.Path.{_≡_, ap, _∙_}
 use mathlib.Core.Bool.{Bool}
 use mathlib.Core.List.{List, [], _∷_}

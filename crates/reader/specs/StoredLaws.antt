@@ -1,15 +1,15 @@
 -- The words that the reader writes store the tree it read; and what other words leave alone stays stored.
 use Prim.Native.Nat.{ℕ, zero, suc, _+_, _*_, _<_, _≤_}
-use mathlib.Core.Path.{_≡_, refl, sym, ap, _∙_, subst}
+use mathlib.Core.Path.{_≡_, sym, ap, _∙_, subst}
 use mathlib.Core.Bool.{Bool, true, false}
 use mathlib.Core.List.{List, [], _∷_, _++_}
 use native.Mathlib.Omega.{arith}
-use native.Mathlib.Nat.{add-zero, add-suc, suc-add, zero-add}
+use native.Mathlib.Nat.{add-zero, add-suc, suc-add}
 use lib.ListN.{length, getD, length-append}
 use Rattle.rules.specs.paper.Kinds.{operator-number}
-use Rattle.rules.specs.paper.Tree.{Operator, Expression, Num, Boo, Id, DeRef, ValRef, Binary, Not, Formal, Command, Assign, Loop, CSeq, block, Call, Block, Blk, Declaration, Bind, DSeq, Bound, plain, Ref, Abs, Root, expression, command}
+use Rattle.rules.specs.paper.Tree.{Expression, Formal, Command, Block, Declaration, Bound, Root}
 use Rattle.rules.specs.paper.Limits as Limits
-use Rattle.rules.specs.paper.Limits.{most-nodes, names, codes, most-parameters, most-depth}
+use Rattle.rules.specs.paper.Limits.{most-nodes, names, most-depth}
 use Rattle.rules.specs.claims.Listing.{truth-word}
 use Rattle.reader.specs.KindNumbers.{num-number, boo-number, id-number, not-number, deref-number, valref-number, assign-number, loop-number, cseq-number, blk-number, call-number, bind-number, dseq-number, ref-number, abs-number, formal-number}
 use Rattle.rules.specs.claims.Shape.{ShapedExpression, ShapedFormal, Many, none-left, one-more, ShapedCommand, ShapedBlock, ShapedDeclaration, ShapedBound, ShapedRoot}

@@ -65,11 +65,10 @@ abbrev pub bit : Bool → ℕ
 bit true = 1
 bit false = 0
 
--- The sorts that a kind is of, a bit each.
-abbrev pub own-sorts : Kind → ℕ
-own-sorts k =
-    bit (is-of an-expression k) + 2 * bit (is-of a-command k) + 4 * bit (is-of a-declaration k) + 8 * bit (is-of a-bound k) +
-    16 * bit (is-of a-formal k) + 32 * bit (is-of a-block k) + 64 * bit (is-of a-root k)
+-- Which of the first so many sorts a kind is of, a bit each.
+abbrev pub own-sorts : Kind → ℕ → ℕ
+own-sorts k zero = 0
+own-sorts k (suc n) = own-sorts k n + 2 ^ n * bit (is-of (sort-of-number n) k)
 
 -- Of a kind's children, those that its operand does not count; and the sort of those that it counts, if it counts any.
 abbrev pub fixed-sorts : Children → List Sort
@@ -112,7 +111,7 @@ count-shift (counted count first sorts) = cond (eqb (count 1) 1) 0 name-bits
 unfoldable pub row-word : Kind → ℕ
 row-word k =
     let c = row-of k .children in
-    own-sorts k + 2 ^ fixed-at * length (fixed-sorts c) + 2 ^ sorts-at * sorts-from-last c last-children + 2 ^ shift-at * count-shift c + 2 ^ operands-at * row-of k .operands
+    own-sorts k sort-numbers + 2 ^ fixed-at * length (fixed-sorts c) + 2 ^ sorts-at * sorts-from-last c last-children + 2 ^ shift-at * count-shift c + 2 ^ operands-at * row-of k .operands
 
 abbrev pub row-by : Option Kind → ℕ
 row-by none = 0

@@ -2,7 +2,7 @@
 //   7 bits   the sorts that the kind is of, bit s for the sort with number s
 //   2 bits   how many children it has beside those that its operand counts
 //   12 bits  the sorts of its last four children, from the last one on; the fourth is also that of all children before it
-//   6 bits   how far an operand is shifted to give the children that it counts; a whole word's bits, which leaves 0, where it counts none
+//   6 bits   how far an operand is shifted to give the children that it counts; a word's bits, which leaves 0, for none
 //   37 bits  the number that its operands are below
 use crate::kinds;
 use crate::refusals;
