@@ -1,114 +1,62 @@
--- The checks of a node by the code's tables.
-use Prim.Native.Nat.{ℕ, _+_, _*_, _<_, _≤_}
+-- The checks of a node by its kind's row.
+use Prim.Native.Nat.{ℕ, _/_, _%_, _^_, _<_, _≤_}
 use mathlib.Core.Path.{_≡_, refl, sym, ap, _∙_, subst}
 use mathlib.Core.Bool.{Bool, true, false, cond}
 use mathlib.Core.Option.{Option, none, some}
 use native.Mathlib.Omega.{arith}
 use lib.Dec.{T, ltb→lt, lt→ltb}
-use lib.ListN.{getD}
 use Rattle.rules.specs.proofs.Basics.{true-test, false-test}
-use Rattle.rules.specs.paper.Kinds.{Kind, kind-of, operand-bound, operand-fits, num, boo, id, deref, valref, binary, negation, assign, loop, cseq, blk, call, bind, dseq, expression-kind, command-kind, declaration-kind, ref, abs, formal, kind-number}
-use Rattle.rules.specs.paper.Tree.{arithmetic, Eq, order, logic, Sum, Sub, Mul, Div, Lt, Le, Gt, Ge, And, Or}
-use Rattle.rules.specs.proofs.reading.ReaderNodes.{number-of}
-use Rattle.reader.specs.Scan.{accepts}
-use Rattle.reader.specs.Tables.{want-of, fault-by, fault-of}
-use Rattle.reader.specs.KindRows.{bounds, accepted}
-use Rattle.reader.proofs.Rows.{bit, Row-at, no-kind, a-kind, RowOf, row-at}
+use Rattle.rules.specs.paper.Refusals.{refusal-number}
+use Rattle.rules.specs.paper.Kinds.{Kind, kind-of, operand-bound, operand-fits, is-of}
+use Rattle.reader.specs.Tables.{sort-numbers, sort-of-number, bit, operands-at, row-by, row-at, fault-by, fault-of}
+use Rattle.reader.proofs.TableRows.{RowOf, row-of-kind}
 
-kind-low : (k : Kind) → kind-number k < 43
-kind-low (expression-kind num) = omega arith
-kind-low (expression-kind boo) = omega arith
-kind-low (expression-kind id) = omega arith
-kind-low (expression-kind deref) = omega arith
-kind-low (expression-kind valref) = omega arith
-kind-low (expression-kind (binary (arithmetic Sum))) = omega arith
-kind-low (expression-kind (binary (arithmetic Sub))) = omega arith
-kind-low (expression-kind (binary (arithmetic Mul))) = omega arith
-kind-low (expression-kind (binary (arithmetic Div))) = omega arith
-kind-low (expression-kind (binary Eq)) = omega arith
-kind-low (expression-kind (binary (order Lt))) = omega arith
-kind-low (expression-kind (binary (order Le))) = omega arith
-kind-low (expression-kind (binary (order Gt))) = omega arith
-kind-low (expression-kind (binary (order Ge))) = omega arith
-kind-low (expression-kind (binary (logic And))) = omega arith
-kind-low (expression-kind (binary (logic Or))) = omega arith
-kind-low (expression-kind negation) = omega arith
-kind-low (command-kind assign) = omega arith
-kind-low (command-kind loop) = omega arith
-kind-low (command-kind cseq) = omega arith
-kind-low (command-kind blk) = omega arith
-kind-low (command-kind call) = omega arith
-kind-low (declaration-kind bind) = omega arith
-kind-low (declaration-kind dseq) = omega arith
-kind-low ref = omega arith
-kind-low abs = omega arith
-kind-low formal = omega arith
+module _ (row w sort : ℕ) (low : sort < sort-numbers) (kind : ℕ) (its-row : row ≡ row-at kind) where
+  -- No kind has this number and the row is 0, or the row is that of a kind.
+  by-row : (n : ℕ) → (row ≡ 0 → n ≡ 3) → ((k : Kind) → RowOf row k → n ≡ fault-by (sort-of-number sort) w (some k)) → n ≡ fault-of sort kind w
+  unfolding row-at fault-of refusal-number
+  by-row n f g = by (kind-of kind) refl
+    where
+      by : (o : Option Kind) → kind-of kind ≡ o → n ≡ fault-by (sort-of-number sort) w (kind-of kind)
+      by none q = f (its-row ∙ ap row-by q) ∙ sym (ap (fault-by (sort-of-number sort) w) q)
+      by (some k) q = g k (row-of-kind row k (its-row ∙ ap row-by q)) ∙ sym (ap (fault-by (sort-of-number sort) w) q)
 
--- A number that has a kind is below 43.
-pub known-low : (k : ℕ) (kind : Kind) → kind-of k ≡ some kind → k < 43
-known-low k kind q = subst (λ j. j < 43) (number-of k kind q) (kind-low kind)
+  pub fault-kind : row ≡ 0 → 3 ≡ fault-of sort kind w
+  unfolding refusal-number
+  fault-kind z = by-row 3 (λ e. refl) (λ k r. absurd (r .known z))
 
-high-kind : (k : ℕ) → 43 ≤ k → kind-of k ≡ none
-high-kind k h = by (kind-of k) refl
-  where
-    by : (o : Option Kind) → kind-of k ≡ o → kind-of k ≡ none
-    by none q = q
-    by (some kind) q = absurd (clash (known-low k kind q))
+  module _ (known : ¬ (row ≡ 0)) where
+    pub fault-sort : row / 2 ^ sort % 2 ≡ 0 → 5 ≡ fault-of sort kind w
+    unfolding refusal-number
+    fault-sort z = by-row 5 (λ e. absurd (known e)) (λ k r. refused _ (is-of (sort-of-number sort) k) (sym (r .of-sort sort low) ∙ z))
       where
-        clash : k < 43 → ⊥
-        clash l = omega (arith, h, l)
+        refused : (x : ℕ) (t : Bool) → bit t ≡ 0 → _≡_ {A = ℕ} 5 (cond t x 5)
+        refused x true q = absurd (one q)
+          where
+            one : _≡_ {A = ℕ} 1 0 → ⊥
+            one e = omega arith
+        refused x false q = refl
 
-pub fault-high : (want k w : ℕ) → 43 ≤ k → 3 ≡ fault-of want k w
-unfolding fault-of
-fault-high want k w h = ap (fault-by (want-of want) w) (sym (high-kind k h))
-
-pub fault-none : (want k w : ℕ) → k < 43 → getD bounds k 0 ≡ 0 → 3 ≡ fault-of want k w
-unfolding fault-of
-fault-none want k w h z = by (row-at k h)
-  where
-    by : Row-at k → 3 ≡ fault-by (want-of want) w (kind-of k)
-    by (no-kind q b) = ap (fault-by (want-of want) w) (sym q)
-    by (a-kind kind q b row) = absurd (b z)
-
--- With a kind in the row, the tests of the tables are those of the kind.
-module _ (want k w : ℕ) (low : k < 43) (few : want < 7) (known : ¬ (getD bounds k 0 ≡ 0)) where
-  by-row : (n : ℕ) → ((kind : Kind) → RowOf k kind → n ≡ fault-by (want-of want) w (some kind)) → n ≡ fault-of want k w
-  unfolding fault-of
-  by-row n f = by (row-at k low)
-    where
-      by : Row-at k → n ≡ fault-by (want-of want) w (kind-of k)
-      by (no-kind q b) = absurd (known b)
-      by (a-kind kind q b row) = f kind row ∙ ap (fault-by (want-of want) w) (sym q)
-
-  pub fault-sort : getD accepted (want * 43 + k) 0 ≡ 0 → 5 ≡ fault-of want k w
-  fault-sort z = by-row 5 (λ kind row. refused _ (accepts (want-of want) kind) (sym (row .accepts-it want few) ∙ z))
-    where
-      refused : (x : ℕ) (t : Bool) → bit t ≡ 0 → _≡_ {A = ℕ} 5 (cond t x 5)
-      refused x true q = absurd (one q)
+    module _ (stands : ¬ (row / 2 ^ sort % 2 ≡ 0)) where
+      pub fault-operand : row / 2 ^ operands-at ≤ w → 4 ≡ fault-of sort kind w
+      unfolding operand-fits refusal-number
+      fault-operand h = by-row 4 (λ e. absurd (known e)) (λ k r. refused (is-of (sort-of-number sort) k) (operand-fits k w) (λ e. stands (r .of-sort sort low ∙ e))
+          (false-test (operand-fits k w) (λ t. clash (ltb→lt w (operand-bound k) t) (subst (λ b. b ≤ w) (r .bounded) h))))
         where
-          one : _≡_ {A = ℕ} 1 0 → ⊥
-          one e = omega arith
-      refused x false q = refl
+          clash : {b : ℕ} → w < b → b ≤ w → ⊥
+          clash p q = omega arith
 
-  pub fault-operand : ¬ (getD accepted (want * 43 + k) 0 ≡ 0) → getD bounds k 0 ≤ w → 4 ≡ fault-of want k w
-  unfolding operand-fits
-  fault-operand z h = by-row 4 (λ kind row. refused (accepts (want-of want) kind) (operand-fits kind w) (λ e. z (row .accepts-it want few ∙ e))
-      (false-test (operand-fits kind w) (λ t. clash (ltb→lt w (operand-bound kind) t) (subst (λ b. b ≤ w) (row .bounded) h))))
-    where
-      clash : {b : ℕ} → w < b → b ≤ w → ⊥
-      clash p q = omega arith
+          refused : (t u : Bool) → ¬ (bit t ≡ 0) → u ≡ false → _≡_ {A = ℕ} 4 (cond t (cond u 0 4) 5)
+          refused true true p q = absurd (subst T q tt)
+          refused true false p q = refl
+          refused false u p q = absurd (p refl)
 
-      refused : (t u : Bool) → ¬ (bit t ≡ 0) → u ≡ false → _≡_ {A = ℕ} 4 (cond t (cond u 0 4) 5)
-      refused true true p q = absurd (subst T q tt)
-      refused true false p q = refl
-      refused false u p q = absurd (p refl)
-
-  pub fault-free : ¬ (getD accepted (want * 43 + k) 0 ≡ 0) → w < getD bounds k 0 → 0 ≡ fault-of want k w
-  unfolding operand-fits
-  fault-free z h = by-row 0 (λ kind row. passed (accepts (want-of want) kind) (operand-fits kind w) (λ e. z (row .accepts-it want few ∙ e))
-      (true-test (operand-fits kind w) (lt→ltb w (operand-bound kind) (subst (λ b. w < b) (row .bounded) h))))
-    where
-      passed : (t u : Bool) → ¬ (bit t ≡ 0) → u ≡ true → _≡_ {A = ℕ} 0 (cond t (cond u 0 4) 5)
-      passed true true p q = refl
-      passed true false p q = absurd (subst T (sym q) tt)
-      passed false u p q = absurd (p refl)
+      pub fault-free : w < row / 2 ^ operands-at → 0 ≡ fault-of sort kind w
+      unfolding operand-fits refusal-number
+      fault-free h = by-row 0 (λ e. absurd (known e)) (λ k r. passed (is-of (sort-of-number sort) k) (operand-fits k w) (λ e. stands (r .of-sort sort low ∙ e))
+          (true-test (operand-fits k w) (lt→ltb w (operand-bound k) (subst (λ b. w < b) (r .bounded) h))))
+        where
+          passed : (t u : Bool) → ¬ (bit t ≡ 0) → u ≡ true → _≡_ {A = ℕ} 0 (cond t (cond u 0 4) 5)
+          passed true true p q = refl
+          passed true false p q = absurd (subst T (sym q) tt)
+          passed false u p q = absurd (p refl)

@@ -1,8 +1,7 @@
 pub mod AnswerLaws
 pub mod ScanLaws
 pub mod ScanExact
-pub mod RowBits
-pub mod Rows
+pub mod TableRows
 pub mod Faults
 pub mod Children
 pub mod ReadLaws

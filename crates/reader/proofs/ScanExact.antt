@@ -5,16 +5,18 @@ use mathlib.Core.List.{List, [], _++_}
 use native.Mathlib.Omega.{arith}
 use lib.Dec.{T, eqb, ltb, ltb→lt}
 use lib.ListN.{length, replicate}
+use Rattle.rules.specs.proofs.Basics.{append-nothing}
 use Rattle.rules.specs.paper.Tree.{Num, Boo, Id, DeRef, ValRef, Binary, Not, Assign, Loop, CSeq, block, Call, Blk, Bind, DSeq, plain, Ref, Abs, expression, command}
 use Rattle.rules.specs.paper.Limits.{names}
-use Rattle.rules.specs.paper.Kinds.{Kind, ExpressionKind, CommandKind, DeclarationKind, num, boo, id, deref, valref, binary, negation, assign, loop, cseq, blk, call, bind, dseq, expression-kind, command-kind, declaration-kind, ref, abs, formal, operand-fits, operator-number, upper-part}
+use Rattle.rules.specs.paper.Kinds.{Kind, ExpressionKind, CommandKind, DeclarationKind, num, boo, id, deref, valref, binary, negation, assign, loop, cseq, blk, call, bind, dseq, expression-kind, command-kind, declaration-kind, ref, abs, formal, operand-fits, operator-number, upper-part, an-expression, a-command, a-declaration, a-bound, a-formal, a-block, a-root}
 use Rattle.rules.specs.paper.Reader.{Node, got, then, _>>=_, give, wants-expression, wants-command, wants-declaration, wants-blk, wants-bound, wants-formal, wants-root, BlkKind, blk-kind, BoundKind, plain-kind, ref-kind, abs-kind, FormalKind, formal-kind, RootKind, root-expression, root-command, expression-by, command-by, declaration-by, bound-by, root-by, name-part, read-expression, read-many, read-formal, read-command, read-block, read-declaration, read-bound, read-root}
 use Rattle.rules.specs.claims.Listing.{truth-word}
+use Rattle.reader.specs.KindNumbers.{boo-number, not-number, loop-number, cseq-number, blk-number, call-number, dseq-number, ref-number, abs-number, formal-number}
 use Rattle.reader.specs.Pack.{node-words, expression-words, formal-words, all-words, command-words, block-words, declaration-words, bound-words, root-words}
-use Rattle.reader.specs.Scan.{an-expression, a-command, a-declaration, a-bound, a-formal, a-block, a-root, accepting, scan-list, scan}
+use Rattle.reader.specs.Scan.{accepting, scan-list, scan}
 use Rattle.reader.proofs.ScanLaws.{map-got, then-same, then-assoc, then-wrapped, then-same-with, option-map, finish, below, one-child, two-children, no-child, many-same, many-counted, list-append, sorted-same, deep-same}
 
--- ---- Each reader's own way of saying what is wanted.
+-- ---- Each reader's own way of saying which sort it wants.
 wants-expression-same : (k : Kind) → option-map expression-kind (wants-expression k) ≡ accepting an-expression k
 unfolding option-map
 wants-expression-same (expression-kind k) = refl
@@ -120,7 +122,7 @@ expression-kind-same : (d : ℕ) → ((i : ℕ) (ns : List Node) → map-got exp
 unfolding expression-words operand-fits
 expression-kind-same d same num w p t i ns = no-child d (expression-kind num) w p refl (Num p w) expression-words refl i ns
 expression-kind-same d same boo w p t i ns =
-    no-child d (expression-kind boo) w p refl (Boo p (eqb w 1)) expression-words (ap (λ x. node-words 2 x p []) (truth-word-back w t)) i ns
+    no-child d (expression-kind boo) w p refl (Boo p (eqb w 1)) expression-words (ap (λ x. node-words boo-number x p []) (truth-word-back w t)) i ns
 expression-kind-same d same id w p t i ns = no-child d (expression-kind id) w p refl (Id p w) expression-words refl i ns
 expression-kind-same d same deref w p t i ns = no-child d (expression-kind deref) w p refl (DeRef p w) expression-words refl i ns
 expression-kind-same d same valref w p t i ns = no-child d (expression-kind valref) w p refl (ValRef p w) expression-words refl i ns
@@ -129,7 +131,7 @@ expression-kind-same d same (binary o) w p t i ns =
     (λ a b. Binary p o a b) expression-words (λ a b. zero-operand (operator-number o) w p (expression-words a ++ expression-words b) t) i ns
 expression-kind-same d same negation w p t i ns =
     one-child d (expression-kind negation) w p an-expression refl (read-expression d) expression-words same (λ a. Not p a) expression-words
-    (λ a. zero-operand 15 w p (expression-words a) t) i ns
+    (λ a. zero-operand not-number w p (expression-words a) t) i ns
 
 expression-same : (d i : ℕ) (ns : List Node) → map-got expression-words (read-expression d i ns) ≡ scan d an-expression i ns
 unfolding read-expression
@@ -154,7 +156,7 @@ formal-same (suc d) i ns =
     formal-kind-same : (k : FormalKind) (w p j : ℕ) (ms : List Node) →
         map-got formal-words (got (record { place = p; name = name-part w; code = upper-part w }) j ms) ≡ below d (formal-only k) w p j ms
     formal-kind-same formal-kind w p j ms =
-        no-child d formal w p refl (record { place = p; name = name-part w; code = upper-part w }) formal-words (ap (λ x. node-words 42 x p []) (parts w)) j ms
+        no-child d formal w p refl (record { place = p; name = name-part w; code = upper-part w }) formal-words (ap (λ x. node-words formal-number x p []) (parts w)) j ms
 
 -- a count, or a name and a count, that is the operand again
 count-back : (w k : ℕ) → k ≡ upper-part w → name-part w + names * k ≡ w
@@ -169,27 +171,28 @@ module _ (d : ℕ) (commands : (i : ℕ) (ns : List Node) → map-got command-wo
       one-child d (command-kind assign) w p an-expression refl (read-expression d) expression-words (expression-same d) (λ a. Assign p w a) command-words (λ a. refl) i ns
   command-kind-same loop w p t i ns =
       two-children d (command-kind loop) w p an-expression a-command refl (read-expression d) expression-words (expression-same d) (read-command d) command-words commands
-      (λ a b. Loop p a b) command-words (λ a b. zero-operand 21 w p (expression-words a ++ command-words b) t) i ns
+      (λ a b. Loop p a b) command-words (λ a b. zero-operand loop-number w p (expression-words a ++ command-words b) t) i ns
   command-kind-same cseq w p t i ns =
       two-children d (command-kind cseq) w p a-command a-command refl (read-command d) command-words commands (read-command d) command-words commands
-      (λ a b. CSeq p a b) command-words (λ a b. zero-operand 22 w p (command-words a ++ command-words b) t) i ns
+      (λ a b. CSeq p a b) command-words (λ a b. zero-operand cseq-number w p (command-words a ++ command-words b) t) i ns
   command-kind-same blk w p t i ns =
       two-children d (command-kind blk) w p a-declaration a-command refl (read-declaration d) declaration-words declarations (read-command d) command-words commands
-      (λ a b. block (Blk p a b)) command-words (λ a b. zero-operand 23 w p (declaration-words a ++ command-words b) t) i ns
+      (λ a b. block (Blk p a b)) command-words (λ a b. zero-operand blk-number w p (declaration-words a ++ command-words b) t) i ns
   command-kind-same call w p t i ns =
       then-same-with (λ es. length es ≡ upper-part w) (all-words expression-words) command-words
       (read-many (upper-part w) (read-expression d) i ns) (scan-list (scan d) (replicate (upper-part w) an-expression) i ns)
       (many-counted (upper-part w) (read-expression d) i ns)
       (many-same d an-expression (read-expression d) expression-words (expression-same d) (upper-part w) i ns)
       (λ es. give (Call p (name-part w) es)) (λ ws. finish (command-kind call) w p ws)
-      (λ es q j rest. ap (λ x. got (node-words 24 x p (all-words expression-words es)) j rest) (count-back w (length es) q))
+      (λ es q j rest. ap (λ x. got (node-words call-number x p (all-words expression-words es)) j rest) (count-back w (length es) q))
+      ∙ ap (λ l. then (scan-list (scan d) l i ns) (λ ws. finish (command-kind call) w p ws)) (sym (append-nothing (replicate (upper-part w) an-expression)))
 
   block-kind-same : (k : BlkKind) (w p : ℕ) → T (operand-fits (blk-only k) w) → (i : ℕ) (ns : List Node) →
       map-got block-words ((read-declaration d >>= λ a. read-command d >>= λ b. give (Blk p a b)) i ns) ≡ below d (blk-only k) w p i ns
   unfolding block-words operand-fits blk-only
   block-kind-same blk-kind w p t i ns =
       two-children d (command-kind blk) w p a-declaration a-command refl (read-declaration d) declaration-words declarations (read-command d) command-words commands
-      (λ a b. Blk p a b) block-words (λ a b. zero-operand 23 w p (declaration-words a ++ command-words b) t) i ns
+      (λ a b. Blk p a b) block-words (λ a b. zero-operand blk-number w p (declaration-words a ++ command-words b) t) i ns
 
 declaration-kind-same : (d : ℕ) → ((i : ℕ) (ns : List Node) → map-got declaration-words (read-declaration d i ns) ≡ scan d a-declaration i ns) →
     ((i : ℕ) (ns : List Node) → map-got bound-words (read-bound d i ns) ≡ scan d a-bound i ns) →
@@ -200,7 +203,7 @@ declaration-kind-same d declarations bounds bind w p t i ns =
     one-child d (declaration-kind bind) w p a-bound refl (read-bound d) bound-words bounds (λ a. Bind p w a) declaration-words (λ a. refl) i ns
 declaration-kind-same d declarations bounds dseq w p t i ns =
     two-children d (declaration-kind dseq) w p a-declaration a-declaration refl (read-declaration d) declaration-words declarations (read-declaration d) declaration-words declarations
-    (λ a b. DSeq p a b) declaration-words (λ a b. zero-operand 31 w p (declaration-words a ++ declaration-words b) t) i ns
+    (λ a b. DSeq p a b) declaration-words (λ a b. zero-operand dseq-number w p (declaration-words a ++ declaration-words b) t) i ns
 
 bound-kind-same : (d : ℕ) → ((i : ℕ) (ns : List Node) → map-got block-words (read-block d i ns) ≡ scan d a-block i ns) →
     (k : BoundKind) (w p : ℕ) → T (operand-fits (bound-only k) w) → (i : ℕ) (ns : List Node) →
@@ -208,7 +211,7 @@ bound-kind-same : (d : ℕ) → ((i : ℕ) (ns : List Node) → map-got block-wo
 unfolding bound-words operand-fits
 bound-kind-same d blocks (plain-kind k) w p t i ns = then-wrapped plain bound-words (expression-by k p w (read-expression d) i ns) ∙ expression-kind-same d (expression-same d) k w p t i ns
 bound-kind-same d blocks ref-kind w p t i ns =
-    one-child d ref w p an-expression refl (read-expression d) expression-words (expression-same d) (λ a. Ref p a) bound-words (λ a. zero-operand 40 w p (expression-words a) t) i ns
+    one-child d ref w p an-expression refl (read-expression d) expression-words (expression-same d) (λ a. Ref p a) bound-words (λ a. zero-operand ref-number w p (expression-words a) t) i ns
 bound-kind-same d blocks abs-kind w p t i ns =
     then-same-with (λ fs. length fs ≡ w) (all-words formal-words) bound-words
     (read-many w (read-formal d) i ns) (scan-list (scan d) (replicate w a-formal) i ns)
@@ -216,8 +219,8 @@ bound-kind-same d blocks abs-kind w p t i ns =
     (λ fs. read-block d >>= λ b. give (Abs p fs b))
     (λ ws j rest. then (then (scan d a-block j rest) (λ b. give (ws ++ b))) (λ vs. finish abs w p vs))
     (λ fs q j rest.
-    then-same block-words bound-words (read-block d j rest) (scan d a-block j rest) (blocks j rest) (λ b. give (Abs p fs b)) (λ b j′ rest′. got (node-words 41 w p (all-words formal-words fs ++ b)) j′ rest′)
-    (λ b j′ rest′. ap (λ x. got (node-words 41 x p (all-words formal-words fs ++ block-words b)) j′ rest′) q)
+    then-same block-words bound-words (read-block d j rest) (scan d a-block j rest) (blocks j rest) (λ b. give (Abs p fs b)) (λ b j′ rest′. got (node-words abs-number w p (all-words formal-words fs ++ b)) j′ rest′)
+    (λ b j′ rest′. ap (λ x. got (node-words abs-number x p (all-words formal-words fs ++ block-words b)) j′ rest′) q)
     ∙ sym (then-assoc (scan d a-block j rest) (λ b. give (all-words formal-words fs ++ b)) (λ vs. finish abs w p vs)))
     ∙ sym (ap (λ x. then x (λ vs. finish abs w p vs)) (list-append (scan d) (replicate w a-formal) a-block i ns)
     ∙ then-assoc (scan-list (scan d) (replicate w a-formal) i ns) (λ a. scan d a-block >>= λ b. give (a ++ b)) (λ vs. finish abs w p vs))

@@ -1,5 +1,5 @@
 -- Laws of reading that hold for every sort of node: two readers whose answers agree, a node's own checks, its children by the list of
--- what is wanted of them, and a node with its children.
+-- their sorts, and a node with its children.
 use Prim.Native.Nat.{ℕ, zero, suc}
 use mathlib.Core.Path.{_≡_, refl, sym, ap, _∙_, subst}
 use mathlib.Core.Bool.{Bool, true, false, cond}
@@ -10,10 +10,10 @@ use lib.ListN.{length, replicate}
 use Rattle.rules.specs.proofs.Basics.{append-nothing, append-assoc, passed-test}
 use Rattle.rules.specs.paper.Refusals.{Refusal}
 use Rattle.rules.specs.paper.Refusals as Refusals
-use Rattle.rules.specs.paper.Kinds.{Kind, kind-of, operand-fits, kind-number}
+use Rattle.rules.specs.paper.Kinds.{Kind, kind-of, operand-fits, kind-number, Sort, is-of, child-sorts}
 use Rattle.rules.specs.paper.Reader.{Node, Got, refused, got, Read, then, _>>=_, give, refuse, Header, or-refuse, node, read-many}
 use Rattle.reader.specs.Pack.{node-words, all-words}
-use Rattle.reader.specs.Scan.{Want, accepts, accepting, child-wants, scan-list, scan}
+use Rattle.reader.specs.Scan.{accepting, scan-list, scan}
 
 -- ---- Answers that agree.
 
@@ -55,7 +55,7 @@ then-same-with P f g m n all q k l h = mapped m all ∙ ap (λ x. then x l) q
 
 -- ---- A node's own checks.
 
--- The next node, by two ways of saying what is wanted.
+-- The next node, by two ways of saying which sort is wanted.
 abbrev map-header : {K L : Type 0} → (K → L) → Header K → Header L
 map-header f h = record { place = h .place; kind = f (h .kind); operand = h .operand }
 
@@ -77,36 +77,36 @@ cond-same : {B C : Type 0} (g : B → C) (t : Bool) (x y : Got B) → map-got g 
 cond-same g true x y = refl
 cond-same g false x y = refl
 
-node-same : {K : Type 0} (wants : Kind → Option K) (want : Want) (kind : K → Kind) → ((k : Kind) → option-map kind (wants k) ≡ accepting want k) →
-    (i : ℕ) (ns : List Node) → map-got (map-header kind) (node wants i ns) ≡ node (accepting want) i ns
+node-same : {K : Type 0} (wants : Kind → Option K) (sort : Sort) (kind : K → Kind) → ((k : Kind) → option-map kind (wants k) ≡ accepting sort k) →
+    (i : ℕ) (ns : List Node) → map-got (map-header kind) (node wants i ns) ≡ node (accepting sort) i ns
 unfolding node
-node-same wants want kind e i [] = refl
-node-same wants want kind e i (n ∷ ns) =
+node-same wants sort kind e i [] = refl
+node-same wants sort kind e i (n ∷ ns) =
     or-refuse-any (map-header kind) _ i (kind-of (n .kind)) _ _ (λ k.
-    or-refuse-same kind (map-header kind) _ i (wants k) (accepting want k) (e k) _ _ (λ s.
+    or-refuse-same kind (map-header kind) _ i (wants k) (accepting sort k) (e k) _ _ (λ s.
     cond-same (map-header kind) (operand-fits k (n .operand)) _ _))
 
--- ---- A node's children, by the list of what is wanted.
+-- ---- A node's children, by the list of their sorts.
 
 -- the children of a node that is read, and its own word
 abbrev pub finish : (k : Kind) (w p : ℕ) → List ℕ → Read (List ℕ)
 finish k w p below = give (node-words (kind-number k) w p below)
 
 abbrev pub below : (d : ℕ) → Kind → (operand place : ℕ) → Read (List ℕ)
-below d k w p = scan-list (scan d) (child-wants k w) >>= λ ws. finish k w p ws
+below d k w p = scan-list (scan d) (child-sorts k w) >>= λ ws. finish k w p ws
 
-pub one-child : {A B : Type 0} (d : ℕ) (k : Kind) (w p : ℕ) (want : Want) → child-wants k w ≡ want ∷ [] → (read : Read A) (words : A → List ℕ) →
-    ((i : ℕ) (ns : List Node) → map-got words (read i ns) ≡ scan d want i ns) → (make : A → B) (all : B → List ℕ) →
+pub one-child : {A B : Type 0} (d : ℕ) (k : Kind) (w p : ℕ) (sort : Sort) → child-sorts k w ≡ sort ∷ [] → (read : Read A) (words : A → List ℕ) →
+    ((i : ℕ) (ns : List Node) → map-got words (read i ns) ≡ scan d sort i ns) → (make : A → B) (all : B → List ℕ) →
     ((a : A) → all (make a) ≡ node-words (kind-number k) w p (words a)) →
     (i : ℕ) (ns : List Node) → map-got all ((read >>= λ a. give (make a)) i ns) ≡ below d k w p i ns
 unfolding scan-list
-one-child d k w p want c read words same make all made i ns =
+one-child d k w p sort c read words same make all made i ns =
     rw c
-    (then-same words all (read i ns) (scan d want i ns) (same i ns) (λ a. give (make a)) (λ ws j rest. then (then (got [] j rest) (λ b. give (ws ++ b))) (λ vs. finish k w p vs)) (λ a j rest.
+    (then-same words all (read i ns) (scan d sort i ns) (same i ns) (λ a. give (make a)) (λ ws j rest. then (then (got [] j rest) (λ b. give (ws ++ b))) (λ vs. finish k w p vs)) (λ a j rest.
     ap (λ ws. got ws j rest) (made a ∙ ap (node-words (kind-number k) w p) (sym (append-nothing (words a)))))
-    ∙ sym (then-assoc (scan d want i ns) (λ ws j rest. then (got [] j rest) (λ b. give (ws ++ b))) (λ vs. finish k w p vs)))
+    ∙ sym (then-assoc (scan d sort i ns) (λ ws j rest. then (got [] j rest) (λ b. give (ws ++ b))) (λ vs. finish k w p vs)))
 
-pub two-children : {A B C : Type 0} (d : ℕ) (k : Kind) (w p : ℕ) (first second : Want) → child-wants k w ≡ first ∷ second ∷ [] →
+pub two-children : {A B C : Type 0} (d : ℕ) (k : Kind) (w p : ℕ) (first second : Sort) → child-sorts k w ≡ first ∷ second ∷ [] →
     (read : Read A) (words : A → List ℕ) → ((i : ℕ) (ns : List Node) → map-got words (read i ns) ≡ scan d first i ns) →
     (read′ : Read B) (words′ : B → List ℕ) → ((i : ℕ) (ns : List Node) → map-got words′ (read′ i ns) ≡ scan d second i ns) →
     (make : A → B → C) (all : C → List ℕ) → ((a : A) (b : B) → all (make a b) ≡ node-words (kind-number k) w p (words a ++ words′ b)) →
@@ -129,22 +129,22 @@ two-children d k w p first second c read words same read′ words′ same′ mak
     assoc-two (refused x q) = refl
     assoc-two (got ws j rest) = sym (then-assoc (scan-list (scan d) (second ∷ []) j rest) (λ b. give (ws ++ b)) (λ vs. finish k w p vs))
 
-pub no-child : {B : Type 0} (d : ℕ) (k : Kind) (w p : ℕ) → child-wants k w ≡ [] → (b : B) (all : B → List ℕ) → all b ≡ node-words (kind-number k) w p [] →
+pub no-child : {B : Type 0} (d : ℕ) (k : Kind) (w p : ℕ) → child-sorts k w ≡ [] → (b : B) (all : B → List ℕ) → all b ≡ node-words (kind-number k) w p [] →
     (i : ℕ) (ns : List Node) → map-got all (got b i ns) ≡ below d k w p i ns
 unfolding scan-list
 no-child d k w p c b all made i ns = rw c (ap (λ ws. got ws i ns) made)
 
 -- Several children of one sort.
-pub many-same : {A : Type 0} (d : ℕ) (want : Want) (read : Read A) (words : A → List ℕ) →
-    ((i : ℕ) (ns : List Node) → map-got words (read i ns) ≡ scan d want i ns) →
-    (n i : ℕ) (ns : List Node) → map-got (all-words words) (read-many n read i ns) ≡ scan-list (scan d) (replicate n want) i ns
+pub many-same : {A : Type 0} (d : ℕ) (sort : Sort) (read : Read A) (words : A → List ℕ) →
+    ((i : ℕ) (ns : List Node) → map-got words (read i ns) ≡ scan d sort i ns) →
+    (n i : ℕ) (ns : List Node) → map-got (all-words words) (read-many n read i ns) ≡ scan-list (scan d) (replicate n sort) i ns
 unfolding read-many scan-list all-words
-many-same d want read words same zero i ns = refl
-many-same d want read words same (suc n) i ns =
-    then-same words (all-words words) (read i ns) (scan d want i ns) (same i ns)
+many-same d sort read words same zero i ns = refl
+many-same d sort read words same (suc n) i ns =
+    then-same words (all-words words) (read i ns) (scan d sort i ns) (same i ns)
     (λ a. read-many n read >>= λ rest. give (a ∷ rest))
-    (λ ws. scan-list (scan d) (replicate n want) >>= λ b. give (ws ++ b))
-    (λ a j rest. then-same (all-words words) (all-words words) (read-many n read j rest) (scan-list (scan d) (replicate n want) j rest) (many-same d want read words same n j rest)
+    (λ ws. scan-list (scan d) (replicate n sort) >>= λ b. give (ws ++ b))
+    (λ a j rest. then-same (all-words words) (all-words words) (read-many n read j rest) (scan-list (scan d) (replicate n sort) j rest) (many-same d sort read words same n j rest)
     (λ more. give (a ∷ more)) (λ b. give (words a ++ b)) (λ more j′ rest′. refl))
 
 -- As many as were asked for.
@@ -163,7 +163,7 @@ many-counted {A} (suc n) one i ns = first (one i ns) (λ j rest. many-counted n 
     first (got a j rest) h = last a (read-many n one j rest) (h j rest)
 
 -- Several, and then one more.
-pub list-append : (one : Want → Read (List ℕ)) (us : List Want) (v : Want) (i : ℕ) (ns : List Node) →
+pub list-append : (one : Sort → Read (List ℕ)) (us : List Sort) (v : Sort) (i : ℕ) (ns : List Node) →
     scan-list one (us ++ (v ∷ [])) i ns ≡ then (scan-list one us i ns) (λ a. one v >>= λ b. give (a ++ b))
 unfolding scan-list
 list-append one [] v i ns = last (one v i ns)
@@ -196,13 +196,13 @@ header i w s = record { place = i; kind = s; operand = w }
 abbrev judged : {K : Type 0} → (i w : ℕ) (ns : List Node) → Bool → K → Got (Header K)
 judged i w ns t s = cond t (got (header i w s) (suc i) ns) (refused Refusals.Operand i)
 
-pub sorted-same : {K B : Type 0} (d : ℕ) (wants : Kind → Option K) (want : Want) (kind : K → Kind) → ((k : Kind) → option-map kind (wants k) ≡ accepting want k) →
+pub sorted-same : {K B : Type 0} (d : ℕ) (wants : Kind → Option K) (sort : Sort) (kind : K → Kind) → ((k : Kind) → option-map kind (wants k) ≡ accepting sort k) →
     (by : K → (place operand : ℕ) → Read B) (words : B → List ℕ) →
     ((k : K) (w p : ℕ) → T (operand-fits (kind k) w) → (i : ℕ) (ns : List Node) → map-got words (by k p w i ns) ≡ below d (kind k) w p i ns) →
-    (i : ℕ) (ns : List Node) → map-got words ((node wants >>= λ h. by (h .kind) (h .place) (h .operand)) i ns) ≡ scan (suc d) want i ns
+    (i : ℕ) (ns : List Node) → map-got words ((node wants >>= λ h. by (h .kind) (h .place) (h .operand)) i ns) ≡ scan (suc d) sort i ns
 unfolding node scan option-map
-sorted-same d wants want kind e by words same i [] = refl
-sorted-same {K} {B} d wants want kind e by words same i (n ∷ ns) = by-kind (kind-of (n .kind))
+sorted-same d wants sort kind e by words same i [] = refl
+sorted-same {K} {B} d wants sort kind e by words same i (n ∷ ns) = by-kind (kind-of (n .kind))
   where
     before : Header K → Read B
     before h = by (h .kind) (h .place) (h .operand)
@@ -227,13 +227,13 @@ sorted-same {K} {B} d wants want kind e by words same i (n ∷ ns) = by-kind (ki
 
     by-kind : (o : Option Kind) →
         map-got words (then (or-refuse Refusals.Kind i o (λ k. or-refuse Refusals.Tree i (wants k) (λ s. judged i (n .operand) ns (operand-fits k (n .operand)) s))) before)
-        ≡ then (or-refuse Refusals.Kind i o (λ k. or-refuse Refusals.Tree i (accepting want k) (λ s. judged i (n .operand) ns (operand-fits k (n .operand)) s))) after
+        ≡ then (or-refuse Refusals.Kind i o (λ k. or-refuse Refusals.Tree i (accepting sort k) (λ s. judged i (n .operand) ns (operand-fits k (n .operand)) s))) after
     by-kind none = refl
-    by-kind (some k) = by-sort k (wants k) (accepts want k) (e k)
+    by-kind (some k) = by-sort k (wants k) (is-of sort k) (e k)
 
 -- At depth 65: the node's own checks, then 6.
-pub deep-same : {K B : Type 0} (wants : Kind → Option K) (want : Want) (kind : K → Kind) → ((k : Kind) → option-map kind (wants k) ≡ accepting want k) →
-    (words : B → List ℕ) (i : ℕ) (ns : List Node) → map-got words ((node wants >>= λ h. refuse Refusals.Depth (h .place)) i ns) ≡ scan zero want i ns
+pub deep-same : {K B : Type 0} (wants : Kind → Option K) (sort : Sort) (kind : K → Kind) → ((k : Kind) → option-map kind (wants k) ≡ accepting sort k) →
+    (words : B → List ℕ) (i : ℕ) (ns : List Node) → map-got words ((node wants >>= λ h. refuse Refusals.Depth (h .place)) i ns) ≡ scan zero sort i ns
 unfolding scan
-deep-same wants want kind e words i ns =
-    then-same (map-header kind) words (node wants i ns) (node (accepting want) i ns) (node-same wants want kind e i ns) _ _ (λ h j rest. refl)
+deep-same wants sort kind e words i ns =
+    then-same (map-header kind) words (node wants i ns) (node (accepting sort) i ns) (node-same wants sort kind e i ns) _ _ (λ h j rest. refl)

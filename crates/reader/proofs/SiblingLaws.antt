@@ -1,57 +1,51 @@
 -- Reading a node's children one after the other: what the code has to show of one child, and of those read so far.
-use Prim.Native.Nat.{ℕ, _+_, _-_}
+use Prim.Native.Nat.{ℕ, _+_, _-_, _≤_}
 use mathlib.Core.Path.{_≡_, refl, sym, ap, _∙_, subst}
-use mathlib.Core.List.{List, [], _++_}
-use mathlib.Core.Option.{Option, none, some}
+use mathlib.Core.List.{List, _++_}
 use native.Mathlib.Omega.{arith}
 use native.Mathlib.Nat.{add-zero}
-use lib.ListN.{length, drop, length-append}
+use lib.ListN.{length, drop, length-append, drop-of-length-le}
 use Rattle.rules.specs.paper.Refusals.{refusal-number}
-use Rattle.rules.specs.paper.Kinds.{Kind, kind-of}
+use Rattle.rules.specs.paper.Kinds.{Sort}
 use Rattle.rules.specs.paper.Reader.{Node, Got, refused, got, then, _>>=_, give}
 use Rattle.reader.specs.Put.{put, put-length, put-none, put-append, put-beyond}
 use Rattle.reader.specs.Scan.{scan-list, scan}
-use Rattle.reader.specs.Tables.{want-of, rest-wants-by, rest-wants-at, WantedAt}
+use Rattle.reader.specs.Tables.{sort-of-number, last-sorts, SortedAt}
 use Rattle.reader.specs.Answers.{nodes-at, Readable, Read-on, Outcome}
 use Rattle.reader.specs.declared.Scanned.{Scanned}
 use Rattle.reader.specs.declared.Scanned.the-variants.{Next, Refused}
 use Rattle.reader.proofs.AnswerLaws.{two-answers, same-next}
-use Rattle.reader.proofs.ReadLaws.{Node-outcome, Children-outcome, refused-then, KindKnown}
+use Rattle.reader.proofs.ReadLaws.{Node-outcome, Children-outcome, refused-then}
 
 -- ---- One child.
 
-no-children : (words work : List ℕ) (n at kind left levels : ℕ) → Readable work words n at → left ≡ 0 →
-    Children-outcome words n at kind left levels (Next at) work work
-unfolding rest-wants-at scan-list
-no-children words work n at kind left levels r z =
-    subst (λ g. Outcome (nodes-at words n) n at g (Next at) work work)
-    (sym (ap (λ l. scan-list (scan levels) (rest-wants-by l (kind-of kind)) at (drop at (nodes-at words n))) z ∙ empty (kind-of kind)))
+no-children : (words work : List ℕ) (n at left : ℕ) (sorts : List Sort) (levels : ℕ) → Readable work words n at → left ≡ 0 →
+    Children-outcome words n at (last-sorts left sorts) levels (Next at) work work
+unfolding scan-list
+no-children words work n at left sorts levels r z =
+    subst (λ l. Children-outcome words n at l levels (Next at) work work) (sym (drop-of-length-le sorts {i = length sorts - left} (omega (arith, z))))
     (record { answer = refl; written = sym (put-none at work); counted = sym (add-zero at); within = r .within; remaining = refl })
-  where
-    empty : (o : Option Kind) → scan-list (scan levels) (rest-wants-by 0 o) at (drop at (nodes-at words n)) ≡ got [] at (drop at (nodes-at words n))
-    empty none = refl
-    empty (some k) = refl
 
-first-child : (kind left want levels at : ℕ) (ns : List Node) → KindKnown kind → WantedAt kind left want →
-    scan-list (scan levels) (rest-wants-at kind left) at ns ≡ then (scan levels (want-of want) at ns) (λ a. scan-list (scan levels) (rest-wants-at kind (left - 1)) >>= λ b. give (a ++ b))
-unfolding rest-wants-at scan-list
-first-child kind left want levels at ns k w = rw (k .known, w .head (k .which) (k .known))
+first-child : (sorts : List Sort) (left sort levels at : ℕ) (ns : List Node) → SortedAt sorts left sort →
+    scan-list (scan levels) (last-sorts left sorts) at ns ≡ then (scan levels (sort-of-number sort) at ns) (λ a. scan-list (scan levels) (last-sorts (left - 1) sorts) >>= λ b. give (a ++ b))
+unfolding scan-list
+first-child sorts left sort levels at ns w = ap (λ l. scan-list (scan levels) l at ns) (w .head)
 
-child-refused : (words work work′ : List ℕ) (n at kind left want levels x p : ℕ) (r : Scanned) → KindKnown kind → WantedAt kind left want →
-    Node-outcome words n at want levels r work work′ → r ≡ Refused x p →
-    Children-outcome words n at kind left levels (Refused x p) work work′
-child-refused words work work′ n at kind left want levels x p r k w o e =
-    subst (λ g. Outcome (nodes-at words n) n at g (Refused x p) work work′) (sym (first-child kind left want levels at (drop at (nodes-at words n)) k w))
-    (refused-then (nodes-at words n) n at at x p (scan levels (want-of want) at (drop at (nodes-at words n))) (λ a. scan-list (scan levels) (rest-wants-at kind (left - 1)) >>= λ b. give (a ++ b)) r work work′ o e)
+child-refused : (words work work′ : List ℕ) (n at : ℕ) (sorts : List Sort) (left sort levels x p : ℕ) (r : Scanned) → SortedAt sorts left sort →
+    Node-outcome words n at sort levels r work work′ → r ≡ Refused x p →
+    Children-outcome words n at (last-sorts left sorts) levels (Refused x p) work work′
+child-refused words work work′ n at sorts left sort levels x p r w o e =
+    subst (λ g. Outcome (nodes-at words n) n at g (Refused x p) work work′) (sym (first-child sorts left sort levels at (drop at (nodes-at words n)) w))
+    (refused-then (nodes-at words n) n at at x p (scan levels (sort-of-number sort) at (drop at (nodes-at words n))) (λ a. scan-list (scan levels) (last-sorts (left - 1) sorts) >>= λ b. give (a ++ b)) r work work′ o e)
 
 -- A child was read, and then the others.
-child-next : (words work work′ work″ : List ℕ) (n at kind left want levels next : ℕ) (r s : Scanned) → KindKnown kind → WantedAt kind left want →
-    Node-outcome words n at want levels r work work′ → r ≡ Next next →
-    Children-outcome words n next kind (left - 1) levels s work′ work″ →
-    Children-outcome words n at kind left levels s work work″
-child-next words work work′ work″ n at kind left want levels next r s k w o e others =
-    subst (λ g. Outcome (nodes-at words n) n at g s work work″) (sym (first-child kind left want levels at (drop at (nodes-at words n)) k w))
-    (by (scan levels (want-of want) at (drop at (nodes-at words n))) o)
+child-next : (words work work′ work″ : List ℕ) (n at : ℕ) (sorts : List Sort) (left sort levels next : ℕ) (r s : Scanned) → SortedAt sorts left sort →
+    Node-outcome words n at sort levels r work work′ → r ≡ Next next →
+    Children-outcome words n next (last-sorts (left - 1) sorts) levels s work′ work″ →
+    Children-outcome words n at (last-sorts left sorts) levels s work work″
+child-next words work work′ work″ n at sorts left sort levels next r s w o e others =
+    subst (λ g. Outcome (nodes-at words n) n at g s work work″) (sym (first-child sorts left sort levels at (drop at (nodes-at words n)) w))
+    (by (scan levels (sort-of-number sort) at (drop at (nodes-at words n))) o)
   where
     join : (ws : List ℕ) (rest : List Node) → Read-on (nodes-at words n) n at ws next rest r work work′ → (g : Got (List ℕ)) → Outcome (nodes-at words n) n next g s work′ work″ →
         Outcome (nodes-at words n) n at (then g (λ b. give (ws ++ b))) s work work″
@@ -73,19 +67,19 @@ child-next words work work′ work″ n at kind left want levels next r s k w o 
         }
 
     by : (g : Got (List ℕ)) → Outcome (nodes-at words n) n at g r work work′ →
-        Outcome (nodes-at words n) n at (then g (λ a. scan-list (scan levels) (rest-wants-at kind (left - 1)) >>= λ b. give (a ++ b))) s work work″
+        Outcome (nodes-at words n) n at (then g (λ a. scan-list (scan levels) (last-sorts (left - 1) sorts) >>= λ b. give (a ++ b))) s work work″
     by (refused y q) o = absurd (two-answers r next (refusal-number y) q e (o .answer))
     by (got ws j rest) o =
         let q : j ≡ next = same-next r j next (o .answer) e in
         let a : Read-on (nodes-at words n) n at ws next rest r work work′ = subst (λ i. Read-on (nodes-at words n) n at ws i rest r work work′) q o in
-        subst (λ i. Outcome (nodes-at words n) n at (then (scan-list (scan levels) (rest-wants-at kind (left - 1)) i rest) (λ b. give (ws ++ b))) s work work″) (sym q)
-        (subst (λ m. Outcome (nodes-at words n) n at (then (scan-list (scan levels) (rest-wants-at kind (left - 1)) next m) (λ b. give (ws ++ b))) s work work″) (sym (a .remaining))
-        (join ws rest a (scan-list (scan levels) (rest-wants-at kind (left - 1)) next (drop next (nodes-at words n))) others))
+        subst (λ i. Outcome (nodes-at words n) n at (then (scan-list (scan levels) (last-sorts (left - 1) sorts) i rest) (λ b. give (ws ++ b))) s work work″) (sym q)
+        (subst (λ m. Outcome (nodes-at words n) n at (then (scan-list (scan levels) (last-sorts (left - 1) sorts) next m) (λ b. give (ws ++ b))) s work work″) (sym (a .remaining))
+        (join ws rest a (scan-list (scan levels) (last-sorts (left - 1) sorts) next (drop next (nodes-at words n))) others))
 
 -- after a child, at the next place
-later-readable : (words work work′ : List ℕ) (n at levels want next : ℕ) (r : Scanned) → Readable work words n at →
-    Node-outcome words n at want levels r work work′ → r ≡ Next next → Readable work′ words n next × (length work′ ≡ length work)
-later-readable words work work′ n at levels want next r readable o e = by (scan levels (want-of want) at (drop at (nodes-at words n))) o
+later-readable : (words work work′ : List ℕ) (n at levels sort next : ℕ) (r : Scanned) → Readable work words n at →
+    Node-outcome words n at sort levels r work work′ → r ≡ Next next → Readable work′ words n next × (length work′ ≡ length work)
+later-readable words work work′ n at levels sort next r readable o e = by (scan levels (sort-of-number sort) at (drop at (nodes-at words n))) o
   where
     by : (g : Got (List ℕ)) → Outcome (nodes-at words n) n at g r work work′ → Readable work′ words n next × (length work′ ≡ length work)
     by (refused y q) o = absurd (two-answers r next (refusal-number y) q e (o .answer))
@@ -104,28 +98,39 @@ later-readable words work work′ n at levels want next r readable o e = by (sca
 
 -- Some children of a node were read: the next one may be read from here, and whatever the reading of those that are left comes to is what
 -- the reading of all of them comes to.
-pub record ReadSoFar (words : List ℕ) (n at kind count levels : ℕ) (before work : List ℕ) (left next : ℕ) : Type 0 where
+pub record ReadSoFar (words : List ℕ) (n at : ℕ) (sorts : List Sort) (levels : ℕ) (before work : List ℕ) (left next : ℕ) : Type 0 where
   pub readable : Readable work words n next
   pub same-length : length work ≡ length before
-  pub whole : (s : Scanned) (after : List ℕ) → Children-outcome words n next kind left levels s work after → Children-outcome words n at kind count levels s before after
+  pub few : left ≤ length sorts
+  pub whole : (s : Scanned) (after : List ℕ) → Children-outcome words n next (last-sorts left sorts) levels s work after → Children-outcome words n at sorts levels s before after
 
-pub none-read : (words work : List ℕ) (n at kind count levels : ℕ) → Readable work words n at → ReadSoFar words n at kind count levels work work count at
-none-read words work n at kind count levels r = record { readable = r; same-length = refl; whole = λ s after o. o }
+pub none-read : (words work : List ℕ) (n at : ℕ) (sorts : List Sort) (levels left : ℕ) → Readable work words n at → left ≡ length sorts → ReadSoFar words n at sorts levels work work left at
+none-read words work n at sorts levels left r q =
+    record {
+      readable = r;
+      same-length = refl;
+      few = omega (arith, q);
+      whole = λ s after o. subst (λ l. Children-outcome words n at l levels s work after) (ap (λ i. drop i sorts) all) o;
+    }
+  where
+    all : length sorts - left ≡ 0
+    all = omega (arith, q)
 
-module _ (words before work : List ℕ) (n at kind count levels left next : ℕ) (so-far : ReadSoFar words n at kind count levels before work left next) where
+module _ (words before work : List ℕ) (n at : ℕ) (sorts : List Sort) (levels left next : ℕ) (so-far : ReadSoFar words n at sorts levels before work left next) where
   -- none is left
-  pub all-read : left ≡ 0 → Children-outcome words n at kind count levels (Next next) before work
-  all-read z = so-far .whole (Next next) work (no-children words work n next kind left levels (so-far .readable) z)
+  pub all-read : left ≡ 0 → Children-outcome words n at sorts levels (Next next) before work
+  all-read z = so-far .whole (Next next) work (no-children words work n next left sorts levels (so-far .readable) z)
 
-  module _ (work′ : List ℕ) (want : ℕ) (r : Scanned) (known : KindKnown kind) (wanted : WantedAt kind left want) (child : Node-outcome words n next want levels r work work′) where
-    pub one-refused : (x p : ℕ) → r ≡ Refused x p → Children-outcome words n at kind count levels (Refused x p) before work′
-    one-refused x p e = so-far .whole (Refused x p) work′ (child-refused words work work′ n next kind left want levels x p r known wanted child e)
+  module _ (work′ : List ℕ) (sort : ℕ) (r : Scanned) (sorted : SortedAt sorts left sort) (child : Node-outcome words n next sort levels r work work′) where
+    pub one-refused : (x p : ℕ) → r ≡ Refused x p → Children-outcome words n at sorts levels (Refused x p) before work′
+    one-refused x p e = so-far .whole (Refused x p) work′ (child-refused words work work′ n next sorts left sort levels x p r sorted child e)
 
-    pub one-read : (end : ℕ) → r ≡ Next end → ReadSoFar words n at kind count levels before work′ (left - 1) end
+    pub one-read : (end : ℕ) → r ≡ Next end → ReadSoFar words n at sorts levels before work′ (left - 1) end
     one-read end e =
-        let readable = later-readable words work work′ n next levels want end r (so-far .readable) child e in
+        let readable = later-readable words work work′ n next levels sort end r (so-far .readable) child e in
         record {
           readable = readable .0;
           same-length = readable .1 ∙ so-far .same-length;
-          whole = λ s after o. so-far .whole s after (child-next words work work′ after n next kind left want levels end r s known wanted child e o);
+          few = omega (arith, so-far .few);
+          whole = λ s after o. so-far .whole s after (child-next words work work′ after n next sorts left sort levels end r s sorted child e o);
         }

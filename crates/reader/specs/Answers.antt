@@ -2,12 +2,9 @@
 use Prim.Native.Nat.{ℕ, _+_, _*_, _≤_}
 use mathlib.Core.Path.{_≡_}
 use mathlib.Core.List.{List}
-use mathlib.Core.Option.{some}
-use lib.Dec.{T}
 use lib.ListN.{length, take, drop}
 use Rattle.rules.specs.paper.Limits.{most-nodes}
 use Rattle.rules.specs.paper.Refusals.{Refusal, refusal-number}
-use Rattle.rules.specs.paper.Kinds.{Kind, kind-of, operand-fits}
 use Rattle.rules.specs.paper.Reader.{Node, Got, refused, got, nodes-of, Reading, bad, image}
 use Rattle.rules.specs.claims.Listing.{root-nodes}
 use Rattle.reader.specs.Pack.{root-words}
@@ -27,12 +24,6 @@ pub record Readable (work words : List ℕ) (n at : ℕ) : Type 0 where
   pub few : n ≤ most-nodes
   pub room : n ≤ length work
   pub within : at ≤ n
-
--- A node whose kind is known and whose operand is one of its kind's.
-pub record Passing (kind operand : ℕ) : Type 0 where
-  pub which : Kind
-  pub known : kind-of kind ≡ some which
-  pub fits : T (operand-fits which operand)
 
 -- Nodes were read from a place on: the answer is the next place, and the work words are those of what was read, from that place on.
 pub record Read-on (nodes : List Node) (n at : ℕ) (new : List ℕ) (next : ℕ) (left : List Node) (r : Scanned) (before after : List ℕ) : Type 0 where

@@ -1,3 +1,4 @@
+pub mod KindNumbers
 pub mod Pack
 pub mod Put
 pub mod Scan
@@ -5,4 +6,3 @@ pub mod Tables
 pub mod Answers
 pub mod Stored
 pub mod StoredLaws
-pub mod KindRows

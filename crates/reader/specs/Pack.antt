@@ -6,19 +6,29 @@ use Rattle.rules.specs.paper.Kinds.{operator-number}
 use Rattle.rules.specs.paper.Tree.{Expression, Num, Boo, Id, DeRef, ValRef, Binary, Not, Formal, Command, Assign, Loop, CSeq, block, Call, Block, Blk, Declaration, Bind, DSeq, Bound, plain, Ref, Abs, Root, expression, command}
 use Rattle.rules.specs.paper.Limits.{names}
 use Rattle.rules.specs.claims.Listing.{truth-word}
+use Rattle.reader.specs.KindNumbers.{num-number, boo-number, id-number, not-number, deref-number, valref-number, assign-number, loop-number, cseq-number, blk-number, call-number, bind-number, dseq-number, ref-number, abs-number, formal-number}
 
--- kind + 2^6 × end + 2^17 × operand
+-- The room of a kind and of an end in a node's word, and what one unit of the operand above them counts.
+abbrev pub kinds-room : ℕ
+kinds-room = 64
+
+abbrev pub ends-room : ℕ
+ends-room = 2048
+
+abbrev pub operand-unit : ℕ
+operand-unit = kinds-room * ends-room
+
 abbrev pub pack : (kind operand end : ℕ) → ℕ
-pack k w e = k + 64 * e + 131072 * w
+pack k w e = k + kinds-room * e + operand-unit * w
 
 abbrev pub packed-kind : ℕ → ℕ
-packed-kind x = x % 64
+packed-kind x = x % kinds-room
 
 abbrev pub packed-end : ℕ → ℕ
-packed-end x = x / 64 % 2048
+packed-end x = x / kinds-room % ends-room
 
 abbrev pub packed-operand : ℕ → ℕ
-packed-operand x = x / 131072
+packed-operand x = x / operand-unit
 
 -- A node at a place and the words of its descendants: its end is the place after them.
 abbrev pub node-words : (kind operand place : ℕ) → List ℕ → List ℕ
@@ -26,16 +36,16 @@ node-words k w p below = pack k w (p + suc (length below)) ∷ below
 
 -- The words of a tree, in preorder.
 unfoldable pub expression-words : Expression → List ℕ
-expression-words (Num p n) = node-words 1 n p []
-expression-words (Boo p b) = node-words 2 (truth-word b) p []
-expression-words (Id p x) = node-words 3 x p []
-expression-words (DeRef p x) = node-words 16 x p []
-expression-words (ValRef p x) = node-words 17 x p []
+expression-words (Num p n) = node-words num-number n p []
+expression-words (Boo p b) = node-words boo-number (truth-word b) p []
+expression-words (Id p x) = node-words id-number x p []
+expression-words (DeRef p x) = node-words deref-number x p []
+expression-words (ValRef p x) = node-words valref-number x p []
 expression-words (Binary p o e₁ e₂) = node-words (operator-number o) 0 p (expression-words e₁ ++ expression-words e₂)
-expression-words (Not p e) = node-words 15 0 p (expression-words e)
+expression-words (Not p e) = node-words not-number 0 p (expression-words e)
 
 abbrev pub formal-words : Formal → List ℕ
-formal-words f = node-words 42 (f .name + names * f .code) (f .place) []
+formal-words f = node-words formal-number (f .name + names * f .code) (f .place) []
 
 -- One after the other.
 unfoldable pub all-words : {A : Type 0} → (A → List ℕ) → List A → List ℕ
@@ -44,23 +54,23 @@ all-words words (a ∷ rest) = words a ++ all-words words rest
 
 unfoldable mutual
   pub command-words : Command → List ℕ
-  command-words (Assign p x e) = node-words 20 x p (expression-words e)
-  command-words (Loop p e c) = node-words 21 0 p (expression-words e ++ command-words c)
-  command-words (CSeq p c₁ c₂) = node-words 22 0 p (command-words c₁ ++ command-words c₂)
+  command-words (Assign p x e) = node-words assign-number x p (expression-words e)
+  command-words (Loop p e c) = node-words loop-number 0 p (expression-words e ++ command-words c)
+  command-words (CSeq p c₁ c₂) = node-words cseq-number 0 p (command-words c₁ ++ command-words c₂)
   command-words (block b) = block-words b
-  command-words (Call p x es) = node-words 24 (x + names * length es) p (all-words expression-words es)
+  command-words (Call p x es) = node-words call-number (x + names * length es) p (all-words expression-words es)
 
   pub block-words : Block → List ℕ
-  block-words (Blk p d c) = node-words 23 0 p (declaration-words d ++ command-words c)
+  block-words (Blk p d c) = node-words blk-number 0 p (declaration-words d ++ command-words c)
 
   pub declaration-words : Declaration → List ℕ
-  declaration-words (Bind p x b) = node-words 30 x p (bound-words b)
-  declaration-words (DSeq p d₁ d₂) = node-words 31 0 p (declaration-words d₁ ++ declaration-words d₂)
+  declaration-words (Bind p x b) = node-words bind-number x p (bound-words b)
+  declaration-words (DSeq p d₁ d₂) = node-words dseq-number 0 p (declaration-words d₁ ++ declaration-words d₂)
 
   pub bound-words : Bound → List ℕ
   bound-words (plain e) = expression-words e
-  bound-words (Ref p e) = node-words 40 0 p (expression-words e)
-  bound-words (Abs p fs b) = node-words 41 (length fs) p (all-words formal-words fs ++ block-words b)
+  bound-words (Ref p e) = node-words ref-number 0 p (expression-words e)
+  bound-words (Abs p fs b) = node-words abs-number (length fs) p (all-words formal-words fs ++ block-words b)
 
 unfoldable pub root-words : Root → List ℕ
 root-words (expression e) = expression-words e

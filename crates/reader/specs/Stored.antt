@@ -1,6 +1,6 @@
 -- Which tree the work words hold (the reader's promise): `Stored.. words d i j t` says that the node at place i is the root of t,
 -- that t's nodes end before j and t is at most d deep, and that each of its nodes has its word.
-use Prim.Native.Nat.{ℕ, zero, suc, _+_, _*_, _%_, _/_, _<_, _≤_}
+use Prim.Native.Nat.{ℕ, suc, _+_, _*_, _<_, _≤_}
 use mathlib.Core.Path.{_≡_, ap, _∙_}
 use mathlib.Core.Bool.{Bool}
 use mathlib.Core.List.{List, [], _∷_}
@@ -8,44 +8,46 @@ use native.Mathlib.Omega.{arith}
 use lib.ListN.{length, getD}
 use Rattle.rules.specs.paper.Kinds.{operator-number}
 use Rattle.rules.specs.paper.Tree.{Operator, Expression, Num, Boo, Id, DeRef, ValRef, Binary, Not, Formal, Command, Assign, Loop, CSeq, block, Call, Block, Blk, Declaration, Bind, DSeq, Bound, plain, Ref, Abs, Root, expression, command}
-use Rattle.rules.specs.paper.Limits.{names, codes, most-parameters}
+use Rattle.rules.specs.paper.Limits as Limits
+use Rattle.rules.specs.paper.Limits.{most-nodes, names, codes, most-parameters}
 use Rattle.rules.specs.claims.Listing.{truth-word}
-use Rattle.reader.specs.Pack.{pack, packed-kind, packed-end, packed-operand}
+use Rattle.reader.specs.KindNumbers.{num-number, boo-number, id-number, not-number, deref-number, valref-number, assign-number, loop-number, cseq-number, blk-number, call-number, bind-number, dseq-number, ref-number, abs-number, formal-number}
+use Rattle.reader.specs.Pack.{kinds-room, pack, packed-kind, packed-end, packed-operand}
 
 -- The word of a node: its kind, its operand, and the first node after its descendants.
 pub record HasWord (words : List ℕ) (place kind operand end : ℕ) : Type 0 where
   pub word : getD words place 0 ≡ pack kind operand end
-  pub place-low : place < 2000
-  pub operand-low : operand < 4294967296
-  pub end-low : end ≤ 2000
+  pub place-low : place < most-nodes
+  pub operand-low : operand < Limits.words
+  pub end-low : end ≤ most-nodes
 
-pub kind-is : {words : List ℕ} {i k w e : ℕ} → HasWord words i k w e → k < 64 → packed-kind (getD words i 0) ≡ k
+pub kind-is : {words : List ℕ} {i k w e : ℕ} → HasWord words i k w e → k < kinds-room → packed-kind (getD words i 0) ≡ k
 kind-is {k = k} {w = w} {e = e} h l = ap packed-kind (h .word) ∙ inside k w e l
   where
-    inside : (k w e : ℕ) → k < 64 → packed-kind (pack k w e) ≡ k
+    inside : (k w e : ℕ) → k < kinds-room → packed-kind (pack k w e) ≡ k
     inside k w e g = omega arith
 
-pub end-is : {words : List ℕ} {i k w e : ℕ} → HasWord words i k w e → k < 64 → packed-end (getD words i 0) ≡ e
+pub end-is : {words : List ℕ} {i k w e : ℕ} → HasWord words i k w e → k < kinds-room → packed-end (getD words i 0) ≡ e
 end-is {k = k} {w = w} {e = e} h l = ap packed-end (h .word) ∙ inside k w e l (h .end-low)
   where
-    inside : (k w e : ℕ) → k < 64 → e ≤ 2000 → packed-end (pack k w e) ≡ e
+    inside : (k w e : ℕ) → k < kinds-room → e ≤ most-nodes → packed-end (pack k w e) ≡ e
     inside k w e g m = omega arith
 
-pub operand-is : {words : List ℕ} {i k w e : ℕ} → HasWord words i k w e → k < 64 → packed-operand (getD words i 0) ≡ w
+pub operand-is : {words : List ℕ} {i k w e : ℕ} → HasWord words i k w e → k < kinds-room → packed-operand (getD words i 0) ≡ w
 operand-is {k = k} {w = w} {e = e} h l = ap packed-operand (h .word) ∙ inside k w e l (h .end-low)
   where
-    inside : (k w e : ℕ) → k < 64 → e ≤ 2000 → packed-operand (pack k w e) ≡ w
+    inside : (k w e : ℕ) → k < kinds-room → e ≤ most-nodes → packed-operand (pack k w e) ≡ w
     inside k w e g m = omega arith
 
 pub data StoredExpression (words : List ℕ) : (depth place next : ℕ) → Expression → Type 0 where
-  num : {d i n : ℕ} → HasWord words i 1 n (suc i) → StoredExpression words (suc d) i (suc i) (Num i n)
-  boo : {d i : ℕ} {b : Bool} → HasWord words i 2 (truth-word b) (suc i) → StoredExpression words (suc d) i (suc i) (Boo i b)
-  id : {d i x : ℕ} → x < names → HasWord words i 3 x (suc i) → StoredExpression words (suc d) i (suc i) (Id i x)
-  deref : {d i x : ℕ} → x < names → HasWord words i 16 x (suc i) → StoredExpression words (suc d) i (suc i) (DeRef i x)
-  valref : {d i x : ℕ} → x < names → HasWord words i 17 x (suc i) → StoredExpression words (suc d) i (suc i) (ValRef i x)
+  num : {d i n : ℕ} → HasWord words i num-number n (suc i) → StoredExpression words (suc d) i (suc i) (Num i n)
+  boo : {d i : ℕ} {b : Bool} → HasWord words i boo-number (truth-word b) (suc i) → StoredExpression words (suc d) i (suc i) (Boo i b)
+  id : {d i x : ℕ} → x < names → HasWord words i id-number x (suc i) → StoredExpression words (suc d) i (suc i) (Id i x)
+  deref : {d i x : ℕ} → x < names → HasWord words i deref-number x (suc i) → StoredExpression words (suc d) i (suc i) (DeRef i x)
+  valref : {d i x : ℕ} → x < names → HasWord words i valref-number x (suc i) → StoredExpression words (suc d) i (suc i) (ValRef i x)
   binary : {d i j k : ℕ} {o : Operator} {e₁ e₂ : Expression} → HasWord words i (operator-number o) 0 k →
       StoredExpression words d (suc i) j e₁ → StoredExpression words d j k e₂ → StoredExpression words (suc d) i k (Binary i o e₁ e₂)
-  negation : {d i j : ℕ} {e : Expression} → HasWord words i 15 0 j → StoredExpression words d (suc i) j e → StoredExpression words (suc d) i j (Not i e)
+  negation : {d i j : ℕ} {e : Expression} → HasWord words i not-number 0 j → StoredExpression words d (suc i) j e → StoredExpression words (suc d) i j (Not i e)
 
 pub data StoredActuals (words : List ℕ) : (depth place next : ℕ) → List Expression → Type 0 where
   no-actuals : {d i : ℕ} → StoredActuals words d i i []
@@ -54,28 +56,28 @@ pub data StoredActuals (words : List ℕ) : (depth place next : ℕ) → List Ex
 pub data StoredFormals (words : List ℕ) : (place next : ℕ) → List Formal → Type 0 where
   no-formals : {i : ℕ} → StoredFormals words i i []
   one-formal : {i k : ℕ} {f : Formal} {fs : List Formal} → f .place ≡ i → f .name < names → f .code < codes →
-      HasWord words i 42 (f .name + names * f .code) (suc i) → StoredFormals words (suc i) k fs → StoredFormals words i k (f ∷ fs)
+      HasWord words i formal-number (f .name + names * f .code) (suc i) → StoredFormals words (suc i) k fs → StoredFormals words i k (f ∷ fs)
 
 mutual
   pub data StoredCommand (words : List ℕ) : (depth place next : ℕ) → Command → Type 0 where
-    assign : {d i j x : ℕ} {e : Expression} → x < names → HasWord words i 20 x j → StoredExpression words d (suc i) j e → StoredCommand words (suc d) i j (Assign i x e)
-    loop : {d i j k : ℕ} {e : Expression} {c : Command} → HasWord words i 21 0 k → StoredExpression words d (suc i) j e → StoredCommand words d j k c → StoredCommand words (suc d) i k (Loop i e c)
-    cseq : {d i j k : ℕ} {c₁ c₂ : Command} → HasWord words i 22 0 k → StoredCommand words d (suc i) j c₁ → StoredCommand words d j k c₂ → StoredCommand words (suc d) i k (CSeq i c₁ c₂)
+    assign : {d i j x : ℕ} {e : Expression} → x < names → HasWord words i assign-number x j → StoredExpression words d (suc i) j e → StoredCommand words (suc d) i j (Assign i x e)
+    loop : {d i j k : ℕ} {e : Expression} {c : Command} → HasWord words i loop-number 0 k → StoredExpression words d (suc i) j e → StoredCommand words d j k c → StoredCommand words (suc d) i k (Loop i e c)
+    cseq : {d i j k : ℕ} {c₁ c₂ : Command} → HasWord words i cseq-number 0 k → StoredCommand words d (suc i) j c₁ → StoredCommand words d j k c₂ → StoredCommand words (suc d) i k (CSeq i c₁ c₂)
     block-of : {d i j : ℕ} {b : Block} → StoredBlock words d i j b → StoredCommand words d i j (block b)
-    call : {d i j x : ℕ} {es : List Expression} → x < names → length es ≤ most-parameters → HasWord words i 24 (x + names * length es) j →
+    call : {d i j x : ℕ} {es : List Expression} → x < names → length es ≤ most-parameters → HasWord words i call-number (x + names * length es) j →
         StoredActuals words d (suc i) j es → StoredCommand words (suc d) i j (Call i x es)
 
   pub data StoredBlock (words : List ℕ) : (depth place next : ℕ) → Block → Type 0 where
-    blk : {d i j k : ℕ} {dec : Declaration} {c : Command} → HasWord words i 23 0 k → StoredDeclaration words d (suc i) j dec → StoredCommand words d j k c → StoredBlock words (suc d) i k (Blk i dec c)
+    blk : {d i j k : ℕ} {dec : Declaration} {c : Command} → HasWord words i blk-number 0 k → StoredDeclaration words d (suc i) j dec → StoredCommand words d j k c → StoredBlock words (suc d) i k (Blk i dec c)
 
   pub data StoredDeclaration (words : List ℕ) : (depth place next : ℕ) → Declaration → Type 0 where
-    bind : {d i j x : ℕ} {b : Bound} → x < names → HasWord words i 30 x j → StoredBound words d (suc i) j b → StoredDeclaration words (suc d) i j (Bind i x b)
-    dseq : {d i j k : ℕ} {d₁ d₂ : Declaration} → HasWord words i 31 0 k → StoredDeclaration words d (suc i) j d₁ → StoredDeclaration words d j k d₂ → StoredDeclaration words (suc d) i k (DSeq i d₁ d₂)
+    bind : {d i j x : ℕ} {b : Bound} → x < names → HasWord words i bind-number x j → StoredBound words d (suc i) j b → StoredDeclaration words (suc d) i j (Bind i x b)
+    dseq : {d i j k : ℕ} {d₁ d₂ : Declaration} → HasWord words i dseq-number 0 k → StoredDeclaration words d (suc i) j d₁ → StoredDeclaration words d j k d₂ → StoredDeclaration words (suc d) i k (DSeq i d₁ d₂)
 
   pub data StoredBound (words : List ℕ) : (depth place next : ℕ) → Bound → Type 0 where
     plain-of : {d i j : ℕ} {e : Expression} → StoredExpression words d i j e → StoredBound words d i j (plain e)
-    ref : {d i j : ℕ} {e : Expression} → HasWord words i 40 0 j → StoredExpression words d (suc i) j e → StoredBound words (suc d) i j (Ref i e)
-    abs : {d i j k : ℕ} {fs : List Formal} {b : Block} → length fs ≤ most-parameters → HasWord words i 41 (length fs) k →
+    ref : {d i j : ℕ} {e : Expression} → HasWord words i ref-number 0 j → StoredExpression words d (suc i) j e → StoredBound words (suc d) i j (Ref i e)
+    abs : {d i j k : ℕ} {fs : List Formal} {b : Block} → length fs ≤ most-parameters → HasWord words i abs-number (length fs) k →
         StoredFormals words (suc i) j fs → StoredBlock words d j k b → StoredBound words (suc d) i k (Abs i fs b)
 
 pub data StoredRoot (words : List ℕ) : (depth place next : ℕ) → Root → Type 0 where

@@ -1,15 +1,17 @@
 -- The words that the reader writes store the tree it read; and what other words leave alone stays stored.
 use Prim.Native.Nat.{ℕ, zero, suc, _+_, _*_, _<_, _≤_}
-use mathlib.Core.Path.{_≡_, refl, sym, ap, _∙_, subst}
+use mathlib.Core.Path.{_≡_, sym, ap, _∙_, subst}
 use mathlib.Core.Bool.{Bool, true, false}
 use mathlib.Core.List.{List, [], _∷_, _++_}
 use native.Mathlib.Omega.{arith}
-use native.Mathlib.Nat.{add-zero, add-suc, suc-add, zero-add}
+use native.Mathlib.Nat.{add-zero, add-suc, suc-add}
 use lib.ListN.{length, getD, length-append}
 use Rattle.rules.specs.paper.Kinds.{operator-number}
-use Rattle.rules.specs.paper.Tree.{Operator, Expression, Num, Boo, Id, DeRef, ValRef, Binary, Not, Formal, Command, Assign, Loop, CSeq, block, Call, Block, Blk, Declaration, Bind, DSeq, Bound, plain, Ref, Abs, Root, expression, command}
-use Rattle.rules.specs.paper.Limits.{names, codes, most-parameters, most-depth}
+use Rattle.rules.specs.paper.Tree.{Expression, Formal, Command, Block, Declaration, Bound, Root}
+use Rattle.rules.specs.paper.Limits as Limits
+use Rattle.rules.specs.paper.Limits.{most-nodes, names, most-depth}
 use Rattle.rules.specs.claims.Listing.{truth-word}
+use Rattle.reader.specs.KindNumbers.{num-number, boo-number, id-number, not-number, deref-number, valref-number, assign-number, loop-number, cseq-number, blk-number, call-number, bind-number, dseq-number, ref-number, abs-number, formal-number}
 use Rattle.rules.specs.claims.Shape.{ShapedExpression, ShapedFormal, Many, none-left, one-more, ShapedCommand, ShapedBlock, ShapedDeclaration, ShapedBound, ShapedRoot}
 use Rattle.rules.specs.claims.Shape as Shape
 use Rattle.reader.specs.Pack.{pack, node-words, expression-words, formal-words, all-words, command-words, block-words, declaration-words, bound-words, root-words}
@@ -91,7 +93,7 @@ mutual
 -- ---- From the words of a tree to what is stored.
 
 -- the word of a node whose descendants' words follow it
-word-of : (words : List ℕ) (i k w j : ℕ) (below : List ℕ) → Segment words i (node-words k w i below) → j ≡ i + suc (length below) → j ≤ 2000 → w < 4294967296 → HasWord words i k w j
+word-of : (words : List ℕ) (i k w j : ℕ) (below : List ℕ) → Segment words i (node-words k w i below) → j ≡ i + suc (length below) → j ≤ most-nodes → w < Limits.words → HasWord words i k w j
 word-of words i k w j below s q h l =
     record { word = segment-head words i (pack k w (i + suc (length below))) below s ∙ ap (pack k w) (sym q); place-low = omega arith; operand-low = l; end-low = h }
 
@@ -99,20 +101,20 @@ module _ (words : List ℕ) where
   tail-of : (i k w : ℕ) (below : List ℕ) → Segment words i (node-words k w i below) → Segment words (suc i) below
   tail-of i k w below s = segment-tail words i (pack k w (i + suc (length below))) below s
 
-  leaf : (i k w : ℕ) → Segment words i (node-words k w i []) → suc i ≤ 2000 → w < 4294967296 → HasWord words i k w (suc i)
+  leaf : (i k w : ℕ) → Segment words i (node-words k w i []) → suc i ≤ most-nodes → w < Limits.words → HasWord words i k w (suc i)
   leaf i k w s h l = word-of words i k w (suc i) [] s (omega arith) h l
 
-  truth-low : (b : Bool) → truth-word b < 4294967296
+  truth-low : (b : Bool) → truth-word b < Limits.words
   truth-low true = omega arith
   truth-low false = omega arith
 
-  expression-stored : {d i j : ℕ} {e : Expression} → ShapedExpression d i j e → j ≤ 2000 → Segment words i (expression-words e) → StoredExpression words d i j e
+  expression-stored : {d i j : ℕ} {e : Expression} → ShapedExpression d i j e → j ≤ most-nodes → Segment words i (expression-words e) → StoredExpression words d i j e
   unfolding expression-words
-  expression-stored (Shape.num {i = i} {n = n} h) l s = Stored.num (leaf i 1 n s l h)
-  expression-stored (Shape.boo {i = i} {b = b}) l s = Stored.boo (leaf i 2 (truth-word b) s l (truth-low b))
-  expression-stored (Shape.id {i = i} {x = x} h) l s = Stored.id h (leaf i 3 x s l (omega arith))
-  expression-stored (Shape.deref {i = i} {x = x} h) l s = Stored.deref h (leaf i 16 x s l (omega arith))
-  expression-stored (Shape.valref {i = i} {x = x} h) l s = Stored.valref h (leaf i 17 x s l (omega arith))
+  expression-stored (Shape.num {i = i} {n = n} h) l s = Stored.num (leaf i num-number n s l h)
+  expression-stored (Shape.boo {i = i} {b = b}) l s = Stored.boo (leaf i boo-number (truth-word b) s l (truth-low b))
+  expression-stored (Shape.id {i = i} {x = x} h) l s = Stored.id h (leaf i id-number x s l (omega arith))
+  expression-stored (Shape.deref {i = i} {x = x} h) l s = Stored.deref h (leaf i deref-number x s l (omega arith))
+  expression-stored (Shape.valref {i = i} {x = x} h) l s = Stored.valref h (leaf i valref-number x s l (omega arith))
   expression-stored (Shape.binary {i = i} {j = j} {k = k} {o = o} {e₁ = e₁} {e₂ = e₂} h g) l s =
       let q = expression-next h in
       let r = expression-next g in
@@ -121,22 +123,22 @@ module _ (words : List ℕ) where
       (expression-stored h (omega (arith, r, l)) (segment-left words (suc i) (expression-words e₁) (expression-words e₂) t))
       (expression-stored g l (subst (λ m. Segment words m (expression-words e₂)) (sym q) (segment-right words (suc i) (expression-words e₁) (expression-words e₂) t)))
   expression-stored (Shape.negation {i = i} {j = j} {e = e} h) l s =
-      Stored.negation (word-of words i 15 0 j (expression-words e) s (omega (arith, expression-next h)) l (omega arith))
-      (expression-stored h l (tail-of i 15 0 (expression-words e) s))
+      Stored.negation (word-of words i not-number 0 j (expression-words e) s (omega (arith, expression-next h)) l (omega arith))
+      (expression-stored h l (tail-of i not-number 0 (expression-words e) s))
 
-  actuals-stored : {d i j : ℕ} {es : List Expression} → Many Expression (ShapedExpression d) i j es → j ≤ 2000 → Segment words i (all-words expression-words es) → StoredActuals words d i j es
+  actuals-stored : {d i j : ℕ} {es : List Expression} → Many Expression (ShapedExpression d) i j es → j ≤ most-nodes → Segment words i (all-words expression-words es) → StoredActuals words d i j es
   unfolding all-words
   actuals-stored none-left l s = no-actuals
   actuals-stored {d} (one-more {i = i} {a = a} {rest = rest} h g) l s =
       one-actual (expression-stored h (omega (arith, many-next (ShapedExpression d) expression-words (λ i j e s. expression-next s) g, l)) (segment-left words i (expression-words a) (all-words expression-words rest) s))
       (actuals-stored g l (subst (λ m. Segment words m (all-words expression-words rest)) (sym (expression-next h)) (segment-right words i (expression-words a) (all-words expression-words rest) s)))
 
-  formals-stored : {d i j : ℕ} {fs : List Formal} → Many Formal (ShapedFormal d) i j fs → j ≤ 2000 → Segment words i (all-words formal-words fs) → StoredFormals words i j fs
+  formals-stored : {d i j : ℕ} {fs : List Formal} → Many Formal (ShapedFormal d) i j fs → j ≤ most-nodes → Segment words i (all-words formal-words fs) → StoredFormals words i j fs
   unfolding all-words
   formals-stored none-left l s = no-formals
   formals-stored {d} (one-more {a = f} {rest = rest} (Shape.formal {i = i} q h c) g) l s =
       one-formal q h c
-      (leaf i 42 (f .name + names * f .code) (subst (λ p. Segment words i (node-words 42 (f .name + names * f .code) p [])) q (segment-left words i (formal-words f) (all-words formal-words rest) s))
+      (leaf i formal-number (f .name + names * f .code) (subst (λ p. Segment words i (node-words formal-number (f .name + names * f .code) p [])) q (segment-left words i (formal-words f) (all-words formal-words rest) s))
       (omega (arith, many-next (ShapedFormal d) formal-words (λ i j f s. formal-next s) g, l)) (omega arith))
       (formals-stored g l (subst (λ m. Segment words m (all-words formal-words rest)) (after i) (segment-right words i (formal-words f) (all-words formal-words rest) s)))
     where
@@ -146,62 +148,62 @@ module _ (words : List ℕ) where
   mutual
     unfolding command-words
 
-    command-stored : {d i j : ℕ} {c : Command} → ShapedCommand d i j c → j ≤ 2000 → Segment words i (command-words c) → StoredCommand words d i j c
+    command-stored : {d i j : ℕ} {c : Command} → ShapedCommand d i j c → j ≤ most-nodes → Segment words i (command-words c) → StoredCommand words d i j c
     command-stored (Shape.assign {i = i} {j = j} {x = x} {e = e} h g) l s =
-        Stored.assign h (word-of words i 20 x j (expression-words e) s (omega (arith, expression-next g)) l (omega arith)) (expression-stored g l (tail-of i 20 x (expression-words e) s))
+        Stored.assign h (word-of words i assign-number x j (expression-words e) s (omega (arith, expression-next g)) l (omega arith)) (expression-stored g l (tail-of i assign-number x (expression-words e) s))
     command-stored (Shape.loop {i = i} {j = j} {k = k} {e = e} {c = c} h g) l s =
         let q = expression-next h in
         let r = command-next g in
-        let t = tail-of i 21 0 (expression-words e ++ command-words c) s in
-        Stored.loop (word-of words i 21 0 k (expression-words e ++ command-words c) s (next-two i j k (expression-words e) (command-words c) q r) l (omega arith))
+        let t = tail-of i loop-number 0 (expression-words e ++ command-words c) s in
+        Stored.loop (word-of words i loop-number 0 k (expression-words e ++ command-words c) s (next-two i j k (expression-words e) (command-words c) q r) l (omega arith))
         (expression-stored h (omega (arith, r, l)) (segment-left words (suc i) (expression-words e) (command-words c) t))
         (command-stored g l (subst (λ m. Segment words m (command-words c)) (sym q) (segment-right words (suc i) (expression-words e) (command-words c) t)))
     command-stored (Shape.cseq {i = i} {j = j} {k = k} {c₁ = c₁} {c₂ = c₂} h g) l s =
         let q = command-next h in
         let r = command-next g in
-        let t = tail-of i 22 0 (command-words c₁ ++ command-words c₂) s in
-        Stored.cseq (word-of words i 22 0 k (command-words c₁ ++ command-words c₂) s (next-two i j k (command-words c₁) (command-words c₂) q r) l (omega arith))
+        let t = tail-of i cseq-number 0 (command-words c₁ ++ command-words c₂) s in
+        Stored.cseq (word-of words i cseq-number 0 k (command-words c₁ ++ command-words c₂) s (next-two i j k (command-words c₁) (command-words c₂) q r) l (omega arith))
         (command-stored h (omega (arith, r, l)) (segment-left words (suc i) (command-words c₁) (command-words c₂) t))
         (command-stored g l (subst (λ m. Segment words m (command-words c₂)) (sym q) (segment-right words (suc i) (command-words c₁) (command-words c₂) t)))
     command-stored (Shape.block-of h) l s = Stored.block-of (block-stored h l s)
     command-stored (Shape.call {d = d} {i = i} {j = j} {x = x} {es = es} h g m) l s =
         Stored.call h g
-        (word-of words i 24 (x + names * length es) j (all-words expression-words es) s (omega (arith, many-next (ShapedExpression d) expression-words (λ i j e s. expression-next s) m)) l (omega arith))
-        (actuals-stored m l (tail-of i 24 (x + names * length es) (all-words expression-words es) s))
+        (word-of words i call-number (x + names * length es) j (all-words expression-words es) s (omega (arith, many-next (ShapedExpression d) expression-words (λ i j e s. expression-next s) m)) l (omega arith))
+        (actuals-stored m l (tail-of i call-number (x + names * length es) (all-words expression-words es) s))
 
-    block-stored : {d i j : ℕ} {b : Block} → ShapedBlock d i j b → j ≤ 2000 → Segment words i (block-words b) → StoredBlock words d i j b
+    block-stored : {d i j : ℕ} {b : Block} → ShapedBlock d i j b → j ≤ most-nodes → Segment words i (block-words b) → StoredBlock words d i j b
     block-stored (Shape.blk {i = i} {j = j} {k = k} {dec = dec} {c = c} h g) l s =
         let q = declaration-next h in
         let r = command-next g in
-        let t = tail-of i 23 0 (declaration-words dec ++ command-words c) s in
-        Stored.blk (word-of words i 23 0 k (declaration-words dec ++ command-words c) s (next-two i j k (declaration-words dec) (command-words c) q r) l (omega arith))
+        let t = tail-of i blk-number 0 (declaration-words dec ++ command-words c) s in
+        Stored.blk (word-of words i blk-number 0 k (declaration-words dec ++ command-words c) s (next-two i j k (declaration-words dec) (command-words c) q r) l (omega arith))
         (declaration-stored h (omega (arith, r, l)) (segment-left words (suc i) (declaration-words dec) (command-words c) t))
         (command-stored g l (subst (λ m. Segment words m (command-words c)) (sym q) (segment-right words (suc i) (declaration-words dec) (command-words c) t)))
 
-    declaration-stored : {d i j : ℕ} {dec : Declaration} → ShapedDeclaration d i j dec → j ≤ 2000 → Segment words i (declaration-words dec) → StoredDeclaration words d i j dec
+    declaration-stored : {d i j : ℕ} {dec : Declaration} → ShapedDeclaration d i j dec → j ≤ most-nodes → Segment words i (declaration-words dec) → StoredDeclaration words d i j dec
     declaration-stored (Shape.bind {i = i} {j = j} {x = x} {b = b} h g) l s =
-        Stored.bind h (word-of words i 30 x j (bound-words b) s (omega (arith, bound-next g)) l (omega arith)) (bound-stored g l (tail-of i 30 x (bound-words b) s))
+        Stored.bind h (word-of words i bind-number x j (bound-words b) s (omega (arith, bound-next g)) l (omega arith)) (bound-stored g l (tail-of i bind-number x (bound-words b) s))
     declaration-stored (Shape.dseq {i = i} {j = j} {k = k} {d₁ = d₁} {d₂ = d₂} h g) l s =
         let q = declaration-next h in
         let r = declaration-next g in
-        let t = tail-of i 31 0 (declaration-words d₁ ++ declaration-words d₂) s in
-        Stored.dseq (word-of words i 31 0 k (declaration-words d₁ ++ declaration-words d₂) s (next-two i j k (declaration-words d₁) (declaration-words d₂) q r) l (omega arith))
+        let t = tail-of i dseq-number 0 (declaration-words d₁ ++ declaration-words d₂) s in
+        Stored.dseq (word-of words i dseq-number 0 k (declaration-words d₁ ++ declaration-words d₂) s (next-two i j k (declaration-words d₁) (declaration-words d₂) q r) l (omega arith))
         (declaration-stored h (omega (arith, r, l)) (segment-left words (suc i) (declaration-words d₁) (declaration-words d₂) t))
         (declaration-stored g l (subst (λ m. Segment words m (declaration-words d₂)) (sym q) (segment-right words (suc i) (declaration-words d₁) (declaration-words d₂) t)))
 
-    bound-stored : {d i j : ℕ} {b : Bound} → ShapedBound d i j b → j ≤ 2000 → Segment words i (bound-words b) → StoredBound words d i j b
+    bound-stored : {d i j : ℕ} {b : Bound} → ShapedBound d i j b → j ≤ most-nodes → Segment words i (bound-words b) → StoredBound words d i j b
     bound-stored (Shape.plain-of h) l s = Stored.plain-of (expression-stored h l s)
     bound-stored (Shape.ref {i = i} {j = j} {e = e} h) l s =
-        Stored.ref (word-of words i 40 0 j (expression-words e) s (omega (arith, expression-next h)) l (omega arith)) (expression-stored h l (tail-of i 40 0 (expression-words e) s))
+        Stored.ref (word-of words i ref-number 0 j (expression-words e) s (omega (arith, expression-next h)) l (omega arith)) (expression-stored h l (tail-of i ref-number 0 (expression-words e) s))
     bound-stored (Shape.abs {d = d} {i = i} {j = j} {k = k} {fs = fs} {b = b} g m h) l s =
         let q = many-next (ShapedFormal d) formal-words (λ i j f s. formal-next s) m in
         let r = block-next h in
-        let t = tail-of i 41 (length fs) (all-words formal-words fs ++ block-words b) s in
-        Stored.abs g (word-of words i 41 (length fs) k (all-words formal-words fs ++ block-words b) s (next-two i j k (all-words formal-words fs) (block-words b) q r) l (omega arith))
+        let t = tail-of i abs-number (length fs) (all-words formal-words fs ++ block-words b) s in
+        Stored.abs g (word-of words i abs-number (length fs) k (all-words formal-words fs ++ block-words b) s (next-two i j k (all-words formal-words fs) (block-words b) q r) l (omega arith))
         (formals-stored m (omega (arith, r, l)) (segment-left words (suc i) (all-words formal-words fs) (block-words b) t))
         (block-stored h l (subst (λ n. Segment words n (block-words b)) (sym q) (segment-right words (suc i) (all-words formal-words fs) (block-words b) t)))
 
-  root-stored : {d i j : ℕ} {t : Root} → ShapedRoot d i j t → j ≤ 2000 → Segment words i (root-words t) → StoredRoot words d i j t
+  root-stored : {d i j : ℕ} {t : Root} → ShapedRoot d i j t → j ≤ most-nodes → Segment words i (root-words t) → StoredRoot words d i j t
   unfolding root-words
   root-stored (Shape.root-expression h) l s = Stored.root-expression (expression-stored h l s)
   root-stored (Shape.root-command h) l s = Stored.root-command (command-stored h l s)
@@ -212,14 +214,14 @@ root-next (Shape.root-expression h) = expression-next h
 root-next (Shape.root-command h) = command-next h
 
 -- What `read_image` writes of a tree stores it.
-pub stored-by-put : {n : ℕ} {t : Root} (work : List ℕ) → ShapedRoot most-depth 0 n t → n ≤ 2000 → 2000 ≤ length work → StoredRoot (put 0 (root-words t) work) most-depth 0 n t
+pub stored-by-put : {n : ℕ} {t : Root} (work : List ℕ) → ShapedRoot most-depth 0 n t → n ≤ most-nodes → most-nodes ≤ length work → StoredRoot (put 0 (root-words t) work) most-depth 0 n t
 stored-by-put {n} {t} work s h room =
     root-stored (put 0 (root-words t) work) s h (λ k l. put-at 0 k (root-words t) work l (omega (arith, root-next s, h, room)))
 
 -- ---- Words that agree on the nodes store the same trees.
 
 abbrev pub SameNodes : List ℕ → List ℕ → Type 0
-SameNodes words words′ = (i : ℕ) → i < 2000 → getD words′ i 0 ≡ getD words i 0
+SameNodes words words′ = (i : ℕ) → i < most-nodes → getD words′ i 0 ≡ getD words i 0
 
 module _ (words words′ : List ℕ) (same : SameNodes words words′) where
   same-word : {i k w e : ℕ} → HasWord words i k w e → HasWord words′ i k w e

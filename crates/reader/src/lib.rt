@@ -1,14 +1,16 @@
 // From the image's words to the shape: each node's checks in the paper's order and, for a whole tree, one work word a node.
 pub mod kinds;
+mod refusals;
 mod tables;
 
 ghost use mathlib.Core.Path.{_≡_};
 ghost use Prim.Native.Nat.{_<_, _≤_};
 ghost use lib.ListN.{length, drop, getD};
+ghost use Rattle.rules.specs.paper.Limits.{most-nodes, most-depth, words};
 ghost use Rattle.rules.specs.paper.Reader.{read};
 ghost use Rattle.reader.specs.Scan.{scan};
-ghost use Rattle.reader.specs.Tables.{want-of};
-ghost use Rattle.reader.specs.Pack.{pack, packed-kind, packed-operand, packed-end};
+ghost use Rattle.reader.specs.Tables.{sort-numbers, sort-of-number};
+ghost use Rattle.reader.specs.Pack.{kinds-room, ends-room, pack, packed-kind, packed-operand, packed-end};
 ghost use Rattle.reader.specs.Answers.{nodes-at, Readable, Outcome, ShapeAnswer};
 
 // What reading a node and its descendants comes to: the first node after them, or a refusal with its place.
@@ -23,12 +25,22 @@ pub enum Shape {
     Refused(u64, usize),
 }
 
-// The word of a node: kind + 2^6 × end + 2^17 × operand.
+// The room of a kind and of an end in a node's word, and what one unit of the operand above them counts (specs/Pack.antt).
+const KINDS_ROOM: u64 = 64;
+
+const ENDS_ROOM: u64 = 2048;
+
+const OPERAND_UNIT: u64 = KINDS_ROOM * ENDS_ROOM;
+
+// How deep a tree may be.
+const MOST_DEPTH: usize = 64;
+
+// The word of a node: its kind, the first node after its descendants, and its operand.
 fn node_word(kind: usize, operand: u64, end: usize) -> u64
-    requires { ⌜ (kind < 64) × (operand < 4294967296) × (end < 2048) ⌝ }
+    requires { ⌜ (kind < kinds-room) × (operand < words) × (end < ends-room) ⌝ }
     ensures { λ r. ⌜ r ≡ pack kind operand end ⌝ }
 {
-    kind as u64 + 64 * (end as u64) + 131072 * operand
+    kind as u64 + KINDS_ROOM * (end as u64) + OPERAND_UNIT * operand
 }
 
 // A node with its descendants, with this many levels of depth left for it.
@@ -37,31 +49,32 @@ fn read_node(
     image: &[u32],
     n: usize,
     at: usize,
-    want: usize,
+    sort: u64,
     levels: usize,
 ) -> Scanned
     requires { ⌜ Readable (now work) (now image) n at ⌝ }
-    requires { ⌜ want < 7 ⌝ }
-    requires { ⌜ levels ≤ 64 ⌝ }
-    ensures { λ r. ⌜ Outcome (nodes-at (now (image .entry)) n) n at (scan levels (want-of want) at (drop at (nodes-at (now (image .entry)) n))) r (now (work .entry)) (now (work .exit)) ⌝ }
+    requires { ⌜ sort < sort-numbers ⌝ }
+    requires { ⌜ levels ≤ most-depth ⌝ }
+    ensures { λ r. ⌜ Outcome (nodes-at (now (image .entry)) n) n at (scan levels (sort-of-number sort) at (drop at (nodes-at (now (image .entry)) n))) r (now (work .entry)) (now (work .exit)) ⌝ }
 {
     if n <= at {
-        return Scanned::Refused(5, at);
+        return Scanned::Refused(refusals::TREE, at);
     }
     let kind = image[2 + at] as usize;
     let operand = image[2 + n + at] as u64;
-    let fault = tables::node_fault(kind, operand, want);
+    let row = tables::row(kind);
+    let fault = tables::node_fault(row, operand, sort);
     if fault != 0 {
         return Scanned::Refused(fault, at);
     }
     if levels == 0 {
-        return Scanned::Refused(6, at);
+        return Scanned::Refused(refusals::DEPTH, at);
     }
-    let mut left = tables::child_count(kind, operand);
+    let mut left = tables::child_count(row, operand);
     let mut end = at + 1;
     while left != 0 {
-        let child_want = tables::child_want(kind, left);
-        let child = read_node(work, image, n, end, child_want, levels - 1);
+        let child_sort = tables::child_sort(row, left);
+        let child = read_node(work, image, n, end, child_sort, levels - 1);
         let Scanned::Next(next) = child else {
             return child;
         };
@@ -74,11 +87,11 @@ fn read_node(
 
 // The whole image: its shape, with a work word for each node; or the first refusal, and then the first 2,000 work words are spoilt.
 pub fn read_image(work: &mut [u64], image: &[u32]) -> Shape
-    requires { ⌜ 2000 ≤ length (now work) ⌝ }
+    requires { ⌜ most-nodes ≤ length (now work) ⌝ }
     ensures { λ r. ⌜ ShapeAnswer (read (now (image .entry))) r (now (work .entry)) (now (work .exit)) ⌝ }
 {
     if image.len() < 2 {
-        return Shape::Refused(1, 0);
+        return Shape::Refused(refusals::LENGTH, 0);
     }
     let n = image[0] as usize;
     let registers = image[1] as usize;
@@ -92,15 +105,15 @@ pub fn read_image(work: &mut [u64], image: &[u32]) -> Shape
         return Shape::Refused(2, 0);
     }
     if image.len() != 2 + 2 * n {
-        return Shape::Refused(1, 0);
+        return Shape::Refused(refusals::LENGTH, 0);
     }
-    let root = read_node(work, image, n, 0, 6, 64);
+    let root = read_node(work, image, n, 0, tables::ROOT, MOST_DEPTH);
     match root {
         Scanned::Next(end) => {
             if end == n {
                 Shape::Image(n, registers)
             } else {
-                Shape::Refused(5, end)
+                Shape::Refused(refusals::TREE, end)
             }
         }
         Scanned::Refused(number, place) => Shape::Refused(number, place),
@@ -112,19 +125,19 @@ pub fn kind(work: &[u64], node: usize) -> usize
     requires { ⌜ node < length (now work) ⌝ }
     ensures { λ r. ⌜ r ≡ packed-kind (getD (now (work .entry)) node 0) ⌝ }
 {
-    (work[node] % 64) as usize
+    (work[node] % KINDS_ROOM) as usize
 }
 
 pub fn operand(work: &[u64], node: usize) -> usize
     requires { ⌜ node < length (now work) ⌝ }
     ensures { λ r. ⌜ r ≡ packed-operand (getD (now (work .entry)) node 0) ⌝ }
 {
-    (work[node] / 131072) as usize
+    (work[node] / OPERAND_UNIT) as usize
 }
 
 pub fn end(work: &[u64], node: usize) -> usize
     requires { ⌜ node < length (now work) ⌝ }
     ensures { λ r. ⌜ r ≡ packed-end (getD (now (work .entry)) node 0) ⌝ }
 {
-    (work[node] / 64 % 2048) as usize
+    (work[node] / KINDS_ROOM % ENDS_ROOM) as usize
 }

@@ -1,139 +1,232 @@
-// The table of kinds, by numbers: what a node's operand is below, where a kind may stand, how many children it has and what is wanted
-// of them.
+// The table of kinds: one row a kind, packed in a word, and what a row says of a node. A row, from its lowest bit on:
+//   7 bits   the sorts that the kind is of, bit s for the sort with number s
+//   2 bits   how many children it has beside those that its operand counts
+//   12 bits  the sorts of its last four children, from the last one on; the fourth is also that of all children before it
+//   6 bits   how far an operand is shifted to give the children that it counts; a word's bits, which leaves 0, for none
+//   37 bits  the number that its operands are below
+use crate::kinds;
+use crate::refusals;
 ghost use mathlib.Core.Path.{_≡_};
-ghost use Prim.Native.Nat.{_+_, _*_, _<_};
-ghost use lib.ListN.{length, getD};
-ghost use Rattle.reader.specs.KindRows.{bounds, accepted, counts, firsts, lasts, bit-at};
-ghost use Rattle.reader.specs.Tables.{fault-of, wants-at, WantedAt};
-ghost use Rattle.reader.specs.Answers.{Passing};
+ghost use Prim.Native.Nat.{ℕ, _<_, _≤_};
+ghost use lib.ListN.{length};
+ghost use Rattle.rules.specs.paper.Limits.{words};
+ghost use Rattle.rules.specs.paper.Kinds.{Kind, child-sorts};
+ghost use Rattle.reader.specs.Tables.{sort-numbers, row-word, row-at, fault-of, SortedAt};
 
-// One bit of a mask over the kinds.
-fn has(mask: u64, kind: usize) -> u64
-    requires { ⌜ kind < 43 ⌝ }
-    ensures { λ r. ⌜ r ≡ bit-at mask kind ⌝ }
+// The numbers of the sorts.
+const EXPRESSION: u64 = 0;
+
+const COMMAND: u64 = 1;
+
+const DECLARATION: u64 = 2;
+
+const BOUND: u64 = 3;
+
+const FORMAL: u64 = 4;
+
+const BLOCK: u64 = 5;
+
+pub(crate) const ROOT: u64 = 6;
+
+// Where the parts of a row begin, and the room that they have.
+const FIXED_AT: usize = 7;
+
+const FIXED_ROOM: u64 = 4;
+
+const SORTS_AT: usize = 9;
+
+const SORT_BITS: usize = 3;
+
+const SORT_ROOM: u64 = 8;
+
+const SHIFT_AT: usize = 21;
+
+const SHIFT_ROOM: u64 = 64;
+
+const OPERANDS_AT: usize = 27;
+
+// Where the sorts of the last four children begin.
+const LAST_CHILDREN: usize = 4;
+
+const LAST: usize = SORTS_AT;
+
+const SECOND_LAST: usize = LAST + SORT_BITS;
+
+const THIRD_LAST: usize = SECOND_LAST + SORT_BITS;
+
+const FOURTH_LAST: usize = THIRD_LAST + SORT_BITS;
+
+// The sorts that a kind is of.
+const IS_EXPRESSION: u64 = 1 << EXPRESSION | 1 << BOUND | 1 << ROOT;
+
+const IS_COMMAND: u64 = 1 << COMMAND | 1 << ROOT;
+
+const IS_BLOCK: u64 = 1 << COMMAND | 1 << BLOCK | 1 << ROOT;
+
+const IS_DECLARATION: u64 = 1 << DECLARATION;
+
+const IS_BOUND: u64 = 1 << BOUND;
+
+const IS_FORMAL: u64 = 1 << FORMAL;
+
+// The limits on operands (rules, paper/Limits.antt): words, names, type codes, parameters.
+const WORD_BITS: u64 = 32;
+
+const NAME_BITS: u64 = 6;
+
+const NAMES: u64 = 1 << NAME_BITS;
+
+const CODES: u64 = 8;
+
+const MOST_PARAMETERS: u64 = 8;
+
+// How many children: none, one or two; as many as the operand's upper part says; or as many as the operand says, and one more.
+const NO_CHILD: u64 = 0 << FIXED_AT | WORD_BITS << SHIFT_AT;
+
+const ONE_CHILD: u64 = 1 << FIXED_AT | WORD_BITS << SHIFT_AT;
+
+const TWO_CHILDREN: u64 = 2 << FIXED_AT | WORD_BITS << SHIFT_AT;
+
+const COUNTED: u64 = 0 << FIXED_AT | NAME_BITS << SHIFT_AT;
+
+const COUNTED_AND_ONE: u64 = 1 << FIXED_AT | 0 << SHIFT_AT;
+
+// Children that are all of one sort, and all but the last.
+const EACH: u64 = 1 << FOURTH_LAST | 1 << THIRD_LAST | 1 << SECOND_LAST | 1 << LAST;
+
+const EACH_BEFORE: u64 = 1 << FOURTH_LAST | 1 << THIRD_LAST | 1 << SECOND_LAST;
+
+// What an operand may be.
+const ANY_WORD: u64 = 1 << WORD_BITS << OPERANDS_AT;
+
+const A_TRUTH: u64 = 2 << OPERANDS_AT;
+
+const A_NAME: u64 = NAMES << OPERANDS_AT;
+
+const ZERO: u64 = 1 << OPERANDS_AT;
+
+const A_COUNT: u64 = (MOST_PARAMETERS + 1) << OPERANDS_AT;
+
+const NAME_AND_COUNT: u64 = NAMES * (MOST_PARAMETERS + 1) << OPERANDS_AT;
+
+const NAME_AND_CODE: u64 = NAMES * CODES << OPERANDS_AT;
+
+// The rows.
+const NO_KIND: u64 = 0;
+
+const NUM_ROW: u64 = IS_EXPRESSION | NO_CHILD | ANY_WORD;
+
+const BOO_ROW: u64 = IS_EXPRESSION | NO_CHILD | A_TRUTH;
+
+const NAME_ROW: u64 = IS_EXPRESSION | NO_CHILD | A_NAME;
+
+const BINARY_ROW: u64 = IS_EXPRESSION
+    | TWO_CHILDREN
+    | EXPRESSION << SECOND_LAST
+    | EXPRESSION << LAST
+    | ZERO;
+
+const NOT_ROW: u64 = IS_EXPRESSION | ONE_CHILD | EXPRESSION << LAST | ZERO;
+
+const ASSIGN_ROW: u64 = IS_COMMAND | ONE_CHILD | EXPRESSION << LAST | A_NAME;
+
+const LOOP_ROW: u64 = IS_COMMAND
+    | TWO_CHILDREN
+    | EXPRESSION << SECOND_LAST
+    | COMMAND << LAST
+    | ZERO;
+
+const CSEQ_ROW: u64 = IS_COMMAND | TWO_CHILDREN | COMMAND << SECOND_LAST | COMMAND << LAST | ZERO;
+
+const BLK_ROW: u64 = IS_BLOCK | TWO_CHILDREN | DECLARATION << SECOND_LAST | COMMAND << LAST | ZERO;
+
+const CALL_ROW: u64 = IS_COMMAND | COUNTED | EXPRESSION * EACH | NAME_AND_COUNT;
+
+const BIND_ROW: u64 = IS_DECLARATION | ONE_CHILD | BOUND << LAST | A_NAME;
+
+const DSEQ_ROW: u64 = IS_DECLARATION
+    | TWO_CHILDREN
+    | DECLARATION << SECOND_LAST
+    | DECLARATION << LAST
+    | ZERO;
+
+const REF_ROW: u64 = IS_BOUND | ONE_CHILD | EXPRESSION << LAST | ZERO;
+
+const ABS_ROW: u64 = IS_BOUND | COUNTED_AND_ONE | FORMAL * EACH_BEFORE | BLOCK << LAST | A_COUNT;
+
+const FORMAL_ROW: u64 = IS_FORMAL | NO_CHILD | NAME_AND_CODE;
+
+// The row of the kind with this number; 0 where none has it.
+pub(crate) fn row(kind: usize) -> u64
+    ensures { λ r. ⌜ r ≡ row-at kind ⌝ }
 {
-    (mask >> kind) % 2
+    match kind {
+        kinds::NUM => NUM_ROW,
+        kinds::BOO => BOO_ROW,
+        kinds::ID => NAME_ROW,
+        kinds::SUM => BINARY_ROW,
+        kinds::SUB => BINARY_ROW,
+        kinds::MUL => BINARY_ROW,
+        kinds::DIV => BINARY_ROW,
+        kinds::EQ => BINARY_ROW,
+        kinds::LT => BINARY_ROW,
+        kinds::LE => BINARY_ROW,
+        kinds::GT => BINARY_ROW,
+        kinds::GE => BINARY_ROW,
+        kinds::AND => BINARY_ROW,
+        kinds::OR => BINARY_ROW,
+        kinds::NOT => NOT_ROW,
+        kinds::DEREF => NAME_ROW,
+        kinds::VALREF => NAME_ROW,
+        kinds::ASSIGN => ASSIGN_ROW,
+        kinds::LOOP => LOOP_ROW,
+        kinds::CSEQ => CSEQ_ROW,
+        kinds::BLK => BLK_ROW,
+        kinds::CALL => CALL_ROW,
+        kinds::BIND => BIND_ROW,
+        kinds::DSEQ => DSEQ_ROW,
+        kinds::REF => REF_ROW,
+        kinds::ABS => ABS_ROW,
+        kinds::FORMAL => FORMAL_ROW,
+        _ => NO_KIND,
+    }
 }
 
-// The number that a kind's operands are below; 0 where no kind has this number.
-fn bound(kind: usize) -> u64
-    requires { ⌜ kind < 43 ⌝ }
-    ensures { λ r. ⌜ r ≡ getD bounds kind 0 ⌝ }
+// The checks of a node but its depth, by its kind's row: kind, wrong sort, operand; 0 where it passes them.
+pub(crate) fn node_fault(row: u64, operand: u64, sort: u64) -> u64
+    requires { ⌜ sort < sort-numbers ⌝ }
+    ensures { λ r. ⌜ ((kind : ℕ) → row ≡ row-at kind → r ≡ fault-of sort kind operand) ⌝ }
 {
-    if kind == 1 {
-        return 4294967296;
+    if row == NO_KIND {
+        return refusals::KIND;
     }
-    if kind == 2 {
-        return 2;
+    if (row >> sort) % 2 == 0 {
+        return refusals::TREE;
     }
-    if kind == 24 {
-        return 576;
-    }
-    if kind == 41 {
-        return 9;
-    }
-    if kind == 42 {
-        return 512;
-    }
-    63 * has(1074987016, kind) + has(1102748844024, kind)
-}
-
-// 1 where a kind may stand where this is wanted.
-fn stands(want: usize, kind: usize) -> u64
-    requires { ⌜ kind < 43 ⌝ }
-    requires { ⌜ want < 7 ⌝ }
-    ensures { λ r. ⌜ r ≡ getD accepted (want * 43 + kind) 0 ⌝ }
-{
-    if want == 0 {
-        return has(262142, kind);
-    }
-    if want == 1 {
-        return has(32505856, kind);
-    }
-    if want == 2 {
-        return has(3221225472, kind);
-    }
-    if want == 3 {
-        return has(3298535145470, kind);
-    }
-    if want == 4 {
-        return has(4398046511104, kind);
-    }
-    if want == 5 {
-        return has(8388608, kind);
-    }
-    has(32767998, kind)
-}
-
-// How many children a kind has, but for a Call and an Abs.
-fn count(kind: usize) -> u64
-    requires { ⌜ kind < 43 ⌝ }
-    ensures { λ r. ⌜ r ≡ getD counts kind 0 ⌝ }
-{
-    has(2162196464, kind) + has(1102748647408, kind)
-}
-
-// What is wanted of a child that is not the last.
-fn first(kind: usize) -> u64
-    requires { ⌜ kind < 43 ⌝ }
-    ensures { λ r. ⌜ r ≡ getD firsts kind 0 ⌝ }
-{
-    has(1077936128, kind) + 2 * has(3229614080, kind) + 4 * has(2199023255552, kind)
-}
-
-// What is wanted of the last child.
-fn last(kind: usize) -> u64
-    requires { ⌜ kind < 43 ⌝ }
-    ensures { λ r. ⌜ r ≡ getD lasts kind 0 ⌝ }
-{
-    has(2200111677440, kind) + 2 * has(3221225472, kind) + 4 * has(2199023255552, kind)
-}
-
-// The checks of a node but its depth: kind (3), wrong sort (5), operand (4); 0 where it passes them.
-pub(crate) fn node_fault(kind: usize, operand: u64, want: usize) -> u64
-    requires { ⌜ want < 7 ⌝ }
-    ensures { λ r. ⌜ r ≡ fault-of want kind operand ⌝ }
-{
-    if 43 <= kind {
-        return 3;
-    }
-    let limit = bound(kind);
-    if limit == 0 {
-        return 3;
-    }
-    let accepted = stands(want, kind);
-    if accepted == 0 {
-        return 5;
-    }
-    if limit <= operand {
-        return 4;
+    if row >> OPERANDS_AT <= operand {
+        return refusals::OPERAND;
     }
     0
 }
 
-// How many children a node has.
-pub(crate) fn child_count(kind: usize, operand: u64) -> usize
-    requires { ⌜ Passing kind operand ⌝ }
-    ensures { λ r. ⌜ r ≡ length (wants-at kind operand) ⌝ }
+// How many children a node has, by its kind's row.
+pub(crate) fn child_count(row: u64, operand: u64) -> usize
+    requires { ⌜ operand < words ⌝ }
+    ensures { λ r. ⌜ ((k : Kind) → row ≡ row-word k → r ≡ length (child-sorts k operand)) ⌝ }
 {
-    if kind == 24 {
-        return (operand / 64) as usize;
-    }
-    if kind == 41 {
-        return operand as usize + 1;
-    }
-    count(kind) as usize
+    let fixed = (row >> FIXED_AT) % FIXED_ROOM;
+    let shift = (row >> SHIFT_AT) % SHIFT_ROOM;
+    (fixed + (operand >> shift)) as usize
 }
 
-// What is wanted of the child that has this many with it to come.
-pub(crate) fn child_want(kind: usize, left: usize) -> usize
-    requires { ⌜ kind < 43 ⌝ }
+// The sort of the child that has this many with it to come, by its parent's kind's row.
+pub(crate) fn child_sort(row: u64, left: usize) -> u64
     requires { ⌜ 0 < left ⌝ }
-    ensures { λ r. ⌜ WantedAt kind left r ⌝ }
+    ensures { λ r. ⌜ ((k : Kind) (w : ℕ) → row ≡ row-word k → left ≤ length (child-sorts k w) → SortedAt (child-sorts k w) left r) ⌝ }
 {
-    if left == 1 {
-        last(kind) as usize
+    if LAST_CHILDREN < left {
+        (row >> FOURTH_LAST) % SORT_ROOM
     } else {
-        first(kind) as usize
+        (row >> (SORTS_AT + SORT_BITS * (left - 1))) % SORT_ROOM
     }
 }

@@ -1,7 +1,7 @@
 -- The proof of `read_node`: it answers what the reader of Scan.antt reads. The measure is the levels that are left. The loop over the
 -- children keeps what was read so far (SiblingLaws.antt), and its measure is how many are left.
--- In a need's answer, `start` is where the function begins, `test` its first test; `fault`, `count`, `want` and `child` are where the calls of
--- node_fault, child_count, child_want and read_node have returned, `loop` where the loop's test is reached.
+-- In a need's answer, `start` is where the function begins; `row`, `fault`, `count`, `sort` and `child` are where the calls of row,
+-- node_fault, child_count, child_sort and read_node have returned, `loop` where the loop's test is reached.
 use Prim.Native.Nat.{ℕ, _+_, _-_, _<_}
 use native.Mathlib.Omega.{arith}
 use mathlib.Core.Path.{refl, sym, _∙_, subst}
@@ -10,15 +10,16 @@ use lib.ListN.{length-set}
 use borrow.Author.Needs.{needs}
 use borrow.Fn.Kinds.{In}
 use borrow.Fn.PlainCycle.{Measures, is, falls, and}
-use Rattle.reader.proofs.ReadLaws.{Node-outcome, kind-at, operand-at, missing-node, faulty-node, deep-node, node-refused, node-next, passes, known-below, child-readable, kind-known}
+use Rattle.reader.proofs.ReadLaws.{Node-outcome, kind-at, operand-at, node-sorts, missing-node, faulty-node, deep-node, node-refused, node-next, kind-low, count-there, sort-there, child-readable}
 use Rattle.reader.proofs.SiblingLaws.{ReadSoFar, none-read, all-read, one-refused, one-read}
 use Rattle.reader.proofs.read_node.Reads as read-node
 use Rattle.reader.proofs.read_node.Kinds as read-node-kinds
 use Rattle.reader.proofs.+read_node.Lts-read_node as read-node-lts
 use Rattle.reader.proofs.node_word.Reads as node-word-reads
 use Rattle.reader.proofs.tables.child_count.Reads as child-count-reads
-use Rattle.reader.proofs.tables.child_want.Reads as child-want-reads
+use Rattle.reader.proofs.tables.child_sort.Reads as child-sort-reads
 use Rattle.reader.proofs.tables.node_fault.Reads as node-fault-reads
+use Rattle.reader.proofs.tables.row.Reads as row-reads
 use Rattle.reader.proofs.+read_node.{statement}
 use Rattle.reader.proofs.+read_node.Tie.{close}
 
@@ -35,12 +36,14 @@ read-node-below t =
 -- what its calls ask and give
 abbrev read-node-calls : ℕ → read-node-lts.Claims
 read-node-calls t = (
+  row-reads.Asked,
+  row-reads.Learnt,
   node-fault-reads.Asked,
   node-fault-reads.Learnt,
   child-count-reads.Asked,
   child-count-reads.Learnt,
-  child-want-reads.Asked,
-  child-want-reads.Learnt,
+  child-sort-reads.Asked,
+  child-sort-reads.Learnt,
   read-node-below t,
   read-node.Post,
   node-word-reads.Asked,
@@ -48,16 +51,16 @@ read-node-calls t = (
 )
 
 abbrev read-node-Inv-loop : read-node-lts.InvT-loop
-read-node-Inv-loop work₀ image n at want levels kind operand fault left₀ end₀ work left end = ReadSoFar image n end₀ kind left₀ (levels - 1) work₀ work left end
+read-node-Inv-loop work₀ image n at sort levels kind operand row fault left₀ end₀ work left end = ReadSoFar image n end₀ (node-sorts kind operand) (levels - 1) work₀ work left end
 
 abbrev read-node-μ-loop : read-node-lts.MeasureT-loop
-read-node-μ-loop work₀ image n at want levels kind operand fault left₀ end₀ work left end = left
+read-node-μ-loop work₀ image n at sort levels kind operand row fault left₀ end₀ work left end = left
 
 read-node-returns : (t : ℕ) → read-node-lts.Need-returns (read-node-calls t) (read-node-at t) read-node.Post read-node-Inv-loop read-node-μ-loop
 read-node-returns t c =
     let start = c .before .before .before in
     let a = start .args in
-    missing-node (now (a .image)) (now (a .work)) (a .n) (a .at) (a .want) (a .levels) (start .pre .1 .0) (c .if1 .taken)
+    missing-node (now (a .image)) (now (a .work)) (a .n) (a .at) (a .sort) (a .levels) (start .pre .1 .0) (c .if1 .taken)
 
 read-node-add-kind : (t : ℕ) → read-node-lts.Need-add-kind (read-node-calls t) (read-node-at t) read-node.Post read-node-Inv-loop read-node-μ-loop
 read-node-add-kind t c =
@@ -104,29 +107,35 @@ read-node-cast-operand t c =
     let start = c .before .before .before .before .before in
     omega (arith, c .shared-slice-known3 .given (2 + start .args .n + start .args .at))
 
+read-node-row-requires : (t : ℕ) → read-node-lts.Need-row-requires (read-node-calls t) (read-node-at t) read-node.Post read-node-Inv-loop read-node-μ-loop
+read-node-row-requires t c κs = search needs
+
 read-node-node-fault-requires : (t : ℕ) → read-node-lts.Need-node-fault-requires (read-node-calls t) (read-node-at t) read-node.Post read-node-Inv-loop read-node-μ-loop
-read-node-node-fault-requires t c κs = c .before .before .before .before .before .pre .1 .1 .0
+read-node-node-fault-requires t c κs = c .before .before .before .before .before .before .pre .1 .1 .0
 
 read-node-returns-2 : (t : ℕ) → read-node-lts.Need-returns-2 (read-node-calls t) (read-node-at t) read-node.Post read-node-Inv-loop read-node-μ-loop
 read-node-returns-2 t c =
     let fault = c .before in
-    let start = fault .before .before .before .before .before .before in
+    let row = fault .before in
+    let start = row .before .before .before .before .before .before in
     let a = start .args in
-    faulty-node (now (a .image)) (now (a .work)) (a .n) (a .at) (a .want) (a .levels) (fault .node-fault .result) (start .pre .1 .0) (fault .before .before .before .if1 .left) (fault .node-fault .ensures) (c .if2 .taken)
+    faulty-node (now (a .image)) (now (a .work)) (a .n) (a .at) (a .sort) (a .levels) (fault .node-fault .result) (start .pre .1 .0) (row .before .before .before .if1 .left) (fault .node-fault .ensures _ (row .row .ensures)) (c .if2 .taken)
 
 read-node-returns-3 : (t : ℕ) → read-node-lts.Need-returns-3 (read-node-calls t) (read-node-at t) read-node.Post read-node-Inv-loop read-node-μ-loop
 read-node-returns-3 t c =
     let fault = c .before .before in
-    let start = fault .before .before .before .before .before .before in
+    let row = fault .before in
+    let start = row .before .before .before .before .before .before in
     let a = start .args in
-    deep-node (now (a .image)) (now (a .work)) (a .n) (a .at) (a .want) (a .levels) (start .pre .1 .0) (fault .before .before .before .if1 .left) (sym (fault .node-fault .ensures) ∙ c .before .if2 .left) (c .if3 .taken)
+    deep-node (now (a .image)) (now (a .work)) (a .n) (a .at) (a .sort) (a .levels) (start .pre .1 .0) (row .before .before .before .if1 .left) (sym (fault .node-fault .ensures _ (row .row .ensures)) ∙ c .before .if2 .left) (c .if3 .taken)
 
 read-node-child-count-requires : (t : ℕ) → read-node-lts.Need-child-count-requires (read-node-calls t) (read-node-at t) read-node.Post read-node-Inv-loop read-node-μ-loop
 read-node-child-count-requires t c κs =
     let fault = c .before .before in
-    let start = fault .before .before .before .before .before .before in
+    let row = fault .before in
+    let start = row .before .before .before .before .before .before in
     let a = start .args in
-    passes (a .want) (kind-at (now (a .image)) (a .at)) (operand-at (now (a .image)) (a .n) (a .at)) (sym (fault .node-fault .ensures) ∙ c .before .if2 .left)
+    omega (arith, row .before .shared-slice-known3 .given (2 + a .n + a .at))
 
 read-node-add-end : (t : ℕ) → read-node-lts.Need-add-end (read-node-calls t) (read-node-at t) read-node.Post read-node-Inv-loop read-node-μ-loop
 read-node-add-end t c = search needs
@@ -134,29 +143,28 @@ read-node-add-end t c = search needs
 read-node-loop-holds : (t : ℕ) → read-node-lts.Need-loop-holds (read-node-calls t) (read-node-at t) read-node.Post read-node-Inv-loop read-node-μ-loop
 read-node-loop-holds t c =
     let fault = c .before .before .before in
-    let start = fault .before .before .before .before .before .before in
-    none-read _ _ _ _ _ _ _ (child-readable _ _ _ _ (start .pre .1 .0) (fault .before .before .before .if1 .left))
-
-read-node-child-want-requires : (t : ℕ) → read-node-lts.Need-child-want-requires (read-node-calls t) (read-node-at t) read-node.Post read-node-Inv-loop read-node-μ-loop
-read-node-child-want-requires t c κs =
-    let count = c .before .before in
-    let fault = count .before .before .before in
-    let start = fault .before .before .before .before .before .before in
+    let row = fault .before in
+    let start = row .before .before .before .before .before .before in
     let a = start .args in
-    (known-below _ (kind-known _ _ (passes (a .want) (kind-at (now (a .image)) (a .at)) (operand-at (now (a .image)) (a .n) (a .at)) (sym (fault .node-fault .ensures) ∙ count .before .before .if2 .left))), omega arith)
+    none-read _ _ _ _ _ _ _ (child-readable _ _ _ _ (start .pre .1 .0) (row .before .before .before .if1 .left))
+    (count-there (a .sort) (kind-at (now (a .image)) (a .at)) (operand-at (now (a .image)) (a .n) (a .at)) (sym (fault .node-fault .ensures _ (row .row .ensures)) ∙ c .before .before .if2 .left) _ _ (row .row .ensures) (c .child-count .ensures))
+
+read-node-child-sort-requires : (t : ℕ) → read-node-lts.Need-child-sort-requires (read-node-calls t) (read-node-at t) read-node.Post read-node-Inv-loop read-node-μ-loop
+read-node-child-sort-requires t c κs = omega arith
 
 read-node-sub-read-node : (t : ℕ) → read-node-lts.Need-sub-read-node (read-node-calls t) (read-node-at t) read-node.Post read-node-Inv-loop read-node-μ-loop
 read-node-sub-read-node t c = search needs
 
 read-node-read-node-requires : (t : ℕ) → read-node-lts.Need-read-node-requires (read-node-calls t) (read-node-at t) read-node.Post read-node-Inv-loop read-node-μ-loop
 read-node-read-node-requires t c κs =
-    let want = c .before in
-    let loop = want .before .before in
+    let sort = c .before in
+    let loop = sort .before .before in
     let count = loop .before in
     let fault = count .before .before .before in
-    let start = fault .before .before .before .before .before .before in
+    let row = fault .before in
+    let start = row .before .before .before .before .before .before in
     let a = start .args in
-    (omega (arith, start .pre .0, count .before .if3 .left), (loop .loop .inv .readable, (want .child-want .ensures .low, omega (arith, start .pre .1 .1 .1))))
+    (omega (arith, start .pre .0, count .before .if3 .left), (loop .loop .inv .readable, ((sort-there (a .sort) (kind-at (now (a .image)) (a .at)) (operand-at (now (a .image)) (a .n) (a .at)) (sym (fault .node-fault .ensures _ (row .row .ensures)) ∙ count .before .before .if2 .left) _ _ _ (row .row .ensures) (sort .child-sort .ensures) (loop .loop .inv .few)) .low, omega (arith, start .pre .1 .1 .1))))
 
 read-node-enum-known-child : (t : ℕ) → read-node-lts.Need-enum-known-child (read-node-calls t) (read-node-at t) read-node.Post read-node-Inv-loop read-node-μ-loop
 read-node-enum-known-child t c = search needs
@@ -170,15 +178,16 @@ read-node-same-length t c = search needs
 read-node-returns-4 : (t : ℕ) → read-node-lts.Need-returns-4 (read-node-calls t) (read-node-at t) read-node.Post read-node-Inv-loop read-node-μ-loop
 read-node-returns-4 t c =
     let child = c .before .before .before .before in
-    let want = child .before .before in
-    let loop = want .before .before in
+    let sort = child .before .before in
+    let loop = sort .before .before in
     let count = loop .before in
     let fault = count .before .before .before in
-    let start = fault .before .before .before .before .before .before in
+    let row = fault .before in
+    let start = row .before .before .before .before .before .before in
     let a = start .args in
-    subst (λ r. Node-outcome (now (a .image)) (a .n) (a .at) (a .want) (a .levels) r (now (a .work)) (child .read-node .last .0)) (sym (c .enum-told .given .1))
-    (node-refused _ _ _ _ _ _ _ _ _ (start .pre .1 .0) (fault .before .before .before .if1 .left) (sym (fault .node-fault .ensures) ∙ count .before .before .if2 .left) (count .before .if3 .left) (count .child-count .ensures)
-    (one-refused _ _ _ _ _ _ _ _ _ _ (loop .loop .inv) _ _ _ (kind-known _ _ (passes (a .want) (kind-at (now (a .image)) (a .at)) (operand-at (now (a .image)) (a .n) (a .at)) (sym (fault .node-fault .ensures) ∙ count .before .before .if2 .left))) (want .child-want .ensures) (child .read-node .ensures) _ _ (c .enum-told .given .1)) _ _ refl)
+    subst (λ r. Node-outcome (now (a .image)) (a .n) (a .at) (a .sort) (a .levels) r (now (a .work)) (child .read-node .last .0)) (sym (c .enum-told .given .1))
+    (node-refused _ _ _ _ _ _ _ _ (start .pre .1 .0) (row .before .before .before .if1 .left) (sym (fault .node-fault .ensures _ (row .row .ensures)) ∙ count .before .before .if2 .left) (count .before .if3 .left)
+    (one-refused _ _ _ _ _ _ _ _ _ (loop .loop .inv) _ _ _ (sort-there (a .sort) (kind-at (now (a .image)) (a .at)) (operand-at (now (a .image)) (a .n) (a .at)) (sym (fault .node-fault .ensures _ (row .row .ensures)) ∙ count .before .before .if2 .left) _ _ _ (row .row .ensures) (sort .child-sort .ensures) (loop .loop .inv .few)) (child .read-node .ensures) _ _ (c .enum-told .given .1)) _ _ refl)
 
 read-node-sub-left : (t : ℕ) → read-node-lts.Need-sub-left (read-node-calls t) (read-node-at t) read-node.Post read-node-Inv-loop read-node-μ-loop
 read-node-sub-left t c = search needs
@@ -189,24 +198,26 @@ read-node-loop-less t c = search needs
 read-node-loop-again : (t : ℕ) → read-node-lts.Need-loop-again (read-node-calls t) (read-node-at t) read-node.Post read-node-Inv-loop read-node-μ-loop
 read-node-loop-again t c =
     let child = c .before .before .before .before .before in
-    let want = child .before .before in
-    let loop = want .before .before in
+    let sort = child .before .before in
+    let loop = sort .before .before in
     let count = loop .before in
     let fault = count .before .before .before in
-    let start = fault .before .before .before .before .before .before in
+    let row = fault .before in
+    let start = row .before .before .before .before .before .before in
     let a = start .args in
-    one-read _ _ _ _ _ _ _ _ _ _ (loop .loop .inv) _ _ _ (kind-known _ _ (passes (a .want) (kind-at (now (a .image)) (a .at)) (operand-at (now (a .image)) (a .n) (a .at)) (sym (fault .node-fault .ensures) ∙ count .before .before .if2 .left))) (want .child-want .ensures) (child .read-node .ensures) _ (c .before .child .given .1)
+    one-read _ _ _ _ _ _ _ _ _ (loop .loop .inv) _ _ _ (sort-there (a .sort) (kind-at (now (a .image)) (a .at)) (operand-at (now (a .image)) (a .n) (a .at)) (sym (fault .node-fault .ensures _ (row .row .ensures)) ∙ count .before .before .if2 .left) _ _ _ (row .row .ensures) (sort .child-sort .ensures) (loop .loop .inv .few)) (child .read-node .ensures) _ (c .before .child .given .1)
 
 read-node-node-word-requires : (t : ℕ) → read-node-lts.Need-node-word-requires (read-node-calls t) (read-node-at t) read-node.Post read-node-Inv-loop read-node-μ-loop
 read-node-node-word-requires t c κs =
     let loop = c .before in
     let count = loop .before in
     let fault = count .before .before .before in
-    let start = fault .before .before .before .before .before .before in
+    let row = fault .before in
+    let start = row .before .before .before .before .before .before in
     let a = start .args in
     let readable = loop .loop .inv .readable in (
-      omega (arith, known-below _ (kind-known _ _ (passes (a .want) (kind-at (now (a .image)) (a .at)) (operand-at (now (a .image)) (a .n) (a .at)) (sym (fault .node-fault .ensures) ∙ count .before .before .if2 .left)))),
-      omega (arith, fault .before .shared-slice-known3 .given (2 + a .n + a .at)),
+      omega (arith, kind-low (a .sort) (kind-at (now (a .image)) (a .at)) (operand-at (now (a .image)) (a .n) (a .at)) (sym (fault .node-fault .ensures _ (row .row .ensures)) ∙ count .before .before .if2 .left)),
+      omega (arith, row .before .shared-slice-known3 .given (2 + a .n + a .at)),
       omega (arith, readable .few, readable .within),
     )
 
@@ -214,18 +225,20 @@ read-node-mul-work : (t : ℕ) → read-node-lts.Need-mul-work (read-node-calls 
 read-node-mul-work t c =
     let count = c .before .before .before in
     let fault = count .before .before .before in
-    let start = fault .before .before .before .before .before .before in
+    let row = fault .before in
+    let start = row .before .before .before .before .before .before in
     let a = start .args in
-    omega (arith, start .pre .1 .0 .few, fault .before .before .before .if1 .left)
+    omega (arith, start .pre .1 .0 .few, row .before .before .before .if1 .left)
 
 read-node-slice-write-work : (t : ℕ) → read-node-lts.Need-slice-write-work (read-node-calls t) (read-node-at t) read-node.Post read-node-Inv-loop read-node-μ-loop
 read-node-slice-write-work t c =
     let loop = c .before .before in
     let count = loop .before in
     let fault = count .before .before .before in
-    let start = fault .before .before .before .before .before .before in
+    let row = fault .before in
+    let start = row .before .before .before .before .before .before in
     let a = start .args in
-    omega (arith, loop .loop .inv .readable .room, fault .before .before .before .if1 .left)
+    omega (arith, loop .loop .inv .readable .room, row .before .before .before .if1 .left)
 
 read-node-same-length-2 : (t : ℕ) → read-node-lts.Need-same-length-2 (read-node-calls t) (read-node-at t) read-node.Post read-node-Inv-loop read-node-μ-loop
 read-node-same-length-2 t c = simp length-set (c .before .before .loop .inv .same-length)
@@ -235,10 +248,11 @@ read-node-returns-5 t c =
     let loop = c .before .before in
     let count = loop .before in
     let fault = count .before .before .before in
-    let start = fault .before .before .before .before .before .before in
+    let row = fault .before in
+    let start = row .before .before .before .before .before .before in
     let a = start .args in
     rw (c .node-word .ensures)
-    (node-next _ _ _ _ _ _ _ _ _ (start .pre .1 .0) (fault .before .before .before .if1 .left) (sym (fault .node-fault .ensures) ∙ count .before .before .if2 .left) (count .before .if3 .left) (count .child-count .ensures) (all-read _ _ _ _ _ _ _ _ _ _ (loop .loop .inv) (c .before .loop-test .left)) _ refl)
+    (node-next _ _ _ _ _ _ _ _ (start .pre .1 .0) (row .before .before .before .if1 .left) (sym (fault .node-fault .ensures _ (row .row .ensures)) ∙ count .before .before .if2 .left) (count .before .if3 .left) (all-read _ _ _ _ _ _ _ _ _ (loop .loop .inv) (c .before .loop-test .left)) _ refl)
 
 pub +read-node-spec : {M : Type 1} → statement M
 +read-node-spec = close μ-read-node λ t. read-node-lts.spec (read-node-calls t)
@@ -256,13 +270,14 @@ pub +read-node-spec : {M : Type 1} → statement M
     (read-node-mul-operand t)
     (read-node-shared-slice-read-operand t)
     (read-node-cast-operand t)
+    (read-node-row-requires t)
     (read-node-node-fault-requires t)
     (read-node-returns-2 t)
     (read-node-returns-3 t)
     (read-node-child-count-requires t)
     (read-node-add-end t)
     (read-node-loop-holds t)
-    (read-node-child-want-requires t)
+    (read-node-child-sort-requires t)
     (read-node-sub-read-node t)
     (read-node-read-node-requires t)
     (read-node-enum-known-child t)
