@@ -9,10 +9,10 @@ use Rattle.rules.specs.paper.Tree.{Formal, Expression, Id, DeRef, ValRef}
 use Rattle.rules.specs.paper.Checker.{Meaning, code, function, Scope, Fine, Judged, fault, fine, expression-code}
 use Rattle.reader.specs.Stored.{HasWord, StoredExpression}
 use Rattle.checker.specs.Rows.{meaning-number, MeaningAt, ScopeAt}
-use Rattle.checker.specs.declared.Found.{Found}
-use Rattle.checker.specs.declared.Found.the-variants.{Bound, Nothing}
-use Rattle.checker.specs.declared.Answer.{Answer}
-use Rattle.checker.specs.declared.Answer.the-variants.{Is, Fault}
+use Rattle.checker.specs.declared.scope.Found.{Found}
+use Rattle.checker.specs.declared.scope.Found.the-variants.{Bound, Nothing}
+use Rattle.checker.specs.declared.codes.Answer.{Answer}
+use Rattle.checker.specs.declared.codes.Answer.the-variants.{Is, Fault}
 
 -- A look-up answers the binding, by the number of its meaning and its pointer, or nothing.
 pub data FoundAs (words : List ℕ) : Option Meaning → Found → Type 0 where

@@ -10,8 +10,8 @@ use Rattle.rules.specs.paper.Checker.{Meaning, Scope, Judged, fault, fine, Fine
 use Rattle.reader.specs.Stored.{HasWord, StoredExpression, StoredActuals, StoredFormals, StoredCommand, StoredBlock, StoredDeclaration, StoredBound, RootAt}
 use Rattle.checker.specs.Rows.{Rows, ScopeAt}
 use Rattle.checker.specs.Answers.{answer, fine-answer, meaning-answer, ExpressionAt}
-use Rattle.checker.specs.declared.Answer.{Answer}
-use Rattle.checker.specs.declared.Answer.the-variants.{Is, Fault}
+use Rattle.checker.specs.declared.codes.Answer.{Answer}
+use Rattle.checker.specs.declared.codes.Answer.the-variants.{Is, Fault}
 use Rattle.checker.specs.declared.Verdict.{Verdict}
 use Rattle.checker.specs.declared.Verdict.the-variants as Verdicts
 

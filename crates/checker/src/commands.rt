@@ -1,59 +1,27 @@
 // Commands, declarations and what they bind: scope and types.
-ghost use mathlib.Core.Path.{_≡_};
 ghost use mathlib.Core.List.{List};
-ghost use Prim.Native.Nat.{ℕ, _<_, _≤_};
+ghost use Prim.Native.Nat.{ℕ, _≤_};
 ghost use lib.ListN.{length};
 ghost use Rattle.rules.specs.paper.Tree.{Expression, Formal, Command, Block, Declaration, Bound};
-ghost use Rattle.rules.specs.paper.Checker.{Scope, Meaning, assignable, same-code, ref-code};
+ghost use Rattle.rules.specs.paper.Checker.{Scope};
 ghost use Rattle.checker.specs.Rows.{ScopeAt};
-ghost use Rattle.checker.specs.Answers.{code-answer, fine-answer, meaning-answer, Numbered};
 ghost use Rattle.checker.specs.Commands.{ActualsAt, FormalsAt, AssignAt, AssignsAt, CallAt, CallsAt, CodesAt, AgreesAt, Kept, CommandAt, BlockAt, DeclarationAt, BoundAt, CommandFineAt, BlockFineAt, DeclaresAt, MeansAt};
-use crate::Answer;
-use crate::Found;
-use crate::anew;
-use crate::expression;
+use crate::codes::Answer;
+use crate::codes::anew;
+use crate::codes::assigned_code;
+use crate::codes::location_code;
+use crate::codes::same;
+use crate::codes::truth;
+use crate::expressions::expression;
 use crate::formals::formals;
-use crate::formals::row_word;
-use crate::lookup;
-use crate::meaning;
-use crate::shares_name;
-use crate::truth;
+use crate::scope::Found;
+use crate::scope::lookup;
+use crate::scope::meaning;
+use crate::scope::row_word;
+use crate::scope::shares_name;
 use reader::end;
 use reader::kind;
 use reader::operand;
-
-// Assign: the code of the value that a name of this meaning takes.
-fn assigned_code(node: usize, number: usize) -> Answer
-    ensures { λ r. ⌜ ((m : Meaning) → Numbered number m → r ≡ code-answer (assignable node m)) ⌝ }
-{
-    if number == 2 {
-        return Answer::Is(0);
-    }
-    if number == 3 {
-        return Answer::Is(1);
-    }
-    Answer::Fault(13, node)
-}
-
-// The codes have to be the same.
-fn same(node: usize, wanted: usize, given: usize) -> Answer
-    ensures { λ r. ⌜ r ≡ fine-answer (same-code node wanted given) ⌝ }
-{
-    if wanted != given {
-        return Answer::Fault(11, node);
-    }
-    Answer::Is(0)
-}
-
-// Ref: the code of a location for a value of this code.
-fn location_code(node: usize, code: usize) -> Answer
-    ensures { λ r. ⌜ r ≡ meaning-answer (ref-code node code) ⌝ }
-{
-    if 5 < code {
-        return Answer::Fault(11, node);
-    }
-    Answer::Is(code + 2)
-}
 
 // Assign.
 fn assignment(work: &[u64], registers: usize, scope: usize, node: usize) -> Answer

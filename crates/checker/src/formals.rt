@@ -1,25 +1,16 @@
 // The Formals of an Abs: a row for each, unless a name comes twice.
 ghost use mathlib.Core.Path.{_≡_};
 ghost use mathlib.Core.List.{List};
-ghost use Prim.Native.Nat.{_+_, _<_, _≤_};
+ghost use Prim.Native.Nat.{_+_, _≤_};
 ghost use lib.ListN.{length};
 ghost use Rattle.rules.specs.paper.Tree.{Formal};
 ghost use Rattle.rules.specs.paper.Checker.{Scope, fine, _>>=_ as _and-then_, distinct, with-formals};
-ghost use Rattle.checker.specs.Rows.{Rows, row-word};
+ghost use Rattle.checker.specs.Rows.{Rows};
 ghost use Rattle.checker.specs.Commands.{Kept, FormalsAt, NamesFrom};
-use crate::Answer;
-use crate::find_row;
+use crate::codes::Answer;
+use crate::scope::find_row;
+use crate::scope::row_word;
 use reader::operand;
-
-// The word of a row.
-pub(crate) fn row_word(name: usize, number: usize, link: usize) -> u64
-    requires { ⌜ name < 64 ⌝ }
-    requires { ⌜ number < 16 ⌝ }
-    requires { ⌜ link ≤ 2000 ⌝ }
-    ensures { λ r. ⌜ r ≡ row-word name number link ⌝ }
-{
-    (name + 64 * number + 1024 * link) as u64
-}
 
 // A row for each Formal from a node on, linked from `tail`; a name that has a row between `tail` and `scope` is refused there.
 pub(crate) fn formals(

@@ -3,14 +3,14 @@ use Prim.Native.Nat.{_/_}
 use mathlib.Core.Path.{ap}
 use native.Mathlib.Omega.{arith}
 use borrow.Author.Needs.{needs}
-use Rattle.checker.proofs.FormalLaws.{first-formal}
-use Rattle.checker.proofs.ActualLaws.{first-actual, first-actual-low, agree-none, agree-fault, agree-apart, AgreedSoFar, none-agreed, one-agreed}
+use Rattle.checker.proofs.laws.declarations.FormalLaws.{first-formal}
+use Rattle.checker.proofs.laws.commands.ActualLaws.{first-actual, first-actual-low, agree-none, agree-fault, agree-apart, AgreedSoFar, none-agreed, one-agreed}
 use Rattle.checker.proofs.commands.agreement.Statement.{statement}
 use Rattle.checker.proofs.commands.agreement.Tie as tie
 use Rattle.checker.proofs.commands.agreement.Reads as reads
 use Rattle.checker.proofs.commands.agreement.Lts as lts
-use Rattle.checker.proofs.commands.same.Reads as same-reads
-use Rattle.checker.proofs.expression.Reads as expression-reads
+use Rattle.checker.proofs.codes.same.Reads as same-reads
+use Rattle.checker.proofs.expressions.expression.Reads as expression-reads
 use Rattle.reader.proofs.end.Reads as end-reads
 use Rattle.reader.proofs.operand.Reads as operand-reads
 

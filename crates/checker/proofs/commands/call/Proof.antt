@@ -1,7 +1,7 @@
 -- Call: the actuals, the name, that it is a function, its count and its codes.
 use Prim.Native.Nat.{ℕ, _+_, _/_, _<_, _≤_}
 use native.Mathlib.Omega.{arith}
-use Rattle.checker.proofs.CallLaws.{call-actuals, function-found, found-formals, call-actual-fault, call-unbound, call-no-function, call-count-apart, call-agree}
+use Rattle.checker.proofs.laws.commands.CallLaws.{call-actuals, function-found, found-formals, call-actual-fault, call-unbound, call-no-function, call-count-apart, call-agree}
 use borrow.Author.Needs.{needs}
 use Rattle.checker.proofs.commands.call.Statement.{statement}
 use Rattle.checker.proofs.commands.call.Tie as tie
@@ -9,7 +9,7 @@ use Rattle.checker.proofs.commands.call.Reads as reads
 use Rattle.checker.proofs.commands.call.Lts as lts
 use Rattle.checker.proofs.commands.actuals.Reads as actuals-reads
 use Rattle.checker.proofs.commands.agreement.Reads as agreement-reads
-use Rattle.checker.proofs.lookup.Reads as lookup-reads
+use Rattle.checker.proofs.scope.lookup.Reads as lookup-reads
 use Rattle.reader.proofs.operand.Reads as operand-reads
 
 operand-requires : tie.Need-operand-requires

@@ -1,0 +1,3 @@
+-- Answers, and what the rules make of codes.
+pub mod AnswerLaws
+pub mod CodeLaws

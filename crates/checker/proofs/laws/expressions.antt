@@ -1,0 +1,3 @@
+-- Names, and expressions by their kinds.
+pub mod NameLaws
+pub mod ExpressionLaws
