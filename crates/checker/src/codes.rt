@@ -4,6 +4,7 @@ ghost use Rattle.rules.specs.paper.Kinds.{operator-number};
 ghost use Rattle.rules.specs.paper.Tree.{Operator};
 ghost use Rattle.rules.specs.paper.Checker.{Meaning, id-code, deref-code, valref-code, integers-give, equals-give, truths-give, operator-code, truth-only, assignable, same-code, ref-code};
 ghost use Rattle.checker.specs.Answers.{code-answer, fine-answer, meaning-answer, Numbered};
+use reader::kinds;
 
 // A judgement: what was asked for, or a fault with its place.
 pub enum Answer {
@@ -104,13 +105,13 @@ fn equals(node: usize, first: usize, second: usize) -> Answer
 pub(crate) fn operation(which: usize, node: usize, first: usize, second: usize) -> Answer
     ensures { λ r. ⌜ ((o : Operator) → which ≡ operator-number o → r ≡ code-answer (operator-code o node first second)) ⌝ }
 {
-    if which < 8 {
+    if which < kinds::EQ {
         return integers(node, 0, first, second);
     }
-    if which == 8 {
+    if which == kinds::EQ {
         return equals(node, first, second);
     }
-    if which < 13 {
+    if which < kinds::AND {
         return integers(node, 1, first, second);
     }
     truths(node, first, second)

@@ -2,12 +2,29 @@
 ghost use mathlib.Core.Path.{_≡_};
 ghost use Prim.Native.Nat.{_<_, _≤_};
 ghost use lib.ListN.{length};
-ghost use Rattle.rules.specs.paper.Checker.{Scope, meaning-of, shares-name, bound-name};
-ghost use Rattle.checker.specs.Rows.{Rows, ScopeAt, RowFound, row-word};
-ghost use Rattle.checker.specs.Answers.{FoundAs, meaning-answer};
+ghost use Rattle.rules.specs.paper.Limits.{most-nodes, names};
+ghost use Rattle.rules.specs.paper.Checker.{Scope};
+ghost use Rattle.checker.specs.Rows.{rows-end, meaning-numbers, row-word, Rows, ScopeAt, RowFoundAt, NamesSharedAt};
+ghost use Rattle.checker.specs.Answers.{NameFoundAt, MeaningJudgedAt};
 use crate::codes::Answer;
 
-// What a look-up finds: the number of the meaning, a type code or 8 for a function, and the pointer; or nothing.
+// Where the rows begin among the work words: a node's row stands at ROWS + its place. A pointer is one more than its row's node, so its
+// row stands at POINTERS + the pointer.
+pub(crate) const ROWS: usize = 2000;
+
+const POINTERS: usize = ROWS - 1;
+
+// A row's word is its name + NAMES × the number of its meaning + LINK_FACTOR × the pointer of the row before it.
+pub(crate) const NAMES: usize = 64;
+
+const MEANING_NUMBERS: usize = 16;
+
+const LINK_FACTOR: usize = NAMES * MEANING_NUMBERS;
+
+// The number of a function's meaning; that of any other meaning is its type code.
+pub(crate) const FUNCTION: usize = 8;
+
+// What a look-up finds: the number of the meaning, a type code or FUNCTION, and the pointer; or nothing.
 pub enum Found {
     Bound(usize, usize),
     Nothing,
@@ -15,26 +32,26 @@ pub enum Found {
 
 // The pointer of the newest row of a name, from one pointer to another; the second pointer where there is none.
 pub(crate) fn find_row(work: &[u64], from: usize, to: usize, name: usize) -> usize
-    requires { ⌜ 4000 ≤ length (now work) ⌝ }
+    requires { ⌜ rows-end ≤ length (now work) ⌝ }
     requires { ⌜ ((Δ : Scope) × Rows (now work) from to Δ) ⌝ }
-    ensures { λ r. ⌜ ((Δ : Scope) → Rows (now (work .entry)) from to Δ → RowFound (now (work .entry)) to name Δ r) ⌝ }
+    ensures { λ r. ⌜ RowFoundAt (now (work .entry)) from to name r ⌝ }
 {
     let mut at = from;
     while at != to {
-        let row = work[1999 + at];
-        if (row % 64) as usize == name {
+        let row = work[POINTERS + at] as usize;
+        if row % NAMES == name {
             return at;
         }
-        at = (row / 1024) as usize;
+        at = row / LINK_FACTOR;
     }
     at
 }
 
 // The meaning of a name in the scope at a pointer.
 pub(crate) fn lookup(work: &[u64], registers: usize, scope: usize, name: usize) -> Found
-    requires { ⌜ 4000 ≤ length (now work) ⌝ }
+    requires { ⌜ rows-end ≤ length (now work) ⌝ }
     requires { ⌜ ((Γ : Scope) × ScopeAt (now work) registers scope Γ) ⌝ }
-    ensures { λ r. ⌜ ((Γ : Scope) → ScopeAt (now (work .entry)) registers scope Γ → FoundAs (now (work .entry)) (meaning-of name Γ) r) ⌝ }
+    ensures { λ r. ⌜ NameFoundAt (now (work .entry)) registers scope name r ⌝ }
 {
     let at = find_row(work, scope, 0, name);
     if at == 0 {
@@ -43,15 +60,21 @@ pub(crate) fn lookup(work: &[u64], registers: usize, scope: usize, name: usize) 
         }
         return Found::Nothing;
     }
-    let row = work[1999 + at];
-    Found::Bound((row / 64 % 16) as usize, at)
+    let row = work[POINTERS + at] as usize;
+    Found::Bound(row / NAMES % MEANING_NUMBERS, at)
 }
 
 // The number of a name's meaning at a node; a name without a binding is refused there.
-pub(crate) fn meaning(work: &[u64], registers: usize, scope: usize, node: usize, name: usize) -> Answer
-    requires { ⌜ 4000 ≤ length (now work) ⌝ }
+pub(crate) fn meaning(
+    work: &[u64],
+    registers: usize,
+    scope: usize,
+    node: usize,
+    name: usize,
+) -> Answer
+    requires { ⌜ rows-end ≤ length (now work) ⌝ }
     requires { ⌜ ((Γ : Scope) × ScopeAt (now work) registers scope Γ) ⌝ }
-    ensures { λ r. ⌜ ((Γ : Scope) → ScopeAt (now (work .entry)) registers scope Γ → r ≡ meaning-answer (bound-name node (meaning-of name Γ))) ⌝ }
+    ensures { λ r. ⌜ MeaningJudgedAt (now (work .entry)) registers scope node name r ⌝ }
 {
     let Found::Bound(number, pointer) = lookup(work, registers, scope, name) else {
         return Answer::Fault(10, node);
@@ -61,28 +84,28 @@ pub(crate) fn meaning(work: &[u64], registers: usize, scope: usize, node: usize,
 
 // Some name from the second pointer to the third stands from the first to the second too.
 pub(crate) fn shares_name(work: &[u64], from: usize, middle: usize, to: usize) -> bool
-    requires { ⌜ 4000 ≤ length (now work) ⌝ }
+    requires { ⌜ rows-end ≤ length (now work) ⌝ }
     requires { ⌜ ((Δ : Scope) × Rows (now work) from middle Δ) ⌝ }
     requires { ⌜ ((Δ : Scope) × Rows (now work) middle to Δ) ⌝ }
-    ensures { λ r. ⌜ ((Δ₁ Δ₂ : Scope) → Rows (now (work .entry)) middle to Δ₁ → Rows (now (work .entry)) from middle Δ₂ → r ≡ shares-name Δ₁ Δ₂) ⌝ }
+    ensures { λ r. ⌜ NamesSharedAt (now (work .entry)) from middle to r ⌝ }
 {
     let mut at = middle;
     while at != to {
-        let row = work[1999 + at];
-        if find_row(work, from, middle, (row % 64) as usize) != middle {
+        let row = work[POINTERS + at] as usize;
+        if find_row(work, from, middle, row % NAMES) != middle {
             return true;
         }
-        at = (row / 1024) as usize;
+        at = row / LINK_FACTOR;
     }
     false
 }
 
 // The word of a row.
 pub(crate) fn row_word(name: usize, number: usize, link: usize) -> u64
-    requires { ⌜ name < 64 ⌝ }
-    requires { ⌜ number < 16 ⌝ }
-    requires { ⌜ link ≤ 2000 ⌝ }
+    requires { ⌜ name < names ⌝ }
+    requires { ⌜ number < meaning-numbers ⌝ }
+    requires { ⌜ link ≤ most-nodes ⌝ }
     ensures { λ r. ⌜ r ≡ row-word name number link ⌝ }
 {
-    (name + 64 * number + 1024 * link) as u64
+    (name + NAMES * number + LINK_FACTOR * link) as u64
 }

@@ -21,7 +21,7 @@ use Rattle.reader.specs.Stored.{StoredRoot, root-expression, root-command, Root
 use Rattle.reader.specs.StoredLaws.{SameNodes, same-expression, same-command, stored-by-put, root-next}
 use Rattle.reader.specs.declared.Shape.{Shape}
 use Rattle.reader.specs.declared.Shape.the-variants as Shapes
-use Rattle.checker.specs.Commands.{Kept, verdict, PassesAs}
+use Rattle.checker.specs.Commands.{WritesRowsFrom, verdict, RootJudgedAt}
 use Rattle.checker.specs.declared.Verdict.{Verdict}
 use Rattle.checker.specs.declared.Verdict.the-variants as Verdicts
 use Rattle.engine.specs.Examined.{ExamineAnswer}
@@ -62,7 +62,7 @@ drop-same (suc n) [] (y ∷ b) q f = absurd (omega (arith, q))
 drop-same (suc n) (x ∷ a) [] q f = absurd (omega (arith, q))
 drop-same (suc n) (x ∷ a) (y ∷ b) q f = drop-same n a b (omega (arith, q)) (λ i h. f (suc i) (omega (arith, h)))
 
-pub beyond-kept : {a b : List ℕ} {node : ℕ} → Kept a b node → KeptBeyond work-words a b
+pub beyond-kept : {a b : List ℕ} {node : ℕ} → WritesRowsFrom a b node → KeptBeyond work-words a b
 beyond-kept {a} {b} k = record { same-length = k .same-length; same-beyond = drop-same 8192 a b (k .same-length) (λ i h. k .same-beyond i (omega (arith, h))) }
 
 -- ---- The shape.
@@ -120,7 +120,7 @@ same-root words words′ same (root-expression h) = root-expression (same-expres
 same-root words words′ same (root-command h) = root-command (same-command words words′ same h)
 
 -- The checker leaves the tree where it stands.
-tree-kept : {a b : List ℕ} {t : Root} → Kept a b 0 → RootAt a t → RootAt b t
+tree-kept : {a b : List ℕ} {t : Root} → WritesRowsFrom a b 0 → RootAt a t → RootAt b t
 tree-kept {a} {b} k s = record { depth = s .depth; next = s .next; stored = same-root a b (λ i h. k .same-below i (omega (arith, h))) (s .stored) }
 
 abbrev code-of : Verdict → ℕ
@@ -148,8 +148,8 @@ IsFault (Verdicts.Code c) = ⊥
 IsFault Verdicts.Command = ⊥
 IsFault (Verdicts.Fault x p) = Unit {0}
 
-module _ (words before middle after : List ℕ) (registers : ℕ) (t : Root) (reads : read words ≡ image registers t) (stands : RootAt middle t) (beyond : KeptBeyond work-words before middle) (kept : Kept middle after 0)
-    (v : Verdict) (judged : PassesAs middle registers v) where
+module _ (words before middle after : List ℕ) (registers : ℕ) (t : Root) (reads : read words ≡ image registers t) (stands : RootAt middle t) (beyond : KeptBeyond work-words before middle) (kept : WritesRowsFrom middle after 0)
+    (v : Verdict) (judged : RootJudgedAt middle registers v) where
   all-beyond : KeptBeyond work-words before after
   all-beyond = beyond-then beyond (beyond-kept kept)
 

@@ -1,4 +1,5 @@
 // From the image's words to the shape: each node's checks in the paper's order and, for a whole tree, one work word a node.
+pub mod kinds;
 mod tables;
 
 ghost use mathlib.Core.Path.{_≡_};

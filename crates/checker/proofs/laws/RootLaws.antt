@@ -11,8 +11,8 @@ use Rattle.reader.specs.Pack.{packed-kind}
 use Rattle.reader.specs.Stored.{HasWord, kind-is, StoredExpression, StoredBlock, StoredCommand, StoredRoot, root-expression, root-command, RootAt}
 use Rattle.reader.specs.Stored as Stored
 use Rattle.checker.specs.Rows.{ScopeAt, no-rows}
-use Rattle.checker.specs.Answers.{answer, code-answer, fine-answer, ExpressionAt, CodeAt}
-use Rattle.checker.specs.Commands.{CommandAt, CommandFineAt, verdict, PassesAs}
+use Rattle.checker.specs.Answers.{answer, code-answer, fine-answer, ExpressionAt, ExpressionJudgedAt}
+use Rattle.checker.specs.Commands.{CommandAt, CommandJudgedAt, verdict, RootJudgedAt}
 use Rattle.checker.specs.declared.codes.Answer.{Answer}
 use Rattle.checker.specs.declared.codes.Answer.the-variants.{Is, Fault}
 use Rattle.checker.specs.declared.Verdict.{Verdict}
@@ -68,9 +68,9 @@ module _ (words : List ℕ) (which : ℕ) (known : which ≡ packed-kind (getD w
       by {d = d} {j = j} (root-command {c = c} s) = (c, record { depth = d; next = j; stored = s })
 
   module _ (registers : ℕ) (r : Answer) where
-    module _ (low : which < 20) (judged : CodeAt words registers 0 0 r) where
+    module _ (low : which < 20) (judged : ExpressionJudgedAt words registers 0 0 r) where
       of-expression : (a : Verdict) → ((e : Expression) → r ≡ code-answer (expression-code (register-scope registers) e) →
-          a ≡ verdict (expression-code (register-scope registers) e >>= λ c. fine (expression-of-code c))) → PassesAs words registers a
+          a ≡ verdict (expression-code (register-scope registers) e >>= λ c. fine (expression-of-code c))) → RootJudgedAt words registers a
       unfolding root-is
       of-expression a done t at = by (at .stored)
         where
@@ -78,23 +78,23 @@ module _ (words : List ℕ) (which : ℕ) (known : which ≡ packed-kind (getD w
           by {d = d} {j = j} (root-expression {e = e} s) = done e (judged e (register-scope registers) (record { depth = d; next = j; stored = s }) (register-scope-at words registers))
           by (root-command s) = absurd (omega (arith, low, known, high-kind s))
 
-      pub expression-passes : (c : ℕ) → r ≡ Is c → PassesAs words registers (Verdicts.Code c)
+      pub expression-passes : (c : ℕ) → r ≡ Is c → RootJudgedAt words registers (Verdicts.Code c)
       expression-passes c q = of-expression (Verdicts.Code c) (λ e f. by (expression-code (register-scope registers) e) (sym f ∙ q))
         where
           by : (j : Judged ℕ) → code-answer j ≡ Is c → Verdicts.Code c ≡ verdict (j >>= λ c. fine (expression-of-code c))
           by (fault x p) h = absurd (two-answers (Is c) c (refusal-number x) p refl (sym h))
           by (fine d) h = ap Verdicts.Code (same-is (Is c) c d refl (sym h))
 
-      pub expression-fails : (x p : ℕ) → r ≡ Fault x p → PassesAs words registers (Verdicts.Fault x p)
+      pub expression-fails : (x p : ℕ) → r ≡ Fault x p → RootJudgedAt words registers (Verdicts.Fault x p)
       expression-fails x p q = of-expression (Verdicts.Fault x p) (λ e f. by (expression-code (register-scope registers) e) (sym f ∙ q))
         where
           by : (j : Judged ℕ) → code-answer j ≡ Fault x p → Verdicts.Fault x p ≡ verdict (j >>= λ c. fine (expression-of-code c))
           by (fault y o) h = as-verdict h
           by (fine d) h = absurd (two-answers (Fault x p) d x p (sym h) refl)
 
-    module _ (high : 20 ≤ which) (judged : CommandFineAt words registers 0 0 r) where
+    module _ (high : 20 ≤ which) (judged : CommandJudgedAt words registers 0 0 r) where
       of-command : (a : Verdict) → ((c : Command) → r ≡ fine-answer (command-ok (register-scope registers) c) →
-          a ≡ verdict (command-ok (register-scope registers) c >>= λ done. fine a-command)) → PassesAs words registers a
+          a ≡ verdict (command-ok (register-scope registers) c >>= λ done. fine a-command)) → RootJudgedAt words registers a
       unfolding root-is
       of-command a done t at = by (at .stored)
         where
@@ -102,14 +102,14 @@ module _ (words : List ℕ) (which : ℕ) (known : which ≡ packed-kind (getD w
           by (root-expression s) = absurd (omega (arith, high, known, low-kind s))
           by {d = d} {j = j} (root-command {c = c} s) = done c (judged c (register-scope registers) (record { depth = d; next = j; stored = s }) (register-scope-at words registers))
 
-      pub command-fails : (x p : ℕ) → r ≡ Fault x p → PassesAs words registers (Verdicts.Fault x p)
+      pub command-fails : (x p : ℕ) → r ≡ Fault x p → RootJudgedAt words registers (Verdicts.Fault x p)
       command-fails x p q = of-command (Verdicts.Fault x p) (λ c f. by (command-ok (register-scope registers) c) (sym f ∙ q))
         where
           by : (j : Judged Fine) → fine-answer j ≡ Fault x p → Verdicts.Fault x p ≡ verdict (j >>= λ done. fine a-command)
           by (fault y o) h = as-verdict h
           by (fine d) h = absurd (two-answers (Fault x p) 0 x p (sym h) refl)
 
-      pub command-passes : (z : ℕ) → r ≡ Is z → PassesAs words registers Verdicts.Command
+      pub command-passes : (z : ℕ) → r ≡ Is z → RootJudgedAt words registers Verdicts.Command
       command-passes z q = of-command Verdicts.Command (λ c f. by (command-ok (register-scope registers) c) (sym f ∙ q))
         where
           by : (j : Judged Fine) → fine-answer j ≡ Is z → Verdicts.Command ≡ verdict (j >>= λ done. fine a-command)

@@ -1,5 +1,5 @@
 -- The code that a name takes.
-use Rattle.checker.proofs.laws.commands.AssignLaws.{assigned-integer, assigned-truth, assigned-other}
+use Rattle.checker.proofs.laws.codes.TargetLaws.{assigned-integer, assigned-truth, assigned-other}
 use Rattle.checker.proofs.codes.assigned_code.Statement.{statement}
 use Rattle.checker.proofs.codes.assigned_code.Tie as tie
 use Rattle.checker.proofs.codes.assigned_code.Reads as reads

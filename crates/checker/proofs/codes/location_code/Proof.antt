@@ -1,5 +1,5 @@
 -- A location's code.
-use Rattle.checker.proofs.laws.commands.AssignLaws.{location-high, location-low}
+use Rattle.checker.proofs.laws.codes.TargetLaws.{location-high, location-low}
 use borrow.Author.Needs.{needs}
 use Rattle.checker.proofs.codes.location_code.Statement.{statement}
 use Rattle.checker.proofs.codes.location_code.Tie as tie

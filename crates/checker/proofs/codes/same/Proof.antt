@@ -1,5 +1,5 @@
 -- Two codes.
-use Rattle.checker.proofs.laws.commands.AssignLaws.{same-apart, same-both}
+use Rattle.checker.proofs.laws.codes.TargetLaws.{same-apart, same-both}
 use Rattle.checker.proofs.codes.same.Statement.{statement}
 use Rattle.checker.proofs.codes.same.Tie as tie
 use Rattle.checker.proofs.codes.same.Reads as reads

@@ -3,6 +3,7 @@ use Prim.Native.Nat.{_/_}
 use mathlib.Core.Path.{ap}
 use native.Mathlib.Omega.{arith}
 use borrow.Author.Needs.{needs}
+use Rattle.rules.specs.paper.Limits.{names}
 use Rattle.checker.proofs.laws.declarations.FormalLaws.{first-formal}
 use Rattle.checker.proofs.laws.commands.ActualLaws.{first-actual, first-actual-low, agree-none, agree-fault, agree-apart, AgreedSoFar, none-agreed, one-agreed}
 use Rattle.checker.proofs.commands.agreement.Statement.{statement}
@@ -59,7 +60,7 @@ returns-2 : tie.Need-returns-2 Inv-loop μ-loop
 returns-2 c =
     let turn = c .before .before .before .before .before .before .before .before in
     turn .before .loop .inv .whole _
-    (agree-apart _ _ _ _ _ _ _ (turn .loop-test .taken) _ (c .before .before .before .before .before .before .before .expression .ensures) _ _ _ (c .before .before .before .before .before .judged .given .1) (ap (λ w. w / 64) (c .before .before .before .operand .ensures)) (c .before .before .same .ensures) _ _ (c .enum-told2 .given .1))
+    (agree-apart _ _ _ _ _ _ _ (turn .loop-test .taken) _ (c .before .before .before .before .before .before .before .expression .ensures) _ _ _ (c .before .before .before .before .before .judged .given .1) (ap (λ w. w / names) (c .before .before .before .operand .ensures)) (c .before .before .same .ensures) _ _ (c .enum-told2 .given .1))
 
 end-requires : tie.Need-end-requires Inv-loop μ-loop
 end-requires c κs =
@@ -80,7 +81,7 @@ loop-less c = search needs
 loop-again : tie.Need-loop-again Inv-loop μ-loop
 loop-again c =
     let turn = c .before .before .before .before .before .before .before .before .before .before in
-    one-agreed _ _ _ _ _ _ _ _ _ _ (turn .before .loop .inv) (turn .loop-test .taken) _ (c .before .before .before .before .before .before .before .before .before .expression .ensures) _ _ _ (c .before .before .before .before .before .before .before .judged .given .1) (ap (λ w. w / 64) (c .before .before .before .before .before .operand .ensures)) (c .before .before .before .before .same .ensures) _ _ (c .before .before .agrees .given .1) (c .end .ensures)
+    one-agreed _ _ _ _ _ _ _ _ _ _ (turn .before .loop .inv) (turn .loop-test .taken) _ (c .before .before .before .before .before .before .before .before .before .expression .ensures) _ _ _ (c .before .before .before .before .before .before .before .judged .given .1) (ap (λ w. w / names) (c .before .before .before .before .before .operand .ensures)) (c .before .before .before .before .same .ensures) _ _ (c .before .before .agrees .given .1) (c .end .ensures)
 
 returns-3 : tie.Need-returns-3 Inv-loop μ-loop
 returns-3 c = c .before .loop .inv .whole _ (agree-none _ _ _ _ _ _ _ (c .loop-test .left))

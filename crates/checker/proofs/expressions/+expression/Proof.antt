@@ -5,6 +5,7 @@ use mathlib.Core.Path.{sym, _∙_, subst}
 use native.Mathlib.Omega.{arith}
 use denote.Ref.{now}
 use borrow.Author.Needs.{needs}
+use Rattle.rules.specs.paper.Limits.{most-nodes}
 use Rattle.checker.specs.Answers.{ExpressionAt}
 use Rattle.checker.proofs.laws.expressions.ExpressionLaws.{expression-low, code-number, code-truth, name-three, name-high, first-child, first-low, first-fault, first-truth, second-child, second-fault, second-fine}
 use Prim.Native.Nat.{ℕ, _<_}
@@ -23,7 +24,7 @@ use Rattle.checker.proofs.expressions.+expression.{statement}
 use Rattle.checker.proofs.expressions.+expression.Tie.{close}
 
 abbrev μ-expression : Measures 1 expression-kinds.ps ℕ
-μ-expression κs a = 2000 - (a .1 .1 .1 .0)
+μ-expression κs a = most-nodes - (a .1 .1 .1 .0)
 
 abbrev expression-at : ℕ → In 1 expression-kinds.ps
 expression-at t =

@@ -1,33 +1,14 @@
 -- Names, operators and truth values by their codes: each small function's answer is the rule's.
 use Prim.Native.Nat.{ℕ, zero, suc, _-_, _<_, _≤_}
-use mathlib.Core.Path.{_≡_, refl, sym, ap, _∙_, subst}
-use mathlib.Core.List.{List}
-use mathlib.Core.Option.{Option, none, some}
+use mathlib.Core.Path.{_≡_, refl, sym, ap, subst}
 use native.Mathlib.Omega.{arith}
 use Rattle.rules.specs.paper.Kinds.{operator-number}
 use Rattle.rules.specs.paper.Refusals.{refusal-number}
 use Rattle.rules.specs.paper.Tree.{Operator, arithmetic, Sum, Sub, Mul, Div, Eq, order, Lt, Le, Gt, Ge, logic, And, Or}
-use Rattle.rules.specs.paper.Checker.{Meaning, code, function, Scope, meaning-of, bound-name, id-code, deref-code, valref-code, integers-give, equals-give, truths-give, operator-code, truth-only}
-use Rattle.checker.specs.Rows.{ScopeAt}
-use Rattle.checker.specs.Answers.{FoundAs, found-nothing, found-binding, found-register, answer, code-answer, meaning-answer, Numbered, numbered-code, numbered-function}
-use Rattle.checker.specs.declared.scope.Found.{Found}
-use Rattle.checker.specs.declared.scope.Found.the-variants.{Bound, Nothing}
+use Rattle.rules.specs.paper.Checker.{Meaning, id-code, deref-code, valref-code, integers-give, equals-give, truths-give, operator-code, truth-only}
+use Rattle.checker.specs.Answers.{code-answer, Numbered, numbered-code, numbered-function}
 use Rattle.checker.specs.declared.codes.Answer.{Answer}
 use Rattle.checker.specs.declared.codes.Answer.the-variants.{Is, Fault}
-use Rattle.checker.proofs.laws.codes.AnswerLaws.{nothing-bound, same-number}
-
--- ---- A name's meaning.
-
-pub meaning-absent : (words : List ℕ) (node : ℕ) {o : Option Meaning} {f : Found} → FoundAs words o f → f ≡ Nothing → Fault 10 node ≡ meaning-answer (bound-name node o)
-unfolding refusal-number
-meaning-absent words node found-nothing q = refl
-meaning-absent words node (found-binding h) q = absurd (nothing-bound _ _ _ q refl)
-meaning-absent words node found-register q = absurd (nothing-bound _ _ _ q refl)
-
-pub meaning-present : (words : List ℕ) (node n k : ℕ) {o : Option Meaning} {f : Found} → FoundAs words o f → f ≡ Bound n k → Is n ≡ meaning-answer (bound-name node o)
-meaning-present words node n k found-nothing q = absurd (nothing-bound _ _ _ refl q)
-meaning-present words node n k (found-binding h) q = ap Is (same-number _ _ _ _ _ q refl)
-meaning-present words node n k found-register q = ap Is (same-number _ _ _ _ _ q refl)
 
 -- ---- Id, DeRef and ValRef.
 

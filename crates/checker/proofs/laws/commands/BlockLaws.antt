@@ -4,6 +4,7 @@ use mathlib.Core.Path.{_≡_, refl, sym, ap, _∙_, subst}
 use mathlib.Core.List.{List, _++_}
 use native.Mathlib.Omega.{arith}
 use lib.ListN.{length, getD}
+use Rattle.rules.specs.paper.Limits.{most-nodes}
 use Rattle.rules.specs.paper.Tree.{Command, Block, Blk, Declaration}
 use Rattle.rules.specs.paper.Refusals.{Refusal, refusal-number}
 use Rattle.rules.specs.paper.Checker.{Scope, Judged, fault, fine, _>>=_, Fine, command-ok, block-ok, declaration-gives}
@@ -11,7 +12,7 @@ use Rattle.reader.specs.Pack.{packed-end}
 use Rattle.reader.specs.Stored.{HasWord, StoredCommand, StoredBlock, blk, StoredDeclaration}
 use Rattle.checker.specs.Rows.{Rows, ScopeAt}
 use Rattle.checker.specs.Answers.{answer, fine-answer}
-use Rattle.checker.specs.Commands.{Kept, CommandAt, BlockAt, DeclarationAt, NamesFrom, names-from, names-fault, CommandFineAt, BlockFineAt, DeclaresAt}
+use Rattle.checker.specs.Commands.{WritesRowsFrom, CommandAt, BlockAt, DeclarationAt, NamesFrom, names-from, names-fault, CommandJudgedAt, BlockJudgedAt, DeclarationJudgedAt}
 use Rattle.checker.specs.declared.codes.Answer.{Answer}
 use Rattle.checker.specs.declared.codes.Answer.the-variants.{Is, Fault}
 use Rattle.checker.proofs.laws.codes.AnswerLaws.{two-answers, same-is}
@@ -64,23 +65,23 @@ block-parts words node b at = by (at .stored)
           on = subst (λ i. node < i) (sym end) (omega (arith, declaration-on a));
         }
 
-pub block-first-low : (words : List ℕ) (node : ℕ) → ((b : Block) × BlockAt words node b) → node + 1 < 2000
+pub block-first-low : (words : List ℕ) (node : ℕ) → ((b : Block) × BlockAt words node b) → node + 1 < most-nodes
 block-first-low words node b = declaration-low (block-parts words node (b .0) (b .1) .declaration-stands .stored)
 
 -- ---- What it is judged.
 
-module _ (words words′ : List ℕ) (registers scope node : ℕ) (r : Answer) (declares : DeclaresAt words words′ registers scope scope (node + 1) r) where
+module _ (words words′ : List ℕ) (registers scope node : ℕ) (r : Answer) (declares : DeclarationJudgedAt words words′ registers scope scope (node + 1) r) where
   named : (b : Block) (Γ : Scope) (at : BlockAt words node b) → ScopeAt words registers scope Γ →
       NamesFrom words′ scope (packed-end (getD words (node + 1) 0)) (declaration-gives Γ (block-parts words node b at .declared)) r
   named b Γ at s = let parts = block-parts words node b at in declares (parts .declared) (packed-end (getD words (node + 1) 0)) Γ (parts .declaration-stands) s
 
-  pub block-fault : (x p : ℕ) → r ≡ Fault x p → BlockFineAt words registers scope node r
+  pub block-fault : (x p : ℕ) → r ≡ Fault x p → BlockJudgedAt words registers scope node r
   block-fault x p q b Γ at s =
       let parts = block-parts words node b at in
       subst (λ c. r ≡ fine-answer (block-ok Γ c)) (sym (parts .split))
       (unfold block-ok in (names-not (λ done. 0) (λ Δ. command-ok (Δ ++ Γ) (parts .inside)) x p (named b Γ at s) q))
 
-  module _ (t next : ℕ) (got : r ≡ Is t) (kept : Kept words words′ (node + 1)) (low : scope ≤ node) (end : next ≡ packed-end (getD words′ (node + 1) 0)) where
+  module _ (t next : ℕ) (got : r ≡ Is t) (kept : WritesRowsFrom words words′ (node + 1)) (low : scope ≤ node) (end : next ≡ packed-end (getD words′ (node + 1) 0)) where
     end-before : ((b : Block) × BlockAt words node b) → next ≡ packed-end (getD words (node + 1) 0)
     end-before b = end ∙ kept-end (node + 1) kept (block-first-low words node b)
 
@@ -92,7 +93,7 @@ module _ (words words′ : List ℕ) (registers scope node : ℕ) (r : Answer) (
 
     -- what the call of `command` asks
     pub block-inside : ((Γ : Scope) × ScopeAt words registers scope Γ) → ((b : Block) × BlockAt words node b) →
-        (t ≤ next) × (node < next) × (next < 2000) × ((Δ : Scope) × ScopeAt words′ registers t Δ) × ((c : Command) × CommandAt words′ next c)
+        (t ≤ next) × (node < next) × (next < most-nodes) × ((Δ : Scope) × ScopeAt words′ registers t Δ) × ((c : Command) × CommandAt words′ next c)
     block-inside Γ b =
         let names = names-are t (named (b .0) (Γ .0) (b .1) (Γ .1)) got in
         let inside = inner-command (b .0) (b .1) in (
@@ -103,7 +104,7 @@ module _ (words words′ : List ℕ) (registers scope node : ℕ) (r : Answer) (
           (block-parts words node (b .0) (b .1) .inside, inside),
         )
 
-    pub block-fine : (s : Answer) → CommandFineAt words′ registers t next s → BlockFineAt words registers scope node s
+    pub block-fine : (s : Answer) → CommandJudgedAt words′ registers t next s → BlockJudgedAt words registers scope node s
     block-fine a judged b Γ at s =
         let parts = block-parts words node b at in
         let names = names-are t (named b Γ at s) got in

@@ -5,15 +5,15 @@ use mathlib.Core.List.{List, [], _∷_}
 use mathlib.Core.Option.{Option, none, some}
 use native.Mathlib.Omega.{arith}
 use lib.ListN.{length, getD}
-use Rattle.rules.specs.paper.Limits.{names}
+use Rattle.rules.specs.paper.Limits.{most-nodes, names}
 use Rattle.rules.specs.paper.Refusals.{Refusal, refusal-number, BadCall}
 use Rattle.rules.specs.paper.Tree.{Expression, Formal, Call}
 use Rattle.rules.specs.paper.Checker.{Meaning, code, function, Scope, Judged, fault, fine, _>>=_, Fine, ok, meaning-of, bound-name, called, same-count, same-codes, expression-code, expression-codes, command-ok}
 use Rattle.reader.specs.Pack.{packed-operand}
 use Rattle.reader.specs.Stored.{HasWord, operand-is, StoredFormals}
-use Rattle.checker.specs.Rows.{meaning-number, MeaningAt, code-at, function-at, ScopeAt}
+use Rattle.checker.specs.Rows.{function-number, meaning-number, MeaningAt, code-at, function-at, ScopeAt}
 use Rattle.checker.specs.Answers.{FoundAs, found-nothing, found-binding, found-register, answer, fine-answer}
-use Rattle.checker.specs.Commands.{ActualsAt, FormalsAt, CallAt, CallsAt, CodesAt, AgreesAt}
+use Rattle.checker.specs.Commands.{ActualsAt, FormalsAt, CallAt, CallJudgedAt, ActualsJudgedAt, AgreementJudgedAt}
 use Rattle.checker.specs.declared.scope.Found.{Found}
 use Rattle.checker.specs.declared.scope.Found.the-variants.{Bound, Nothing}
 use Rattle.checker.specs.declared.codes.Answer.{Answer}
@@ -24,15 +24,15 @@ use Rattle.checker.proofs.laws.places.PlaceLaws.{after-node, name-part,
 
 -- ---- The node's word: the name and the count.
 
-pub call-place : {words : List ℕ} {node x : ℕ} {es : List Expression} → CallAt words node x es → node < 2000
+pub call-place : {words : List ℕ} {node x : ℕ} {es : List Expression} → CallAt words node x es → node < most-nodes
 call-place a = a .word .place-low
 
-pub call-name : {words : List ℕ} {node x : ℕ} {es : List Expression} (word : ℕ) → word ≡ packed-operand (getD words node 0) → CallAt words node x es → word % 64 ≡ x
-call-name {x = x} word q a = ap (λ w. w % 64) (q ∙ operand-is (a .word) (omega arith)) ∙ name-part x (a .count) (a .name-low)
+pub call-name : {words : List ℕ} {node x : ℕ} {es : List Expression} (word : ℕ) → word ≡ packed-operand (getD words node 0) → CallAt words node x es → word % names ≡ x
+call-name {x = x} word q a = ap (λ w. w % names) (q ∙ operand-is (a .word) (omega arith)) ∙ name-part x (a .count) (a .name-low)
 
-pub call-actuals : {words : List ℕ} {node x : ℕ} {es : List Expression} (word : ℕ) → word ≡ packed-operand (getD words node 0) → CallAt words node x es → ActualsAt words (node + 1) (word / 64) es
+pub call-actuals : {words : List ℕ} {node x : ℕ} {es : List Expression} (word : ℕ) → word ≡ packed-operand (getD words node 0) → CallAt words node x es → ActualsAt words (node + 1) (word / names) es
 call-actuals {words} {node} {x} {es} word q a =
-    subst (λ n. ActualsAt words (node + 1) n es) (sym (ap (λ w. w / 64) (q ∙ operand-is (a .word) (omega arith)) ∙ number-part x (a .count) (a .name-low))) (a .actuals)
+    subst (λ n. ActualsAt words (node + 1) n es) (sym (ap (λ w. w / names) (q ∙ operand-is (a .word) (omega arith)) ∙ number-part x (a .count) (a .name-low))) (a .actuals)
 
 -- ---- Counts.
 
@@ -68,14 +68,14 @@ pub record FunctionAt (words : List ℕ) (pointer : ℕ) (o : Option Meaning) : 
   pub formals : List Formal
   pub meant : o ≡ some (function formals)
   pub counted : packed-operand (getD words pointer 0) ≡ length formals
-  pub low : pointer < 2000
+  pub low : pointer < most-nodes
   pub end : ℕ
   pub stored : StoredFormals words (pointer + 1) end formals
 
-pub function-found : {words : List ℕ} {o : Option Meaning} {f : Found} (number pointer : ℕ) → FoundAs words o f → f ≡ Bound number pointer → number ≡ 8 → FunctionAt words pointer o
+pub function-found : {words : List ℕ} {o : Option Meaning} {f : Found} (number pointer : ℕ) → FoundAs words o f → f ≡ Bound number pointer → number ≡ function-number → FunctionAt words pointer o
 function-found {words} {o} {f} number pointer found q e = by found q
   where
-    at : {k : ℕ} {m : Meaning} → MeaningAt words k m → meaning-number m ≡ 8 → FunctionAt words (suc k) (some m)
+    at : {k : ℕ} {m : Meaning} → MeaningAt words k m → meaning-number m ≡ function-number → FunctionAt words (suc k) (some m)
     at (code-at l) q = absurd (omega (arith, l, q))
     at {k = k} (function-at {fs = fs} {j = j} h g) q =
         record { formals = fs; meant = refl; counted = operand-is h (omega arith); low = h .place-low; end = j; stored = subst (λ i. StoredFormals words i j fs) (after-node (suc k)) g }
@@ -87,23 +87,23 @@ function-found {words} {o} {f} number pointer found q e = by found q
 
 -- ---- Each answer.
 
-module _ (words : List ℕ) (registers scope node word : ℕ) (known : word ≡ packed-operand (getD words node 0)) (given : Answer) (judged : CodesAt words registers scope (node + 1) (word / 64) given) where
+module _ (words : List ℕ) (registers scope node word : ℕ) (known : word ≡ packed-operand (getD words node 0)) (given : Answer) (judged : ActualsJudgedAt words registers scope (node + 1) (word / names) given) where
   codes-of : (x : ℕ) (es : List Expression) (Γ : Scope) → CallAt words node x es → ScopeAt words registers scope Γ → given ≡ answer (λ cs. 0) (expression-codes Γ es)
   codes-of x es Γ a s = judged es Γ (call-actuals word known a) s
 
-  pub call-actual-fault : (y p : ℕ) → given ≡ Fault y p → CallsAt words registers scope node given
+  pub call-actual-fault : (y p : ℕ) → given ≡ Fault y p → CallJudgedAt words registers scope node given
   unfolding command-ok after-actuals after-function
   call-actual-fault y p q x es Γ a s = then-fault (λ cs. 0) (λ done. 0) (expression-codes Γ es) (after-actuals node x Γ) given y p (codes-of x es Γ a s) q
 
-  module _ (z : ℕ) (found : Found) (got : given ≡ Is z) (looked : (Γ : Scope) → ScopeAt words registers scope Γ → FoundAs words (meaning-of (word % 64) Γ) found) where
-    after : (r : Answer) → ((x : ℕ) (es : List Expression) (cs : List ℕ) (Γ : Scope) → FoundAs words (meaning-of x Γ) found → ScopeAt words registers scope Γ → ActualsAt words (node + 1) (word / 64) es →
-        expression-codes Γ es ≡ fine cs → r ≡ fine-answer (after-actuals node x Γ cs)) → CallsAt words registers scope node r
+  module _ (z : ℕ) (found : Found) (got : given ≡ Is z) (looked : (Γ : Scope) → ScopeAt words registers scope Γ → FoundAs words (meaning-of (word % names) Γ) found) where
+    after : (r : Answer) → ((x : ℕ) (es : List Expression) (cs : List ℕ) (Γ : Scope) → FoundAs words (meaning-of x Γ) found → ScopeAt words registers scope Γ → ActualsAt words (node + 1) (word / names) es →
+        expression-codes Γ es ≡ fine cs → r ≡ fine-answer (after-actuals node x Γ cs)) → CallJudgedAt words registers scope node r
     unfolding command-ok after-actuals after-function
     after r done x es Γ a s =
         then-fine (λ cs. 0) (λ done. 0) (expression-codes Γ es) (after-actuals node x Γ) given r z (codes-of x es Γ a s) got
         (λ cs k q. done x es cs Γ (subst (λ y. FoundAs words (meaning-of y Γ) found) (call-name word known a) (looked Γ s)) s (call-actuals word known a) k)
 
-    pub call-unbound : found ≡ Nothing → CallsAt words registers scope node (Fault 10 node)
+    pub call-unbound : found ≡ Nothing → CallJudgedAt words registers scope node (Fault 10 node)
     call-unbound q = after (Fault 10 node) (λ x es cs Γ f s a k. unfold after-actuals in (by cs (meaning-of x Γ) found f q))
       where
         by : (cs : List ℕ) (o : Option Meaning) (g : Found) → FoundAs words o g → g ≡ Nothing → Fault 10 node ≡ fine-answer (bound-name node o >>= λ m. called node m >>= after-function node cs)
@@ -112,10 +112,10 @@ module _ (words : List ℕ) (registers scope node word : ℕ) (known : word ≡ 
         by cs o g found-register q = absurd (nothing-bound _ _ _ q refl)
 
     module _ (number pointer : ℕ) (bound : found ≡ Bound number pointer) where
-      pub call-no-function : (number ≡ 8 → ⊥) → CallsAt words registers scope node (Fault 14 node)
+      pub call-no-function : (number ≡ function-number → ⊥) → CallJudgedAt words registers scope node (Fault 14 node)
       call-no-function n = after (Fault 14 node) (λ x es cs Γ f s a k. unfold after-actuals in (by cs (meaning-of x Γ) found f bound))
         where
-          at : {k : ℕ} {m : Meaning} (cs : List ℕ) → MeaningAt words k m → (meaning-number m ≡ 8 → ⊥) → Fault 14 node ≡ fine-answer (called node m >>= after-function node cs)
+          at : {k : ℕ} {m : Meaning} (cs : List ℕ) → MeaningAt words k m → (meaning-number m ≡ function-number → ⊥) → Fault 14 node ≡ fine-answer (called node m >>= after-function node cs)
           at cs (code-at l) n = unfold refusal-number in refl
           at cs (function-at h g) n = absurd (n refl)
 
@@ -124,9 +124,9 @@ module _ (words : List ℕ) (registers scope node word : ℕ) (known : word ≡ 
           by cs o g (found-binding h) q = at cs h (λ e. n (sym (same-number _ _ _ _ _ refl q) ∙ e))
           by cs o g found-register q = unfold refusal-number in refl
 
-      module _ (eight : number ≡ 8) (parameters : ℕ) (counted : parameters ≡ packed-operand (getD words pointer 0)) where
+      module _ (eight : number ≡ function-number) (parameters : ℕ) (counted : parameters ≡ packed-operand (getD words pointer 0)) where
         next : (r : Answer) → ((es : List Expression) (cs : List ℕ) (fs : List Formal) (Γ : Scope) (end : ℕ) → parameters ≡ length fs → StoredFormals words (pointer + 1) end fs →
-            ScopeAt words registers scope Γ → ActualsAt words (node + 1) (word / 64) es → expression-codes Γ es ≡ fine cs → r ≡ fine-answer (after-function node cs fs)) → CallsAt words registers scope node r
+            ScopeAt words registers scope Γ → ActualsAt words (node + 1) (word / names) es → expression-codes Γ es ≡ fine cs → r ≡ fine-answer (after-function node cs fs)) → CallJudgedAt words registers scope node r
         next r done =
             after r
             (λ x es cs Γ f s a k. unfold after-actuals in
@@ -134,14 +134,14 @@ module _ (words : List ℕ) (registers scope node word : ℕ) (known : word ≡ 
             subst (λ o. r ≡ fine-answer (bound-name node o >>= λ m. called node m >>= after-function node cs)) (sym (g .meant))
             (done es cs (g .formals) Γ (g .end) (counted ∙ g .counted) (g .stored) s a k)))
 
-        pub call-count-apart : (parameters ≡ word / 64 → ⊥) → CallsAt words registers scope node (Fault 14 node)
+        pub call-count-apart : (parameters ≡ word / names → ⊥) → CallJudgedAt words registers scope node (Fault 14 node)
         call-count-apart apart =
             next (Fault 14 node)
             (λ es cs fs Γ e n st s a k. unfold after-function refusal-number in
             (subst (λ j. Fault 14 node ≡ fine-answer (j >>= λ done. same-codes node fs cs))
             (sym (count-apart node fs cs (λ q. apart (n ∙ q ∙ codes-length Γ es cs k ∙ a .number)))) refl))
 
-        pub call-agree : (r : Answer) → parameters ≡ word / 64 → AgreesAt words registers scope node (node + 1) (pointer + 1) (word / 64) r → CallsAt words registers scope node r
+        pub call-agree : (r : Answer) → parameters ≡ word / names → AgreementJudgedAt words registers scope node (node + 1) (pointer + 1) (word / names) r → CallJudgedAt words registers scope node r
         call-agree r same agrees =
             next r
             (λ es cs fs Γ e n st s a k. unfold after-function in

@@ -11,8 +11,8 @@ use Rattle.reader.specs.Pack.{packed-kind, packed-end}
 use Rattle.reader.specs.Stored.{HasWord, kind-is, StoredExpression, StoredActuals, StoredCommand, StoredBlock}
 use Rattle.reader.specs.Stored as Stored
 use Rattle.checker.specs.Rows.{ScopeAt}
-use Rattle.checker.specs.Answers.{answer, code-answer, fine-answer, ExpressionAt, CodeAt}
-use Rattle.checker.specs.Commands.{Kept, AssignAt, AssignsAt, CallAt, CallsAt, CommandAt, BlockAt, CommandFineAt, BlockFineAt}
+use Rattle.checker.specs.Answers.{answer, code-answer, fine-answer, ExpressionAt, ExpressionJudgedAt}
+use Rattle.checker.specs.Commands.{WritesRowsFrom, AssignAt, AssignJudgedAt, CallAt, CallJudgedAt, CommandAt, BlockAt, CommandJudgedAt, BlockJudgedAt}
 use Rattle.checker.specs.declared.codes.Answer.{Answer}
 use Rattle.checker.specs.declared.codes.Answer.the-variants.{Is, Fault}
 use Rattle.checker.proofs.laws.codes.AnswerLaws.{then-fault, then-fine, then-code, truth-fine}
@@ -136,9 +136,9 @@ module _ (words : List ℕ) (node which : ℕ) (known : which ≡ packed-kind (g
 
 module _ (words : List ℕ) (registers scope node which : ℕ) (known : which ≡ packed-kind (getD words node 0)) where
   abbrev Judges : Answer → Type 0
-  Judges r = CommandFineAt words registers scope node r
+  Judges r = CommandJudgedAt words registers scope node r
 
-  pub command-assign : (r : Answer) → which ≡ 20 → AssignsAt words registers scope node r → Judges r
+  pub command-assign : (r : Answer) → which ≡ 20 → AssignJudgedAt words registers scope node r → Judges r
   command-assign r q judged c Γ at s = by (seen-command words node which c known at) q
     where
       by : {w : ℕ} {c : Command} → SeenCommand words node w c → w ≡ 20 → r ≡ fine-answer (command-ok Γ c)
@@ -148,7 +148,7 @@ module _ (words : List ℕ) (registers scope node which : ℕ) (known : which �
       by (seen-block a) q = absurd (omega (arith, q))
       by (seen-call a) q = absurd (omega (arith, q))
 
-  pub command-block : (r : Answer) → which ≡ 23 → BlockFineAt words registers scope node r → Judges r
+  pub command-block : (r : Answer) → which ≡ 23 → BlockJudgedAt words registers scope node r → Judges r
   unfolding command-ok
   command-block r q judged c Γ at s = by (seen-command words node which c known at) q
     where
@@ -159,7 +159,7 @@ module _ (words : List ℕ) (registers scope node which : ℕ) (known : which �
       by (seen-block {b = b} a) q = judged b Γ a s
       by (seen-call a) q = absurd (omega (arith, q))
 
-  pub command-call : (r : Answer) → which ≡ 24 → CallsAt words registers scope node r → Judges r
+  pub command-call : (r : Answer) → which ≡ 24 → CallJudgedAt words registers scope node r → Judges r
   command-call r q judged c Γ at s = by (seen-command words node which c known at) q
     where
       by : {w : ℕ} {c : Command} → SeenCommand words node w c → w ≡ 24 → r ≡ fine-answer (command-ok Γ c)
@@ -181,14 +181,14 @@ module _ (words : List ℕ) (registers scope node which : ℕ) (known : which �
       by (seen-block a) q = absurd (omega (arith, q))
       by (seen-call a) q = absurd (omega (arith, q))
 
-  module _ (is-loop : which ≡ 21) (test : Answer) (tested : CodeAt words registers scope (node + 1) test) where
+  module _ (is-loop : which ≡ 21) (test : Answer) (tested : ExpressionJudgedAt words registers scope (node + 1) test) where
     pub loop-test-fault : (x p : ℕ) → test ≡ Fault x p → Judges test
     loop-test-fault x p q =
         of-loop test is-loop
         (λ e c Γ a b s. unfold command-ok in
         (then-fault (λ t. t) (λ done. 0) (expression-code Γ e) (λ t. command-ok Γ c >>= λ done. truth-only node ok t) test x p (tested e Γ a s) q))
 
-    module _ (t next : ℕ) (body : Answer) (got : test ≡ Is t) (end : next ≡ second-place words node) (judged : CommandFineAt words registers scope next body) where
+    module _ (t next : ℕ) (body : Answer) (got : test ≡ Is t) (end : next ≡ second-place words node) (judged : CommandJudgedAt words registers scope next body) where
       after-test : (r : Answer) → ((c : Command) (Γ : Scope) → body ≡ fine-answer (command-ok Γ c) → r ≡ fine-answer (command-ok Γ c >>= λ done. truth-only node ok t)) → Judges r
       after-test r done =
           of-loop r is-loop
@@ -204,7 +204,7 @@ module _ (words : List ℕ) (registers scope node which : ℕ) (known : which �
           after-test r (λ c Γ b. then-fine (λ done. 0) (λ done. 0) (command-ok Γ c) (λ done. truth-only node ok t) body r z b q (λ a k e. done ∙ truth-fine node t))
 
   module _ (not-assign : which ≡ 20 → ⊥) (not-block : which ≡ 23 → ⊥) (not-call : which ≡ 24 → ⊥) (not-loop : which ≡ 21 → ⊥) (first : Answer)
-      (judged : CommandFineAt words registers scope (node + 1) first) where
+      (judged : CommandJudgedAt words registers scope (node + 1) first) where
     of-sequence : (r : Answer) → ((c₁ c₂ : Command) (Γ : Scope) → first ≡ fine-answer (command-ok Γ c₁) → CommandAt words (second-place words node) c₂ → ScopeAt words registers scope Γ →
         r ≡ fine-answer (command-ok Γ c₁ >>= λ done. command-ok Γ c₂)) → Judges r
     unfolding command-ok
@@ -220,13 +220,13 @@ module _ (words : List ℕ) (registers scope node which : ℕ) (known : which �
     pub commands-fault : (x p : ℕ) → first ≡ Fault x p → Judges first
     commands-fault x p q = of-sequence first (λ c₁ c₂ Γ f b s. then-fault (λ done. 0) (λ done. 0) (command-ok Γ c₁) (λ done. command-ok Γ c₂) first x p f q)
 
-    pub commands-fine : (z next : ℕ) (r : Answer) → first ≡ Is z → next ≡ second-place words node → CommandFineAt words registers scope next r → Judges r
+    pub commands-fine : (z next : ℕ) (r : Answer) → first ≡ Is z → next ≡ second-place words node → CommandJudgedAt words registers scope next r → Judges r
     commands-fine z next r q end later =
         of-sequence r
         (λ c₁ c₂ Γ f b s.
         then-fine (λ done. 0) (λ done. 0) (command-ok Γ c₁) (λ done. command-ok Γ c₂) first r z f q (λ a k e. later c₂ Γ (subst (λ i. CommandAt words i c₂) (sym end) b) s))
 
 -- What was judged after rows were written holds of the words before.
-pub fine-before : {words words′ : List ℕ} {low : ℕ} (registers scope node : ℕ) (r : Answer) → Kept words words′ low → scope ≤ low → CommandFineAt words′ registers scope node r →
-    CommandFineAt words registers scope node r
+pub fine-before : {words words′ : List ℕ} {low : ℕ} (registers scope node : ℕ) (r : Answer) → WritesRowsFrom words words′ low → scope ≤ low → CommandJudgedAt words′ registers scope node r →
+    CommandJudgedAt words registers scope node r
 fine-before registers scope node r k l judged c Γ at s = judged c Γ (kept-command k at) (kept-scope k l s)

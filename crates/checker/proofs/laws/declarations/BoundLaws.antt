@@ -5,99 +5,23 @@ use mathlib.Core.Path.{_≡_, refl, sym, _∙_, subst}
 use mathlib.Core.List.{List, [], _∷_, _++_}
 use native.Mathlib.Omega.{arith}
 use lib.ListN.{length, getD}
-use Rattle.rules.specs.paper.Refusals.{Refusal, refusal-number}
-use Rattle.rules.specs.paper.Tree.{Operator, arithmetic, Eq, order, logic, Expression, Num, Boo, Id, DeRef, ValRef, Binary, Not, Formal, Block, Bound, plain, Ref, Abs}
-use Rattle.rules.specs.paper.Checker.{Meaning, code, function, Scope, Judged, fault, fine, _>>=_, Fine, meaning-of, bound-name, id-code, deref-code, valref-code, integers-give, truths-give, equals-give, operator-code, truth-only, expression-code, distinct, with-formals, ref-code, block-ok, bound-means}
+use Rattle.rules.specs.paper.Limits.{most-nodes}
+use Rattle.rules.specs.paper.Refusals.{refusal-number}
+use Rattle.rules.specs.paper.Tree.{Expression, Formal, Block, Bound, plain, Ref, Abs}
+use Rattle.rules.specs.paper.Checker.{Meaning, code, function, Scope, Judged, fault, fine, _>>=_, Fine, expression-code, distinct, with-formals, ref-code, block-ok, bound-means}
 use Rattle.reader.specs.Pack.{packed-kind, packed-operand}
 use Rattle.reader.specs.Stored.{HasWord, kind-is, operand-is, StoredExpression, num, boo, id, deref, valref, binary, negation, StoredFormals, no-formals, one-formal, StoredBlock, blk, StoredBound, plain-of, ref, abs}
-use Rattle.checker.specs.Rows.{meaning-number, MeaningAt, code-at, function-at, Rows, no-rows, ScopeAt}
-use Rattle.checker.specs.Answers.{code-answer, fine-answer, meaning-answer, Numbered, numbered-code, ExpressionAt, CodeAt}
-use Rattle.checker.specs.Commands.{Kept, FormalsAt, BlockAt, BoundAt, NamesFrom, names-from, names-fault, BlockFineAt, MeansAt}
+use Rattle.checker.specs.Rows.{meaning-numbers, meaning-number, MeaningAt, code-at, function-at, Rows, no-rows, ScopeAt}
+use Rattle.checker.specs.Answers.{code-answer, fine-answer, meaning-answer, ExpressionAt, ExpressionJudgedAt}
+use Rattle.checker.specs.Commands.{formals-give, FormalsJudgedAt, WritesRowsFrom, FormalsAt, BlockAt, BoundAt, NamesFrom, names-from, names-fault, BlockJudgedAt, BoundJudgedAt}
 use Rattle.checker.specs.declared.codes.Answer.{Answer}
 use Rattle.checker.specs.declared.codes.Answer.the-variants.{Is, Fault}
 use Rattle.checker.proofs.laws.codes.AnswerLaws.{two-answers, same-is, no-fault, same-fine, then-inverse, then-fault, then-fine, then-code}
 use Rattle.checker.proofs.laws.places.PlaceLaws.{after-node}
 use Rattle.checker.proofs.laws.expressions.ExpressionLaws.{operator-below, expression-low}
-use Rattle.checker.proofs.laws.expressions.NameLaws.{scope-numbered}
 use Rattle.checker.proofs.laws.scope.KeptLaws.{kept-lower, kept-then, kept-block, kept-scope, scope-with}
-use Rattle.checker.proofs.laws.declarations.FormalLaws.{formals-give, FormalsFrom, named}
-
--- ---- Every code is below 8.
-
-code-below : {n c : ℕ} → Numbered n (code c) → c < 8
-code-below (numbered-code l) = l
-
-id-low : (p : ℕ) (m : Meaning) (c : ℕ) → Numbered (meaning-number m) m → id-code p m ≡ fine c → c < 8
-id-low p (code zero) c h q = omega (arith, same-fine 0 c q)
-id-low p (code (suc zero)) c h q = omega (arith, same-fine 1 c q)
-id-low p (code (suc (suc k))) c h q = omega (arith, code-below h, same-fine k c q)
-id-low p (function fs) c h q = absurd (no-fault _ p c q)
-
-deref-low : (p : ℕ) (m : Meaning) (c : ℕ) → Numbered (meaning-number m) m → deref-code p m ≡ fine c → c < 8
-deref-low p (code zero) c h q = absurd (no-fault _ p c q)
-deref-low p (code (suc zero)) c h q = absurd (no-fault _ p c q)
-deref-low p (code (suc (suc k))) c h q = omega (arith, code-below h, same-fine (suc (suc k)) c q)
-deref-low p (function fs) c h q = absurd (no-fault _ p c q)
-
-valref-low : (p : ℕ) (m : Meaning) (c : ℕ) → Numbered (meaning-number m) m → valref-code p m ≡ fine c → c < 8
-valref-low p (code zero) c h q = absurd (no-fault _ p c q)
-valref-low p (code (suc zero)) c h q = absurd (no-fault _ p c q)
-valref-low p (code (suc (suc zero))) c h q = absurd (no-fault _ p c q)
-valref-low p (code (suc (suc (suc zero)))) c h q = absurd (no-fault _ p c q)
-valref-low p (code (suc (suc (suc (suc k))))) c h q = omega (arith, code-below h, same-fine k c q)
-valref-low p (function fs) c h q = absurd (no-fault _ p c q)
-
-integers-low : (r p a b c : ℕ) → r < 8 → integers-give r p a b ≡ fine c → c < 8
-integers-low r p zero zero c l q = omega (arith, l, same-fine r c q)
-integers-low r p zero (suc b) c l q = absurd (no-fault _ p c q)
-integers-low r p (suc a) b c l q = absurd (no-fault _ p c q)
-
-truths-low : (p a b c : ℕ) → truths-give p a b ≡ fine c → c < 8
-truths-low p zero b c q = absurd (no-fault _ p c q)
-truths-low p (suc zero) zero c q = absurd (no-fault _ p c q)
-truths-low p (suc zero) (suc zero) c q = omega (arith, same-fine 1 c q)
-truths-low p (suc zero) (suc (suc b)) c q = absurd (no-fault _ p c q)
-truths-low p (suc (suc a)) b c q = absurd (no-fault _ p c q)
-
-equals-low : (p a b c : ℕ) → equals-give p a b ≡ fine c → c < 8
-equals-low p zero zero c q = omega (arith, same-fine 1 c q)
-equals-low p zero (suc b) c q = absurd (no-fault _ p c q)
-equals-low p (suc zero) zero c q = absurd (no-fault _ p c q)
-equals-low p (suc zero) (suc zero) c q = omega (arith, same-fine 1 c q)
-equals-low p (suc zero) (suc (suc b)) c q = absurd (no-fault _ p c q)
-equals-low p (suc (suc a)) b c q = absurd (no-fault _ p c q)
-
-operator-low : (o : Operator) (p a b c : ℕ) → operator-code o p a b ≡ fine c → c < 8
-operator-low (arithmetic o) p a b c q = integers-low 0 p a b c (omega arith) q
-operator-low Eq p a b c q = equals-low p a b c q
-operator-low (order o) p a b c q = integers-low 1 p a b c (omega arith) q
-operator-low (logic o) p a b c q = truths-low p a b c q
-
-truth-low : (p a c : ℕ) → truth-only p 1 a ≡ fine c → c < 8
-truth-low p zero c q = absurd (no-fault _ p c q)
-truth-low p (suc zero) c q = omega (arith, same-fine 1 c q)
-truth-low p (suc (suc a)) c q = absurd (no-fault _ p c q)
-
-pub code-low : {words : List ℕ} {registers scope : ℕ} {Γ : Scope} → ScopeAt words registers scope Γ → (e : Expression) (c : ℕ) → expression-code Γ e ≡ fine c → c < 8
-unfolding expression-code
-code-low s (Num p n) c q = omega (arith, same-fine 0 c q)
-code-low s (Boo p b) c q = omega (arith, same-fine 1 c q)
-code-low {words} {registers} {scope} {Γ} s (Id p x) c q =
-    let t = then-inverse (bound-name p (meaning-of x Γ)) (id-code p) c q in
-    id-low p (t .0) c (scope-numbered words registers scope p x Γ (t .0) s (t .1)) (t .2)
-code-low {words} {registers} {scope} {Γ} s (DeRef p x) c q =
-    let t = then-inverse (bound-name p (meaning-of x Γ)) (deref-code p) c q in
-    deref-low p (t .0) c (scope-numbered words registers scope p x Γ (t .0) s (t .1)) (t .2)
-code-low {words} {registers} {scope} {Γ} s (ValRef p x) c q =
-    let t = then-inverse (bound-name p (meaning-of x Γ)) (valref-code p) c q in
-    valref-low p (t .0) c (scope-numbered words registers scope p x Γ (t .0) s (t .1)) (t .2)
-code-low {Γ = Γ} s (Binary p o e₁ e₂) c q =
-    let t = then-inverse (expression-code Γ e₁) (λ a. expression-code Γ e₂ >>= λ b. operator-code o p a b) c q in
-    let u = then-inverse (expression-code Γ e₂) (λ b. operator-code o p (t .0) b) c (t .2) in
-    operator-low o p (t .0) (u .0) c (u .2)
-code-low {Γ = Γ} s (Not p e) c q =
-    let t = then-inverse (expression-code Γ e) (truth-only p 1) c q in
-    truth-low p (t .0) c (t .2)
+use Rattle.checker.proofs.laws.declarations.FormalLaws.{named}
+use Rattle.checker.proofs.laws.expressions.CodeRangeLaws.{code-low}
 
 -- ---- A meaning that was found fits into the row of the node before.
 
@@ -131,7 +55,7 @@ module _ {words : List ℕ} {node : ℕ} where
   pub bound-meaning : {registers scope : ℕ} {b : Bound} (Γ : Scope) (m : Meaning) → BoundAt words (node + 1) b → ScopeAt words registers scope Γ → bound-means Γ b ≡ fine m → MeaningAt words node m
   bound-meaning Γ m at s q = stored-meaning Γ m s (at .stored) (sym (after-node node)) q
 
-  pub meaning-low : {m : Meaning} → MeaningAt words node m → meaning-number m < 16
+  pub meaning-low : {m : Meaning} → MeaningAt words node m → meaning-number m < meaning-numbers
   meaning-low (code-at l) = omega (arith, l)
   meaning-low (function-at w f) = omega arith
 
@@ -141,7 +65,7 @@ formals-next : {words : List ℕ} {i j : ℕ} {fs : List Formal} → StoredForma
 formals-next no-formals = omega arith
 formals-next (one-formal p l c h s) = omega (arith, formals-next s)
 
-block-low : {words : List ℕ} {d i j : ℕ} {b : Block} → StoredBlock words d i j b → i < 2000
+block-low : {words : List ℕ} {d i j : ℕ} {b : Block} → StoredBlock words d i j b → i < most-nodes
 block-low (blk h d c) = h .place-low
 
 expression-kind : {words : List ℕ} {d i j : ℕ} {e : Expression} → StoredExpression words d i j e → packed-kind (getD words i 0) < 40
@@ -153,10 +77,10 @@ expression-kind (valref l h) = omega (arith, kind-is h (omega arith))
 expression-kind (binary {o = o} h a b) = omega (arith, operator-below o, kind-is h (omega (arith, operator-below o)))
 expression-kind (negation h a) = omega (arith, kind-is h (omega arith))
 
-pub bound-low : {words : List ℕ} {node : ℕ} {b : Bound} → BoundAt words node b → node < 2000
+pub bound-low : {words : List ℕ} {node : ℕ} {b : Bound} → BoundAt words node b → node < most-nodes
 bound-low {words} at = by (at .stored)
   where
-    by : {d i j : ℕ} {b : Bound} → StoredBound words d i j b → i < 2000
+    by : {d i j : ℕ} {b : Bound} → StoredBound words d i j b → i < most-nodes
     by (plain-of h) = expression-low h
     by (ref w h) = w .place-low
     by (abs l w f h) = w .place-low
@@ -167,7 +91,7 @@ pub record AbsAt (words : List ℕ) (node count : ℕ) (b : Bound) : Type 0 wher
   pub same : b ≡ Abs node formals body
   pub formals-at : FormalsAt words (node + 1) count formals
   pub block-at : BlockAt words (node + 1 + count) body
-  pub low : node + 1 + count < 2000
+  pub low : node + 1 + count < most-nodes
 
 data SeenBound (words : List ℕ) (node : ℕ) : (which : ℕ) → Bound → Type 0 where
   seen-plain : {w : ℕ} {e : Expression} → w < 40 → ExpressionAt words node e → SeenBound words node w (plain e)
@@ -211,7 +135,7 @@ with-append (f ∷ fs) Δ Γ = with-append fs (named f ∷ Δ) Γ
 
 module _ (words : List ℕ) (registers scope node which : ℕ) (known : which ≡ packed-kind (getD words node 0)) where
   abbrev Means : Answer → Type 0
-  Means r = MeansAt words registers scope node r
+  Means r = BoundJudgedAt words registers scope node r
 
   -- A location.
   module _ (is-ref : which ≡ 40) where
@@ -223,7 +147,7 @@ module _ (words : List ℕ) (registers scope node which : ℕ) (known : which �
         by (seen-ref {e = e} a) q = (e, a)
         by (seen-abs a) q = absurd (omega (arith, q))
 
-    module _ (value : Answer) (valued : CodeAt words registers scope (node + 1) value) where
+    module _ (value : Answer) (valued : ExpressionJudgedAt words registers scope (node + 1) value) where
       ref-means : (r : Answer) → ((e : Expression) (Γ : Scope) → value ≡ code-answer (expression-code Γ e) → r ≡ meaning-answer (expression-code Γ e >>= ref-code node)) → Means r
       unfolding bound-means
       ref-means r done b Γ at s = by (seen-bound words node which b known at) is-ref
@@ -249,7 +173,7 @@ module _ (words : List ℕ) (registers scope node which : ℕ) (known : which �
         by (seen-ref a) f g = absurd (f refl)
         by (seen-abs a) f g = absurd (g refl)
 
-    pub plain-means : (r : Answer) → CodeAt words registers scope node r → Means r
+    pub plain-means : (r : Answer) → ExpressionJudgedAt words registers scope node r → Means r
     unfolding bound-means
     plain-means r coded b Γ at s = by (seen-bound words node which b known at) not-ref not-abs
       where
@@ -272,7 +196,7 @@ module _ (words : List ℕ) (registers scope node which : ℕ) (known : which �
         by (seen-ref a) q = absurd (omega (arith, q))
         by {b = b} (seen-abs a) q = subst (λ n. AbsAt words node n b) (sym counted) a
 
-    module _ (words₁ : List ℕ) (parameters : Answer) (listed : FormalsFrom words words₁ scope scope (node + 1) count parameters) where
+    module _ (words₁ : List ℕ) (parameters : Answer) (listed : FormalsJudgedAt words words₁ scope scope (node + 1) count parameters) where
       formals-judged : (b : Bound) (a : AbsAt words node count b) → NamesFrom words₁ scope (node + 1 + count) (formals-give [] (a .formals)) parameters
       formals-judged b a = listed (a .formals) [] (a .formals-at) no-rows
 
@@ -300,7 +224,7 @@ module _ (words : List ℕ) (registers scope node which : ℕ) (known : which �
         pub inner-low : ((b : Bound) × BoundAt words node b) → inner ≤ node + 1 + count
         inner-low b = formals-fine (b .0) (abs-there (b .0) (b .1)) .3
 
-        module _ (kept₁ : Kept words words₁ (node + 1)) (low : scope ≤ node) where
+        module _ (kept₁ : WritesRowsFrom words words₁ (node + 1)) (low : scope ≤ node) where
           inner-scope-of : (b : Bound) (a : AbsAt words node count b) (Γ : Scope) → ScopeAt words registers scope Γ → ScopeAt words₁ registers inner (with-formals (a .formals) Γ)
           inner-scope-of b a Γ s =
               subst (ScopeAt words₁ registers inner) (sym (with-append (a .formals) [] Γ)) (scope-with (kept-scope kept₁ (omega (arith, low)) s) (formals-fine b a .2))
@@ -315,7 +239,7 @@ module _ (words : List ℕ) (registers scope node which : ℕ) (known : which �
               let a = abs-there (b .0) (b .1) in
               (a .body, kept-block kept₁ (a .block-at))
 
-          module _ (inside : Answer) (judged : BlockFineAt words₁ registers inner (node + 1 + count) inside) where
+          module _ (inside : Answer) (judged : BlockJudgedAt words₁ registers inner (node + 1 + count) inside) where
             abs-means : (r : Answer) → ((fs : List Formal) (j : Judged Fine) → inside ≡ fine-answer j → r ≡ meaning-answer (j >>= λ done. fine (function fs))) → Means r
             unfolding bound-means
             abs-means r done b Γ at s =
@@ -331,5 +255,5 @@ module _ (words : List ℕ) (registers scope node which : ℕ) (known : which �
             pub abs-body-fine : (c : ℕ) → inside ≡ Is c → Means (Is 8)
             abs-body-fine c q = abs-means (Is 8) (λ fs j e. then-fine (λ done. 0) meaning-number j (λ done. fine (function fs)) inside (Is 8) c e q (λ a k z. refl))
 
-            pub abs-kept : (words₂ : List ℕ) → Kept words₁ words₂ (node + 1 + count) → Kept words words₂ node
+            pub abs-kept : (words₂ : List ℕ) → WritesRowsFrom words₁ words₂ (node + 1 + count) → WritesRowsFrom words words₂ node
             abs-kept words₂ kept₂ = kept-then (kept-lower kept₁ (omega arith)) kept₂ (omega arith)

@@ -6,15 +6,15 @@ use mathlib.Core.Bool.{Bool, true, false, cond}
 use mathlib.Core.List.{List, [], _∷_, _++_}
 use native.Mathlib.Omega.{arith}
 use lib.ListN.{length, getD, set}
-use Rattle.rules.specs.paper.Limits.{names}
+use Rattle.rules.specs.paper.Limits.{most-nodes, names}
 use Rattle.rules.specs.paper.Refusals.{Repeated, refusal-number}
 use Rattle.rules.specs.paper.Tree.{Expression, Formal, Command, Block, Declaration, Bind, DSeq, Bound}
 use Rattle.rules.specs.paper.Checker.{Meaning, Scope, Judged, fault, fine, _>>=_, shares-name, declaration-gives, bound-means}
 use Rattle.reader.specs.Pack.{packed-kind, packed-end, packed-operand}
 use Rattle.reader.specs.Stored.{HasWord, kind-is, end-is, operand-is, StoredFormals, StoredDeclaration, bind, dseq, StoredBound}
-use Rattle.checker.specs.Rows.{row-word, meaning-number, MeaningAt, HasRow, Rows, no-rows, one-row, ScopeAt}
+use Rattle.checker.specs.Rows.{rows-from, rows-end, row-word, meaning-number, MeaningAt, HasRow, Rows, no-rows, one-row, ScopeAt}
 use Rattle.checker.specs.Answers.{meaning-answer}
-use Rattle.checker.specs.Commands.{Kept, BoundAt, DeclarationAt, NamesFrom, names-from, names-fault, DeclaresAt, MeansAt}
+use Rattle.checker.specs.Commands.{WritesRowsFrom, BoundAt, DeclarationAt, NamesFrom, names-from, names-fault, DeclarationJudgedAt, BoundJudgedAt}
 use Rattle.checker.specs.declared.codes.Answer.{Answer}
 use Rattle.checker.specs.declared.codes.Answer.the-variants.{Is, Fault}
 use Rattle.checker.proofs.laws.codes.AnswerLaws.{two-answers, same-is}
@@ -29,7 +29,7 @@ use Rattle.checker.proofs.laws.declarations.BoundLaws.{bound-low, bound
 pub declaration-end : {words : List ℕ} {node next : ℕ} {d : Declaration} → DeclarationAt words node next d → packed-end (getD words node 0) ≡ next
 declaration-end a = Standing.declaration-end (a .stored)
 
-pub declaration-low : {words : List ℕ} {node next : ℕ} {d : Declaration} → DeclarationAt words node next d → node < 2000
+pub declaration-low : {words : List ℕ} {node next : ℕ} {d : Declaration} → DeclarationAt words node next d → node < most-nodes
 declaration-low a = Standing.declaration-low (a .stored)
 
 -- ---- Which declaration it is.
@@ -121,23 +121,23 @@ module _ (words : List ℕ) (registers scope tail node which : ℕ) (known : whi
       let a = sequence-there (d .0) (d .1) (d .2) in
       (a .first, a .middle, a .extend-at)
 
-  pub first-declaration-low : ((d : Declaration) × (next : ℕ) × DeclarationAt words node next d) → node + 1 < 2000
+  pub first-declaration-low : ((d : Declaration) × (next : ℕ) × DeclarationAt words node next d) → node + 1 < most-nodes
   first-declaration-low d = declaration-low (first-declaration d .2)
 
-  module _ (words₁ : List ℕ) (r₁ : Answer) (gives₁ : DeclaresAt words words₁ registers scope tail (node + 1) r₁) where
+  module _ (words₁ : List ℕ) (r₁ : Answer) (gives₁ : DeclarationJudgedAt words words₁ registers scope tail (node + 1) r₁) where
     sequence-gives : (words′ : List ℕ) (r : Answer) →
         ((d : Declaration) (next : ℕ) (Γ : Scope) (a : SequenceAt words node next d) → ScopeAt words registers scope Γ →
-        NamesFrom words′ tail next (declaration-gives Γ (a .first) >>= λ Δ₁. declaration-gives Γ (a .second) >>= joined node Δ₁) r) → DeclaresAt words words′ registers scope tail node r
+        NamesFrom words′ tail next (declaration-gives Γ (a .first) >>= λ Δ₁. declaration-gives Γ (a .second) >>= joined node Δ₁) r) → DeclarationJudgedAt words words′ registers scope tail node r
     unfolding declaration-gives joined
     sequence-gives words′ r done d next Γ at s =
         let a = sequence-there d next at in
         subst (λ e. NamesFrom words′ tail next (declaration-gives Γ e) r) (sym (a .same)) (done d next Γ a s)
 
-    pub sequence-first-fault : (x p : ℕ) → r₁ ≡ Fault x p → DeclaresAt words words₁ registers scope tail node r₁
+    pub sequence-first-fault : (x p : ℕ) → r₁ ≡ Fault x p → DeclarationJudgedAt words words₁ registers scope tail node r₁
     sequence-first-fault x p q =
         sequence-gives words₁ r₁ (λ d next Γ a s. names-stop (λ Δ₁. declaration-gives Γ (a .second) >>= joined node Δ₁) x p (gives₁ (a .first) (a .middle) Γ (a .extend-at) s) q)
 
-    module _ (middle after : ℕ) (got₁ : r₁ ≡ Is middle) (kept₁ : Kept words words₁ (node + 1)) (ended : after ≡ packed-end (getD words₁ (node + 1) 0)) (low : scope ≤ node) where
+    module _ (middle after : ℕ) (got₁ : r₁ ≡ Is middle) (kept₁ : WritesRowsFrom words words₁ (node + 1)) (ended : after ≡ packed-end (getD words₁ (node + 1) 0)) (low : scope ≤ node) where
       first-given : (d : Declaration) (next : ℕ) (Γ : Scope) (a : SequenceAt words node next d) → ScopeAt words registers scope Γ →
           (Δ : Scope) × (declaration-gives Γ (a .first) ≡ fine Δ) × Rows words₁ middle tail Δ × (middle ≤ a .middle)
       first-given d next Γ a s = names-given (gives₁ (a .first) (a .middle) Γ (a .extend-at) s) got₁
@@ -166,19 +166,19 @@ module _ (words : List ℕ) (registers scope tail node which : ℕ) (known : whi
           let a = sequence-there (d .0) (d .1) (d .2) in
           omega (arith, after-is (d .0) (d .1) a, first-given (d .0) (d .1) (s .0) a (s .1) .3)
 
-      module _ (words₂ : List ℕ) (r₂ : Answer) (gives₂ : DeclaresAt words₁ words₂ registers scope middle after r₂) where
+      module _ (words₂ : List ℕ) (r₂ : Answer) (gives₂ : DeclarationJudgedAt words₁ words₂ registers scope middle after r₂) where
         second-judged : (d : Declaration) (next : ℕ) (Γ : Scope) (a : SequenceAt words node next d) → ScopeAt words registers scope Γ → NamesFrom words₂ middle next (declaration-gives Γ (a .second)) r₂
         second-judged d next Γ a s = gives₂ (a .second) next Γ (second-there d next a) (second-scope Γ s)
 
-        pub sequence-second-fault : (x p : ℕ) → r₂ ≡ Fault x p → DeclaresAt words words₂ registers scope tail node r₂
+        pub sequence-second-fault : (x p : ℕ) → r₂ ≡ Fault x p → DeclarationJudgedAt words words₂ registers scope tail node r₂
         sequence-second-fault x p q =
             sequence-gives words₂ r₂
             (λ d next Γ a s.
             let g = first-given d next Γ a s in
             names-after (λ Δ₁. declaration-gives Γ (a .second) >>= joined node Δ₁) (g .1) (names-stop (joined node (g .0)) x p (second-judged d next Γ a s) q))
 
-        module _ (kept₂ : Kept words₁ words₂ after) where
-          pub sequence-kept : ((d : Declaration) × (next : ℕ) × DeclarationAt words node next d) → Kept words words₂ node
+        module _ (kept₂ : WritesRowsFrom words₁ words₂ after) where
+          pub sequence-kept : ((d : Declaration) × (next : ℕ) × DeclarationAt words node next d) → WritesRowsFrom words words₂ node
           sequence-kept d = kept-then (kept-lower kept₁ (omega arith)) kept₂ (omega (arith, second-after d))
 
           first-rows-of : (d : Declaration) (next : ℕ) (Γ : Scope) (a : SequenceAt words node next d) (s : ScopeAt words registers scope Γ) → Rows words₂ middle tail (first-given d next Γ a s .0)
@@ -200,7 +200,7 @@ module _ (words : List ℕ) (registers scope tail node which : ℕ) (known : whi
 
             module _ (repeated : Bool) (compared : (Δ₁ Δ₂ : Scope) → Rows words₂ middle tail Δ₁ → Rows words₂ newest middle Δ₂ → repeated ≡ shares-name Δ₁ Δ₂) where
               joins : (r : Answer) → ((next : ℕ) (Δ₁ Δ₂ : Scope) → Rows words₂ middle tail Δ₁ → Rows words₂ newest middle Δ₂ → newest ≤ next → NamesFrom words₂ tail next (joined node Δ₁ Δ₂) r) →
-                  DeclaresAt words words₂ registers scope tail node r
+                  DeclarationJudgedAt words words₂ registers scope tail node r
               joins r done =
                   sequence-gives words₂ r
                   (λ d next Γ a s.
@@ -209,7 +209,7 @@ module _ (words : List ℕ) (registers scope tail node which : ℕ) (known : whi
                   names-after (λ Δ₁. declaration-gives Γ (a .second) >>= joined node Δ₁) (g .1)
                   (names-after (joined node (g .0)) (h .1) (done next (g .0) (h .0) (first-rows-of d next Γ a s) (h .2) (h .3))))
 
-              pub sequence-repeated : repeated ≡ true → DeclaresAt words words₂ registers scope tail node (Fault 12 node)
+              pub sequence-repeated : repeated ≡ true → DeclarationJudgedAt words words₂ registers scope tail node (Fault 12 node)
               sequence-repeated q =
                   joins (Fault 12 node)
                   (λ next Δ₁ Δ₂ a b l.
@@ -218,7 +218,7 @@ module _ (words : List ℕ) (registers scope tail node which : ℕ) (known : whi
                   joined-fault : (Δ₁ Δ₂ : Scope) → shares-name Δ₁ Δ₂ ≡ true → joined node Δ₁ Δ₂ ≡ fault Repeated node
                   joined-fault Δ₁ Δ₂ e = unfold joined in rw e
 
-              pub sequence-fine : repeated ≡ false → DeclaresAt words words₂ registers scope tail node (Is newest)
+              pub sequence-fine : repeated ≡ false → DeclarationJudgedAt words words₂ registers scope tail node (Is newest)
               sequence-fine q =
                   joins (Is newest)
                   (λ next Δ₁ Δ₂ a b l. subst (λ j. NamesFrom words₂ tail next j (Is newest)) (sym (joined-fine Δ₁ Δ₂ (sym (compared Δ₁ Δ₂ a b) ∙ q))) (names-from (rows-append b a) l))
@@ -245,7 +245,7 @@ module _ (words : List ℕ) (registers scope tail node which : ℕ) (known : whi
       let a = bind-there (d .0) (d .1) (d .2) in
       (a .child, a .child-at)
 
-  pub bind-low : ((d : Declaration) × (next : ℕ) × DeclarationAt words node next d) → node + 1 < 2000
+  pub bind-low : ((d : Declaration) × (next : ℕ) × DeclarationAt words node next d) → node + 1 < most-nodes
   bind-low d = bound-low (bind-child d .1)
 
   pub bind-name : (name : ℕ) → name ≡ packed-operand (getD words node 0) → ((d : Declaration) × (next : ℕ) × DeclarationAt words node next d) → name < 64
@@ -253,8 +253,8 @@ module _ (words : List ℕ) (registers scope tail node which : ℕ) (known : whi
       let a = bind-there (d .0) (d .1) (d .2) in
       omega (arith, named, operand-is (a .word) (omega arith), a .name-low)
 
-  module _ (words₁ : List ℕ) (meant : Answer) (means : MeansAt words registers scope (node + 1) meant) where
-    pub bind-fault : (x p : ℕ) → meant ≡ Fault x p → DeclaresAt words words₁ registers scope tail node meant
+  module _ (words₁ : List ℕ) (meant : Answer) (means : BoundJudgedAt words registers scope (node + 1) meant) where
+    pub bind-fault : (x p : ℕ) → meant ≡ Fault x p → DeclarationJudgedAt words words₁ registers scope tail node meant
     unfolding declaration-gives
     bind-fault x p q d next Γ at s =
         let a = bind-there d next at in
@@ -273,11 +273,11 @@ module _ (words : List ℕ) (registers scope tail node which : ℕ) (known : whi
           let stands : MeaningAt words node (m .0) = bound-meaning (s .0) (m .0) (b .1) (s .1) (m .1) in
           omega (arith, meaning-low stands, m .2)
 
-      module _ (kept₁ : Kept words words₁ (node + 1)) (name word : ℕ) (named : name ≡ packed-operand (getD words node 0)) (row : word ≡ row-word name number tail) (long : 4000 ≤ length words₁) (low : tail ≤ node) where
-        pub bind-kept : node < 2000 → Kept words (set words₁ (2000 + node) word) node
+      module _ (kept₁ : WritesRowsFrom words words₁ (node + 1)) (name word : ℕ) (named : name ≡ packed-operand (getD words node 0)) (row : word ≡ row-word name number tail) (long : rows-end ≤ length words₁) (low : tail ≤ node) where
+        pub bind-kept : node < most-nodes → WritesRowsFrom words (set words₁ (rows-from + node) word) node
         bind-kept l = kept-then (kept-lower kept₁ (omega arith)) (kept-row words₁ node word l) (omega arith)
 
-        pub bind-fine : DeclaresAt words (set words₁ (2000 + node) word) registers scope tail node (Is (node + 1))
+        pub bind-fine : DeclarationJudgedAt words (set words₁ (rows-from + node) word) registers scope tail node (Is (node + 1))
         unfolding declaration-gives
         bind-fine d next Γ at s =
             let a = bind-there d next at in
@@ -285,7 +285,7 @@ module _ (words : List ℕ) (registers scope tail node which : ℕ) (known : whi
             let m = means-inverse meant number (bound-means Γ (a .child)) (means (a .child) Γ (a .child-at) s) got in
             let stands : MeaningAt words node (m .0) = bound-meaning Γ (m .0) (a .child-at) s (m .1) in
             let called : name ≡ a .name = named ∙ operand-is (a .word) (omega arith) in
-            let written = set words₁ (2000 + node) word in
+            let written = set words₁ (rows-from + node) word in
             let has : HasRow written node (a .name) number tail =
             record {
               word = row-there words₁ node word place long ∙ row ∙ ap (λ x. row-word x number tail) called;

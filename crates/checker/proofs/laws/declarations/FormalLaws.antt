@@ -6,25 +6,18 @@ use mathlib.Core.List.{List, [], _∷_}
 use native.Mathlib.Omega.{arith}
 use lib.ListN.{length, getD, set}
 use Rattle.rules.specs.paper.Refusals.{Repeated, refusal-number}
-use Rattle.rules.specs.paper.Limits.{names, codes}
+use Rattle.rules.specs.paper.Limits.{most-nodes, names, codes}
 use Rattle.rules.specs.paper.Tree.{Formal}
 use Rattle.rules.specs.paper.Checker.{code, Named, Scope, Judged, fault, fine, _>>=_, has-name, distinct, with-formals}
 use Rattle.reader.specs.Pack.{packed-operand}
 use Rattle.reader.specs.Stored.{HasWord, StoredFormals, no-formals, one-formal, operand-is}
-use Rattle.checker.specs.Rows.{row-word, code-at, Rows, one-row, RowFound}
-use Rattle.checker.specs.Commands.{Kept, FormalsAt, NamesFrom, names-from, names-fault}
+use Rattle.checker.specs.Rows.{rows-from, rows-end, row-word, code-at, Rows, one-row, RowFound}
+use Rattle.checker.specs.Commands.{WritesRowsFrom, FormalsAt, NamesFrom, names-from, names-fault, formals-give, FormalsJudgedAt}
 use Rattle.checker.specs.declared.codes.Answer.{Answer}
 use Rattle.checker.specs.declared.codes.Answer.the-variants.{Is, Fault}
 use Rattle.checker.proofs.laws.places.PlaceLaws.{after-node, name-part, number-part}
 use Rattle.checker.proofs.laws.scope.RowLaws.{row-has, row-has-not}
 use Rattle.checker.proofs.laws.scope.KeptLaws.{kept-nothing, kept-then, kept-rows, kept-formals, kept-row, row-there}
-
-abbrev pub formals-give : Scope → List Formal → Judged Scope
-formals-give seen fs = distinct seen fs >>= λ done. fine (with-formals fs seen)
-
-abbrev pub FormalsFrom : (words words′ : List ℕ) (scope tail node count : ℕ) → Answer → Type 0
-FormalsFrom words words′ scope tail node count r =
-    (fs : List Formal) (seen : Scope) → FormalsAt words node count fs → Rows words tail scope seen → NamesFrom words′ scope (node + count) (formals-give seen fs) r
 
 abbrev pub named : Formal → Named
 named f = record { name = f .name; meaning = code (f .code) }
@@ -65,23 +58,23 @@ module _ {words : List ℕ} {node count : ℕ} {fs : List Formal} (o : FirstForm
   formal-word : w ≡ o .first .name + 64 * o .first .code
   formal-word = is ∙ operand-is (o .word) (omega arith)
 
-  pub formal-name : w % 64 ≡ o .first .name
-  formal-name = ap (λ v. v % 64) formal-word ∙ name-part (o .first .name) (o .first .code) (o .name-low)
+  pub formal-name : w % names ≡ o .first .name
+  formal-name = ap (λ v. v % names) formal-word ∙ name-part (o .first .name) (o .first .code) (o .name-low)
 
-  pub formal-code : w / 64 ≡ o .first .code
-  formal-code = ap (λ v. v / 64) formal-word ∙ number-part (o .first .name) (o .first .code) (o .name-low)
+  pub formal-code : w / names ≡ o .first .code
+  formal-code = ap (λ v. v / names) formal-word ∙ number-part (o .first .name) (o .first .code) (o .name-low)
 
-pub formal-node-low : (words : List ℕ) (node count : ℕ) → ((fs : List Formal) × FormalsAt words node count fs) → ¬ (count ≡ 0) → node < 2000
+pub formal-node-low : (words : List ℕ) (node count : ℕ) → ((fs : List Formal) × FormalsAt words node count fs) → ¬ (count ≡ 0) → node < most-nodes
 formal-node-low words node count e f = first-formal (e .1) f .word .place-low
 
-pub formal-code-low : (words : List ℕ) (node count w : ℕ) → ((fs : List Formal) × FormalsAt words node count fs) → ¬ (count ≡ 0) → w ≡ packed-operand (getD words node 0) → w / 64 < 16
+pub formal-code-low : (words : List ℕ) (node count w : ℕ) → ((fs : List Formal) × FormalsAt words node count fs) → ¬ (count ≡ 0) → w ≡ packed-operand (getD words node 0) → w / names < 16
 formal-code-low words node count w e f is =
     let o = first-formal (e .1) f in
     omega (arith, formal-code o w is, o .code-low)
 
 -- ---- No Formals.
 
-pub formals-none : (words : List ℕ) (scope tail node count : ℕ) → count ≡ 0 → tail ≤ node → FormalsFrom words words scope tail node count (Is tail)
+pub formals-none : (words : List ℕ) (scope tail node count : ℕ) → count ≡ 0 → tail ≤ node → FormalsJudgedAt words words scope tail node count (Is tail)
 unfolding distinct with-formals
 formals-none words scope tail node count z h fs seen a r = by fs (a .number ∙ z)
   where
@@ -103,8 +96,8 @@ unfolding distinct with-formals
 give-later seen f fs q = rw q
 
 module _ (words : List ℕ) (scope tail node count w found : ℕ) (some-left : ¬ (count ≡ 0)) (is : w ≡ packed-operand (getD words node 0))
-    (looked : (Δ : Scope) → Rows words tail scope Δ → RowFound words scope (w % 64) Δ found) where
-  pub formals-repeated : ¬ (found ≡ scope) → FormalsFrom words words scope tail node count (Fault 12 node)
+    (looked : (Δ : Scope) → Rows words tail scope Δ → RowFound words scope (w % names) Δ found) where
+  pub formals-repeated : ¬ (found ≡ scope) → FormalsJudgedAt words words scope tail node count (Fault 12 node)
   unfolding refusal-number
   formals-repeated f fs seen a r =
       let o = first-formal a some-left in
@@ -113,15 +106,15 @@ module _ (words : List ℕ) (scope tail node count w found : ℕ) (some-left : �
       subst (λ j. NamesFrom words scope (node + count) j (Fault 12 node)) (sym gives) names-fault
 
   -- The row of the first Formal, written at its node.
-  pub formal-rows : (v : ℕ) → 4000 ≤ length words → tail ≤ node → v ≡ row-word (w % 64) (w / 64) tail → (fs : List Formal) (a : FormalsAt words node count fs) (seen : Scope) →
-      Rows words tail scope seen → Rows (set words (2000 + node) v) (node + 1) scope (named (first-formal a some-left .first) ∷ seen)
+  pub formal-rows : (v : ℕ) → rows-end ≤ length words → tail ≤ node → v ≡ row-word (w % names) (w / names) tail → (fs : List Formal) (a : FormalsAt words node count fs) (seen : Scope) →
+      Rows words tail scope seen → Rows (set words (rows-from + node) v) (node + 1) scope (named (first-formal a some-left .first) ∷ seen)
   formal-rows v long low row fs a seen r =
       let o = first-formal a some-left in
       let place = o .word .place-low in
-      subst (λ j. Rows (set words (2000 + node) v) j scope (named (o .first) ∷ seen)) (after-node node)
+      subst (λ j. Rows (set words (rows-from + node) v) j scope (named (o .first) ∷ seen)) (after-node node)
       (one-row {x = o .first .name} {m = o .first .code} {l = tail}
       record {
-        word = row-there words node v place long ∙ row ∙ ap (λ x. row-word x (w / 64) tail) (formal-name o w is) ∙ ap (λ m. row-word (o .first .name) m tail) (formal-code o w is);
+        word = row-there words node v place long ∙ row ∙ ap (λ x. row-word x (w / names) tail) (formal-name o w is) ∙ ap (λ m. row-word (o .first .name) m tail) (formal-code o w is);
         node-low = place;
         name-low = o .name-low;
         meaning-low = omega (arith, o .code-low);
@@ -129,8 +122,8 @@ module _ (words : List ℕ) (scope tail node count w found : ℕ) (some-left : �
       }
       refl refl (code-at (o .code-low)) (kept-rows (kept-row words node v place) r low))
 
-  pub formals-more : (v : ℕ) (words″ : List ℕ) (answer : Answer) → 4000 ≤ length words → tail ≤ node → v ≡ row-word (w % 64) (w / 64) tail → found ≡ scope →
-      FormalsFrom (set words (2000 + node) v) words″ scope (node + 1) (node + 1) (count - 1) answer → FormalsFrom words words″ scope tail node count answer
+  pub formals-more : (v : ℕ) (words″ : List ℕ) (answer : Answer) → rows-end ≤ length words → tail ≤ node → v ≡ row-word (w % names) (w / names) tail → found ≡ scope →
+      FormalsJudgedAt (set words (rows-from + node) v) words″ scope (node + 1) (node + 1) (count - 1) answer → FormalsJudgedAt words words″ scope tail node count answer
   formals-more v words″ answer long low row absent later fs seen a r =
       let o = first-formal a some-left in
       let has : has-name (o .first .name) seen ≡ false = ap (λ x. has-name x seen) (sym (formal-name o w is)) ∙ row-has-not (looked seen r) absent in
@@ -150,17 +143,17 @@ pub record RowsSoFar (before words : List ℕ) (scope tail node count newest at 
   pub rows : (seen : Scope) × Rows words newest scope seen
   pub linked : newest ≤ at
   pub onward : node ≤ at
-  pub kept : Kept before words node
-  pub whole : (r : Answer) (after : List ℕ) → FormalsFrom words after scope newest at left r → FormalsFrom before after scope tail node count r
+  pub kept : WritesRowsFrom before words node
+  pub whole : (r : Answer) (after : List ℕ) → FormalsJudgedAt words after scope newest at left r → FormalsJudgedAt before after scope tail node count r
 
 pub no-rows-yet : (words : List ℕ) (scope tail node count : ℕ) → ((fs : List Formal) × FormalsAt words node count fs) → ((seen : Scope) × Rows words tail scope seen) → tail ≤ node →
     RowsSoFar words words scope tail node count tail node count
 no-rows-yet words scope tail node count a r h = record { others = a; rows = r; linked = h; onward = omega arith; kept = kept-nothing words node; whole = λ r after o. o }
 
 module _ (before words : List ℕ) (scope tail node count newest at left : ℕ) (so-far : RowsSoFar before words scope tail node count newest at left) (w found v : ℕ) (some-left : ¬ (left ≡ 0))
-    (is : w ≡ packed-operand (getD words at 0)) (looked : (Δ : Scope) → Rows words newest scope Δ → RowFound words scope (w % 64) Δ found) where
-  pub one-row-more : 4000 ≤ length words → v ≡ row-word (w % 64) (w / 64) newest → found ≡ scope →
-      RowsSoFar before (set words (2000 + at) v) scope tail node count (at + 1) (at + 1) (left - 1)
+    (is : w ≡ packed-operand (getD words at 0)) (looked : (Δ : Scope) → Rows words newest scope Δ → RowFound words scope (w % names) Δ found) where
+  pub one-row-more : rows-end ≤ length words → v ≡ row-word (w % names) (w / names) newest → found ≡ scope →
+      RowsSoFar before (set words (rows-from + at) v) scope tail node count (at + 1) (at + 1) (left - 1)
   one-row-more long row absent =
       let a = so-far .others .1 in
       let o = first-formal a some-left in

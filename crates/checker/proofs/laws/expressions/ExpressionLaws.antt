@@ -6,13 +6,14 @@ use mathlib.Core.List.{List}
 use native.Mathlib.Omega.{arith}
 use lib.Dec.{T, eqb, eqb-refl}
 use lib.ListN.{length, getD}
+use Rattle.rules.specs.paper.Limits.{most-nodes}
 use Rattle.rules.specs.paper.Kinds.{operator-number}
 use Rattle.rules.specs.paper.Tree.{Operator, arithmetic, Sum, Sub, Mul, Div, Eq, order, Lt, Le, Gt, Ge, logic, And, Or, Expression, Num, Boo, Id, DeRef, ValRef, Binary, Not}
 use Rattle.rules.specs.paper.Checker.{Scope, _>>=_, operator-code, truth-only, expression-code}
 use Rattle.reader.specs.Pack.{packed-kind, packed-end}
 use Rattle.reader.specs.Stored.{HasWord, kind-is, end-is, StoredExpression, num, boo, id, deref, valref, binary, negation}
 use Rattle.checker.specs.Rows.{ScopeAt}
-use Rattle.checker.specs.Answers.{code-answer, NameAt, id-at, deref-at, valref-at, ExpressionAt, CodeAt}
+use Rattle.checker.specs.Answers.{code-answer, NameAt, id-at, deref-at, valref-at, ExpressionAt, ExpressionJudgedAt}
 use Rattle.checker.specs.declared.codes.Answer.{Answer}
 use Rattle.checker.specs.declared.codes.Answer.the-variants.{Is, Fault}
 use Rattle.checker.proofs.laws.places.PlaceLaws.{after-node}
@@ -49,7 +50,7 @@ operator-kind o = omega (arith, operator-below o)
 
 -- ---- Where an expression stands and ends.
 
-pub expression-low : {words : List ℕ} {d i j : ℕ} {e : Expression} → StoredExpression words d i j e → i < 2000
+pub expression-low : {words : List ℕ} {d i j : ℕ} {e : Expression} → StoredExpression words d i j e → i < most-nodes
 expression-low (num h) = h .place-low
 expression-low (boo h) = h .place-low
 expression-low (id l h) = h .place-low
@@ -148,7 +149,7 @@ module _ (words : List ℕ) (node which : ℕ) (known : which ≡ packed-kind (g
         by (seen-binary {e₁ = e₁} a b m) f g h l = (e₁, a)
         by (seen-negation {e = e} a) f g h l = (e, a)
 
-    pub first-low : ((e : Expression) × ExpressionAt words node e) → node + 1 < 2000
+    pub first-low : ((e : Expression) × ExpressionAt words node e) → node + 1 < most-nodes
     first-low e = expression-low (first-child e .1 .stored)
 
     pub second-child : (which ≡ 15 → ⊥) → ((e : Expression) × ExpressionAt words node e) → (e : Expression) × ExpressionAt words (packed-end (getD words (node + 1) 0)) e × (node < packed-end (getD words (node + 1) 0))
@@ -167,7 +168,7 @@ module _ (words : List ℕ) (node which : ℕ) (known : which ≡ packed-kind (g
 
 module _ (words : List ℕ) (registers scope node which : ℕ) (known : which ≡ packed-kind (getD words node 0)) where
   abbrev Codes : Answer → Type 0
-  Codes r = CodeAt words registers scope node r
+  Codes r = ExpressionJudgedAt words registers scope node r
 
   pub code-number : which ≡ 1 → Codes (Is 0)
   unfolding expression-code
@@ -194,7 +195,7 @@ module _ (words : List ℕ) (registers scope node which : ℕ) (known : which �
       by (seen-negation a) q = absurd (omega (arith, q))
 
   module _ (not-one : which ≡ 1 → ⊥) (not-two : which ≡ 2 → ⊥) (not-three : which ≡ 3 → ⊥) (not-high : which ≤ 15) where
-    module _ (inner : Answer) (first : CodeAt words registers scope (node + 1) inner) where
+    module _ (inner : Answer) (first : ExpressionJudgedAt words registers scope (node + 1) inner) where
       pub first-fault : (x p : ℕ) → inner ≡ Fault x p → Codes inner
       unfolding expression-code
       first-fault x p r e Γ at s = by (seen words node which e known at) not-one not-two not-three not-high
@@ -221,7 +222,7 @@ module _ (words : List ℕ) (registers scope node which : ℕ) (known : which �
           by (seen-negation {e = e} a) f g h l = then-code (λ c. c) (expression-code Γ e) (truth-only node 1) inner r c (first e Γ a s) q done
 
       module _ (not-truth : which ≡ 15 → ⊥) where
-        module _ (c next : ℕ) (outer : Answer) (got : inner ≡ Is c) (end : next ≡ packed-end (getD words (node + 1) 0)) (second : CodeAt words registers scope next outer) where
+        module _ (c next : ℕ) (outer : Answer) (got : inner ≡ Is c) (end : next ≡ packed-end (getD words (node + 1) 0)) (second : ExpressionJudgedAt words registers scope next outer) where
           -- what the operator makes of the second child's answer
           step : (r : Answer) → ((o : Operator) (e₂ : Expression) (Γ : Scope) → which ≡ operator-number o → outer ≡ code-answer (expression-code Γ e₂) →
               r ≡ code-answer (expression-code Γ e₂ >>= λ v. operator-code o node c v)) → Codes r

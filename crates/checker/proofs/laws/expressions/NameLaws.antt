@@ -7,6 +7,7 @@ use mathlib.Core.Option.{Option, none, some, Option·none-ne-some}
 use native.Mathlib.Omega.{arith}
 use lib.Dec.{T, eqb, eqb-refl}
 use lib.ListN.{length, getD}
+use Rattle.rules.specs.paper.Limits.{most-nodes}
 use Rattle.rules.specs.paper.Tree.{Expression, Id, DeRef, ValRef}
 use Rattle.rules.specs.paper.Checker.{Meaning, code, function, Named, Scope, meaning-of, bound-name, fine, id-code, deref-code, valref-code, expression-code, register-scope}
 use Rattle.reader.specs.Pack.{packed-kind, packed-operand}
@@ -70,7 +71,7 @@ apart {k = k} {n = n} h l q f = absurd (differ (sym (kind-is h l) ∙ q) f)
     differ : k ≡ n → eqb k n ≡ false → ⊥
     differ s t = subst T (subst (λ j. eqb k j ≡ false) (sym s) t) (eqb-refl k)
 
-pub name-place : {words : List ℕ} {node : ℕ} {e : Expression} → NameAt words node e → node < 2000
+pub name-place : {words : List ℕ} {node : ℕ} {e : Expression} → NameAt words node e → node < most-nodes
 name-place (id-at l h) = h .place-low
 name-place (deref-at l h) = h .place-low
 name-place (valref-at l h) = h .place-low

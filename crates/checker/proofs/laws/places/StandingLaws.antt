@@ -4,10 +4,11 @@ use mathlib.Core.Path.{_≡_, ap, subst}
 use mathlib.Core.List.{List}
 use native.Mathlib.Omega.{arith}
 use lib.ListN.{length, getD}
+use Rattle.rules.specs.paper.Limits.{most-nodes}
 use Rattle.rules.specs.paper.Tree.{Expression, Formal, Command, Block, Declaration, Bound}
 use Rattle.reader.specs.Pack.{packed-end}
 use Rattle.reader.specs.Stored.{HasWord, end-is, StoredActuals, no-actuals, one-actual, StoredFormals, no-formals, one-formal, StoredCommand, assign, loop, cseq, block-of, call, StoredBlock, blk, StoredDeclaration, bind, dseq, StoredBound, plain-of, ref, abs}
-use Rattle.checker.specs.Commands.{Kept}
+use Rattle.checker.specs.Commands.{WritesRowsFrom}
 use Rattle.checker.proofs.laws.expressions.ExpressionLaws.{expression-low, expression-on}
 
 pub actuals-on : {words : List ℕ} {d i j : ℕ} {es : List Expression} → StoredActuals words d i j es → i ≤ j
@@ -38,17 +39,17 @@ mutual
   bound-on (ref h a) = omega (arith, expression-on a)
   bound-on (abs l h a b) = omega (arith, formals-on a, block-on b)
 
-pub block-low : {words : List ℕ} {d i j : ℕ} {b : Block} → StoredBlock words d i j b → i < 2000
+pub block-low : {words : List ℕ} {d i j : ℕ} {b : Block} → StoredBlock words d i j b → i < most-nodes
 block-low (blk h a b) = h .place-low
 
-pub command-low : {words : List ℕ} {d i j : ℕ} {c : Command} → StoredCommand words d i j c → i < 2000
+pub command-low : {words : List ℕ} {d i j : ℕ} {c : Command} → StoredCommand words d i j c → i < most-nodes
 command-low (assign l h a) = h .place-low
 command-low (loop h a b) = h .place-low
 command-low (cseq h a b) = h .place-low
 command-low (block-of a) = block-low a
 command-low (call l g h a) = h .place-low
 
-pub declaration-low : {words : List ℕ} {d i j : ℕ} {c : Declaration} → StoredDeclaration words d i j c → i < 2000
+pub declaration-low : {words : List ℕ} {d i j : ℕ} {c : Declaration} → StoredDeclaration words d i j c → i < most-nodes
 declaration-low (bind l h a) = h .place-low
 declaration-low (dseq h a b) = h .place-low
 
@@ -67,5 +68,5 @@ declaration-end (bind l h a) = end-is h (omega arith)
 declaration-end (dseq h a b) = end-is h (omega arith)
 
 -- A node's end is the same where its word was kept.
-pub kept-end : {words words′ : List ℕ} {node : ℕ} (i : ℕ) → Kept words words′ node → i < 2000 → packed-end (getD words′ i 0) ≡ packed-end (getD words i 0)
+pub kept-end : {words words′ : List ℕ} {node : ℕ} (i : ℕ) → WritesRowsFrom words words′ node → i < most-nodes → packed-end (getD words′ i 0) ≡ packed-end (getD words i 0)
 kept-end i k l = ap packed-end (k .same-below i (omega (arith, l)))

@@ -1,27 +1,28 @@
--- What `Kept` leaves as it was: the nodes, the rows below a node, and what stands in them; writing one row keeps the rest; and rows that follow rows.
+-- What `WritesRowsFrom` leaves as it was: the nodes, the rows below a node, and what stands in them; writing one row keeps the rest; and rows that follow rows.
 use Prim.Native.Nat.{ℕ, zero, suc, _+_, _<_, _≤_}
 use mathlib.Core.Path.{_≡_, refl, sym, ap, _∙_}
 use mathlib.Core.List.{List, [], _∷_, _++_}
 use native.Mathlib.Omega.{arith}
 use lib.ListN.{length, getD, set, length-set}
+use Rattle.rules.specs.paper.Limits.{most-nodes}
 use Rattle.rules.specs.proofs.Basics.{append-assoc}
 use Rattle.rules.specs.paper.Tree.{Formal, Expression, Command, Block, Declaration, Bound}
 use Rattle.rules.specs.paper.Checker.{Meaning, Scope, register-scope}
 use Rattle.reader.specs.Stored.{HasWord}
 use Rattle.reader.specs.StoredLaws.{SameNodes, same-expression, same-actuals, same-formals, same-command, same-block, same-declaration, same-bound}
-use Rattle.checker.specs.Rows.{MeaningAt, code-at, function-at, HasRow, Rows, no-rows, one-row, ScopeAt}
+use Rattle.checker.specs.Rows.{rows-from, rows-end, MeaningAt, code-at, function-at, HasRow, Rows, no-rows, one-row, ScopeAt}
 use Rattle.checker.specs.Answers.{ExpressionAt}
-use Rattle.checker.specs.Commands.{Kept, ActualsAt, FormalsAt, CommandAt, BlockAt, DeclarationAt, BoundAt}
+use Rattle.checker.specs.Commands.{WritesRowsFrom, ActualsAt, FormalsAt, CommandAt, BlockAt, DeclarationAt, BoundAt}
 
 -- ---- Keeping nothing new, and keeping twice.
 
-pub kept-nothing : (words : List ℕ) (node : ℕ) → Kept words words node
+pub kept-nothing : (words : List ℕ) (node : ℕ) → WritesRowsFrom words words node
 kept-nothing words node = record { same-length = refl; same-below = λ i h. refl; same-beyond = λ i h. refl }
 
-pub kept-lower : {words words′ : List ℕ} {low node : ℕ} → Kept words words′ node → low ≤ node → Kept words words′ low
+pub kept-lower : {words words′ : List ℕ} {low node : ℕ} → WritesRowsFrom words words′ node → low ≤ node → WritesRowsFrom words words′ low
 kept-lower k h = record { same-length = k .same-length; same-below = λ i l. k .same-below i (omega (arith, h, l)); same-beyond = k .same-beyond }
 
-pub kept-then : {words words′ words″ : List ℕ} {low node : ℕ} → Kept words words′ low → Kept words′ words″ node → low ≤ node → Kept words words″ low
+pub kept-then : {words words′ words″ : List ℕ} {low node : ℕ} → WritesRowsFrom words words′ low → WritesRowsFrom words′ words″ node → low ≤ node → WritesRowsFrom words words″ low
 kept-then a b h =
     record {
       same-length = b .same-length ∙ a .same-length;
@@ -29,15 +30,15 @@ kept-then a b h =
       same-beyond = λ i l. b .same-beyond i l ∙ a .same-beyond i l;
     }
 
-pub kept-nodes : {words words′ : List ℕ} {node : ℕ} → Kept words words′ node → SameNodes words words′
+pub kept-nodes : {words words′ : List ℕ} {node : ℕ} → WritesRowsFrom words words′ node → SameNodes words words′
 kept-nodes k i h = k .same-below i (omega (arith, h))
 
 -- ---- What stands in the nodes.
 
-pub kept-word : {words words′ : List ℕ} {node : ℕ} → Kept words words′ node → {i kind operand end : ℕ} → HasWord words i kind operand end → HasWord words′ i kind operand end
+pub kept-word : {words words′ : List ℕ} {node : ℕ} → WritesRowsFrom words words′ node → {i kind operand end : ℕ} → HasWord words i kind operand end → HasWord words′ i kind operand end
 kept-word k {i} h = record { word = kept-nodes k i (h .place-low) ∙ h .word; place-low = h .place-low; operand-low = h .operand-low; end-low = h .end-low }
 
-module _ {words words′ : List ℕ} {node : ℕ} (k : Kept words words′ node) where
+module _ {words words′ : List ℕ} {node : ℕ} (k : WritesRowsFrom words words′ node) where
   pub kept-expression : {i : ℕ} {e : Expression} → ExpressionAt words i e → ExpressionAt words′ i e
   kept-expression a = record { depth = a .depth; next = a .next; stored = same-expression words words′ (kept-nodes k) (a .stored) }
 
@@ -67,7 +68,7 @@ module _ {words words′ : List ℕ} {node : ℕ} (k : Kept words words′ node)
 
   pub kept-has-row : {i name meaning link : ℕ} → HasRow words i name meaning link → i < node → HasRow words′ i name meaning link
   kept-has-row {i} h l =
-      record { word = k .same-below (2000 + i) (omega (arith, l)) ∙ h .word; node-low = h .node-low; name-low = h .name-low; meaning-low = h .meaning-low; link-low = h .link-low }
+      record { word = k .same-below (rows-from + i) (omega (arith, l)) ∙ h .word; node-low = h .node-low; name-low = h .name-low; meaning-low = h .meaning-low; link-low = h .link-low }
 
   pub kept-rows : {from to : ℕ} {Δ : Scope} → Rows words from to Δ → from ≤ node → Rows words′ from to Δ
   kept-rows no-rows h = no-rows
@@ -93,22 +94,22 @@ written-elsewhere (v ∷ words) zero (suc j) w f = refl
 written-elsewhere (v ∷ words) (suc i) zero w f = refl
 written-elsewhere (v ∷ words) (suc i) (suc j) w f = written-elsewhere words i j w (λ e. f (ap suc e))
 
-pub kept-row : (words : List ℕ) (node w : ℕ) → node < 2000 → Kept words (set words (2000 + node) w) node
+pub kept-row : (words : List ℕ) (node w : ℕ) → node < most-nodes → WritesRowsFrom words (set words (rows-from + node) w) node
 kept-row words node w h =
     record {
-      same-length = length-set words (2000 + node) w;
-      same-below = λ i l. written-elsewhere words (2000 + node) i w (above i l);
-      same-beyond = λ i l. written-elsewhere words (2000 + node) i w (below i l);
+      same-length = length-set words (rows-from + node) w;
+      same-below = λ i l. written-elsewhere words (rows-from + node) i w (above i l);
+      same-beyond = λ i l. written-elsewhere words (rows-from + node) i w (below i l);
     }
   where
-    above : (i : ℕ) → i < 2000 + node → ¬ (2000 + node ≡ i)
+    above : (i : ℕ) → i < rows-from + node → ¬ (rows-from + node ≡ i)
     above i l e = omega arith
 
-    below : (i : ℕ) → 4000 ≤ i → ¬ (2000 + node ≡ i)
+    below : (i : ℕ) → rows-end ≤ i → ¬ (rows-from + node ≡ i)
     below i l e = omega (arith, h)
 
-pub row-there : (words : List ℕ) (node w : ℕ) → node < 2000 → 4000 ≤ length words → getD (set words (2000 + node) w) (2000 + node) 0 ≡ w
-row-there words node w h l = written-there words (2000 + node) w (omega (arith, h, l))
+pub row-there : (words : List ℕ) (node w : ℕ) → node < most-nodes → rows-end ≤ length words → getD (set words (rows-from + node) w) (rows-from + node) 0 ≡ w
+row-there words node w h l = written-there words (rows-from + node) w (omega (arith, h, l))
 
 -- ---- Rows that follow rows.
 

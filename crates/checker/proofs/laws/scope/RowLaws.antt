@@ -7,41 +7,42 @@ use mathlib.Core.Option.{Option, none, some, Option·none-ne-some}
 use native.Mathlib.Omega.{arith}
 use lib.Dec.{T, eqb, eqb→eq, eqb-refl}
 use lib.ListN.{length, getD}
+use Rattle.rules.specs.paper.Limits.{names, most-nodes}
 use Rattle.rules.specs.proofs.Basics.{true-test, false-test, append-assoc}
 use Rattle.rules.specs.paper.Tree.{Formal}
 use Rattle.rules.specs.paper.Checker.{Meaning, code, function, Named, Scope, meaning-of, has-name, shares-name, register-scope}
 use Rattle.reader.specs.Stored.{HasWord, StoredFormals}
 use Rattle.reader.specs.StoredLaws.{SameNodes, same-formals}
-use Rattle.checker.specs.Rows.{row-word, meaning-number, MeaningAt, code-at, function-at, HasRow, Rows, no-rows, one-row, ScopeAt, RowFound, absent, present}
+use Rattle.checker.specs.Rows.{rows-from, pointers-from, meaning-numbers, link-factor, row-word, meaning-number, MeaningAt, code-at, function-at, HasRow, Rows, no-rows, one-row, ScopeAt, RowFound, absent, present}
 use Rattle.checker.specs.Answers.{FoundAs, found-nothing, found-binding, found-register}
 use Rattle.checker.specs.declared.scope.Found.{Found}
 use Rattle.checker.specs.declared.scope.Found.the-variants.{Bound, Nothing}
 
 -- ---- A row's parts.
 
-pub row-name : {words : List ℕ} {k x m l : ℕ} → HasRow words k x m l → getD words (2000 + k) 0 % 64 ≡ x
-row-name {x = x} {m = m} {l = l} h = ap (λ w. w % 64) (h .word) ∙ inside x m l (h .name-low)
+pub row-name : {words : List ℕ} {k x m l : ℕ} → HasRow words k x m l → getD words (rows-from + k) 0 % names ≡ x
+row-name {x = x} {m = m} {l = l} h = ap (λ w. w % names) (h .word) ∙ inside x m l (h .name-low)
   where
-    inside : (x m l : ℕ) → x < 64 → row-word x m l % 64 ≡ x
+    inside : (x m l : ℕ) → x < names → row-word x m l % names ≡ x
     inside x m l g = omega arith
 
-pub row-meaning : {words : List ℕ} {k x m l : ℕ} → HasRow words k x m l → getD words (2000 + k) 0 / 64 % 16 ≡ m
-row-meaning {x = x} {m = m} {l = l} h = ap (λ w. w / 64 % 16) (h .word) ∙ inside x m l (h .name-low) (h .meaning-low)
+pub row-meaning : {words : List ℕ} {k x m l : ℕ} → HasRow words k x m l → getD words (rows-from + k) 0 / names % meaning-numbers ≡ m
+row-meaning {x = x} {m = m} {l = l} h = ap (λ w. w / names % meaning-numbers) (h .word) ∙ inside x m l (h .name-low) (h .meaning-low)
   where
-    inside : (x m l : ℕ) → x < 64 → m < 16 → row-word x m l / 64 % 16 ≡ m
+    inside : (x m l : ℕ) → x < names → m < meaning-numbers → row-word x m l / names % meaning-numbers ≡ m
     inside x m l g f = omega arith
 
-pub row-link : {words : List ℕ} {k x m l : ℕ} → HasRow words k x m l → getD words (2000 + k) 0 / 1024 ≡ l
-row-link {x = x} {m = m} {l = l} h = ap (λ w. w / 1024) (h .word) ∙ inside x m l (h .name-low) (h .meaning-low)
+pub row-link : {words : List ℕ} {k x m l : ℕ} → HasRow words k x m l → getD words (rows-from + k) 0 / link-factor ≡ l
+row-link {x = x} {m = m} {l = l} h = ap (λ w. w / link-factor) (h .word) ∙ inside x m l (h .name-low) (h .meaning-low)
   where
-    inside : (x m l : ℕ) → x < 64 → m < 16 → row-word x m l / 1024 ≡ l
+    inside : (x m l : ℕ) → x < names → m < meaning-numbers → row-word x m l / link-factor ≡ l
     inside x m l g f = omega arith
 
 pub rows-order : {words : List ℕ} {from to : ℕ} {Δ : Scope} → Rows words from to Δ → to ≤ from
 rows-order no-rows = omega arith
 rows-order (one-row h q p m r) = omega (arith, rows-order r, h .link-low)
 
-pub rows-low : {words : List ℕ} {from to : ℕ} {Δ : Scope} → Rows words from to Δ → to ≤ 2000 → from ≤ 2000
+pub rows-low : {words : List ℕ} {from to : ℕ} {Δ : Scope} → Rows words from to Δ → to ≤ most-nodes → from ≤ most-nodes
 rows-low no-rows h = h
 rows-low (one-row r q p m s) h = omega (arith, r .node-low)
 
@@ -77,10 +78,10 @@ opened {words} (one-row {k = k} {x = x} {m = m} {l = l} {n = n} {Δ = Δ} h q p 
     }
 
 -- The word of a row, by its pointer.
-pub pointer-word : (words : List ℕ) (at k : ℕ) → at ≡ suc k → getD words (1999 + at) 0 ≡ getD words (2000 + k) 0
+pub pointer-word : (words : List ℕ) (at k : ℕ) → at ≡ suc k → getD words (pointers-from + at) 0 ≡ getD words (rows-from + k) 0
 pointer-word words at k q = ap (λ j. getD words j 0) (place q)
   where
-    place : at ≡ suc k → 1999 + at ≡ 2000 + k
+    place : at ≡ suc k → pointers-from + at ≡ rows-from + k
     place e = omega arith
 
 -- ---- Looking for a name.
@@ -100,31 +101,31 @@ meaning-tail : (x : ℕ) (n : Named) (Δ : Scope) → ¬ (n .name ≡ x) → mea
 unfolding meaning-of
 meaning-tail x n Δ f = rw (false-test (eqb (n .name) x) (λ t. f (eqb→eq (n .name) x t)))
 
-pub walk-on : (words : List ℕ) (from to name at : ℕ) → Walked words from to name at → ¬ (at ≡ to) → ¬ (getD words (1999 + at) 0 % 64 ≡ name) →
-    Walked words from to name (getD words (1999 + at) 0 / 1024)
+pub walk-on : (words : List ℕ) (from to name at : ℕ) → Walked words from to name at → ¬ (at ≡ to) → ¬ (getD words (pointers-from + at) 0 % names ≡ name) →
+    Walked words from to name (getD words (pointers-from + at) 0 / link-factor)
 walk-on words from to name at w f g Δ r =
     let s = w Δ r in
     let o = opened (s .1) f in
     let word = pointer-word words at (o .node) (o .pointer) in (
       o .rest,
-      subst (λ l. Rows words l to (o .rest)) (sym (ap (λ v. v / 1024) word ∙ row-link (o .row))) (o .later),
-      s .2 ∙ ap (meaning-of name) (o .split) ∙ meaning-tail name _ (o .rest) (λ e. g (ap (λ v. v % 64) word ∙ row-name (o .row) ∙ e)),
+      subst (λ l. Rows words l to (o .rest)) (sym (ap (λ v. v / link-factor) word ∙ row-link (o .row))) (o .later),
+      s .2 ∙ ap (meaning-of name) (o .split) ∙ meaning-tail name _ (o .rest) (λ e. g (ap (λ v. v % names) word ∙ row-name (o .row) ∙ e)),
     )
 
-pub walk-less : (words : List ℕ) (from to name at : ℕ) → ((Δ : Scope) × Rows words from to Δ) → Walked words from to name at → ¬ (at ≡ to) → getD words (1999 + at) 0 / 1024 < at
+pub walk-less : (words : List ℕ) (from to name at : ℕ) → ((Δ : Scope) × Rows words from to Δ) → Walked words from to name at → ¬ (at ≡ to) → getD words (pointers-from + at) 0 / link-factor < at
 walk-less words from to name at e w f =
     let o = opened (w (e .0) (e .1) .1) f in
-    subst (λ v. v < at) (sym (ap (λ v. v / 1024) (pointer-word words at (o .node) (o .pointer)) ∙ row-link (o .row))) (omega (arith, o .row .link-low, o .pointer))
+    subst (λ v. v < at) (sym (ap (λ v. v / link-factor) (pointer-word words at (o .node) (o .pointer)) ∙ row-link (o .row))) (omega (arith, o .row .link-low, o .pointer))
 
-pub walk-low : (words : List ℕ) (from to name at : ℕ) → ((Δ : Scope) × Rows words from to Δ) → Walked words from to name at → ¬ (at ≡ to) → at ≤ 2000
+pub walk-low : (words : List ℕ) (from to name at : ℕ) → ((Δ : Scope) × Rows words from to Δ) → Walked words from to name at → ¬ (at ≡ to) → at ≤ most-nodes
 walk-low words from to name at e w f = let o = opened (w (e .0) (e .1) .1) f in omega (arith, o .row .node-low, o .pointer)
 
-pub walk-found : (words : List ℕ) (from to name at : ℕ) → Walked words from to name at → ¬ (at ≡ to) → getD words (1999 + at) 0 % 64 ≡ name →
+pub walk-found : (words : List ℕ) (from to name at : ℕ) → Walked words from to name at → ¬ (at ≡ to) → getD words (pointers-from + at) 0 % names ≡ name →
     (Δ : Scope) → Rows words from to Δ → RowFound words to name Δ at
 walk-found words from to name at w f q Δ r =
     let s = w Δ r in
     let o = opened (s .1) f in
-    let is : o .name ≡ name = sym (ap (λ v. v % 64) (pointer-word words at (o .node) (o .pointer)) ∙ row-name (o .row)) ∙ q in
+    let is : o .name ≡ name = sym (ap (λ v. v % names) (pointer-word words at (o .node) (o .pointer)) ∙ row-name (o .row)) ∙ q in
     subst (RowFound words to name Δ) (sym (o .pointer))
     (present (s .2 ∙ ap (meaning-of name) (o .split) ∙ meaning-head name _ (o .rest) is)
     (subst (λ j. HasRow words (o .node) j (meaning-number (o .meaning)) (o .link)) is (o .row)) (o .known)
@@ -207,19 +208,19 @@ lookup-nothing words registers scope name at f z h Γ s =
     (sym (ap (meaning-of name) (s .whole) ∙ append-absent name (s .own) (register-scope registers) (not-found (f (s .own) (s .rows)) z) ∙ register-out name registers h)) found-nothing
 
 pub lookup-row : (words : List ℕ) (registers scope name at : ℕ) → ((Δ : Scope) → Rows words scope 0 Δ → RowFound words 0 name Δ at) → ¬ (at ≡ 0) →
-    (Γ : Scope) → ScopeAt words registers scope Γ → FoundAs words (meaning-of name Γ) (Bound (getD words (1999 + at) 0 / 64 % 16) at)
+    (Γ : Scope) → ScopeAt words registers scope Γ → FoundAs words (meaning-of name Γ) (Bound (getD words (pointers-from + at) 0 / names % meaning-numbers) at)
 lookup-row words registers scope name at f z Γ s = by (f (s .own) (s .rows)) z
   where
-    by : {p : ℕ} → RowFound words 0 name (s .own) p → ¬ (p ≡ 0) → FoundAs words (meaning-of name Γ) (Bound (getD words (1999 + p) 0 / 64 % 16) p)
+    by : {p : ℕ} → RowFound words 0 name (s .own) p → ¬ (p ≡ 0) → FoundAs words (meaning-of name Γ) (Bound (getD words (pointers-from + p) 0 / names % meaning-numbers) p)
     by (absent q) g = absurd (g refl)
     by (present {k = k} {m = m} q h a l) g =
-        subst (λ o. FoundAs words o (Bound (getD words (1999 + suc k) 0 / 64 % 16) (suc k))) (sym (ap (meaning-of name) (s .whole) ∙ append-present name m (s .own) (register-scope registers) q))
-        (subst (λ v. FoundAs words (some m) (Bound v (suc k))) (sym (ap (λ v. v / 64 % 16) (pointer-word words (suc k) k refl) ∙ row-meaning h)) (found-binding a))
+        subst (λ o. FoundAs words o (Bound (getD words (pointers-from + suc k) 0 / names % meaning-numbers) (suc k))) (sym (ap (meaning-of name) (s .whole) ∙ append-present name m (s .own) (register-scope registers) q))
+        (subst (λ v. FoundAs words (some m) (Bound v (suc k))) (sym (ap (λ v. v / names % meaning-numbers) (pointer-word words (suc k) k refl) ∙ row-meaning h)) (found-binding a))
 
-pub found-low : (words : List ℕ) (registers scope name at : ℕ) → ((Γ : Scope) × ScopeAt words registers scope Γ) → ((Δ : Scope) → Rows words scope 0 Δ → RowFound words 0 name Δ at) → at ≤ 2000
+pub found-low : (words : List ℕ) (registers scope name at : ℕ) → ((Γ : Scope) × ScopeAt words registers scope Γ) → ((Δ : Scope) → Rows words scope 0 Δ → RowFound words 0 name Δ at) → at ≤ most-nodes
 found-low words registers scope name at e f = by (f (e .1 .own) (e .1 .rows))
   where
-    by : {p : ℕ} → RowFound words 0 name (e .1 .own) p → p ≤ 2000
+    by : {p : ℕ} → RowFound words 0 name (e .1 .own) p → p ≤ most-nodes
     by (absent q) = omega arith
     by (present q h a l) = omega (arith, h .node-low)
 
@@ -262,25 +263,25 @@ pub compare-start : (words : List ℕ) (from middle to : ℕ) → Compared words
 compare-start words from middle to Δ₁ Δ₂ r s = (Δ₁, r, refl)
 
 module _ (words : List ℕ) (from middle to at p : ℕ) (w : Compared words from middle to at) (f : ¬ (at ≡ to))
-    (found : (Δ : Scope) → Rows words from middle Δ → RowFound words middle (getD words (1999 + at) 0 % 64) Δ p) where
+    (found : (Δ : Scope) → Rows words from middle Δ → RowFound words middle (getD words (pointers-from + at) 0 % names) Δ p) where
   pub compare-shared : ¬ (p ≡ middle) → (Δ₁ Δ₂ : Scope) → Rows words middle to Δ₁ → Rows words from middle Δ₂ → true ≡ shares-name Δ₁ Δ₂
   compare-shared g Δ₁ Δ₂ r s =
       let c = w Δ₁ Δ₂ r s in
       let o = opened (c .1) f in
-      let is : o .name ≡ getD words (1999 + at) 0 % 64 = sym (ap (λ v. v % 64) (pointer-word words at (o .node) (o .pointer)) ∙ row-name (o .row)) in
+      let is : o .name ≡ getD words (pointers-from + at) 0 % names = sym (ap (λ v. v % names) (pointer-word words at (o .node) (o .pointer)) ∙ row-name (o .row)) in
       sym (c .2 ∙ ap (λ Δ. shares-name Δ Δ₂) (o .split) ∙ first-shared (o .name) (o .meaning) (o .rest) Δ₂ (ap (λ x. has-name x Δ₂) is ∙ row-has (found Δ₂ s) g))
     where
       first-shared : (x : ℕ) (m : Meaning) (Δ Γ : Scope) → has-name x Γ ≡ true → shares-name (record { name = x; meaning = m } ∷ Δ) Γ ≡ true
       first-shared x m Δ Γ q = unfold shares-name in (rw q)
 
-  pub compare-on : p ≡ middle → Compared words from middle to (getD words (1999 + at) 0 / 1024)
+  pub compare-on : p ≡ middle → Compared words from middle to (getD words (pointers-from + at) 0 / link-factor)
   compare-on g Δ₁ Δ₂ r s =
       let c = w Δ₁ Δ₂ r s in
       let o = opened (c .1) f in
       let word = pointer-word words at (o .node) (o .pointer) in
-      let is : o .name ≡ getD words (1999 + at) 0 % 64 = sym (ap (λ v. v % 64) word ∙ row-name (o .row)) in (
+      let is : o .name ≡ getD words (pointers-from + at) 0 % names = sym (ap (λ v. v % names) word ∙ row-name (o .row)) in (
         o .rest,
-        subst (λ l. Rows words l to (o .rest)) (sym (ap (λ v. v / 1024) word ∙ row-link (o .row))) (o .later),
+        subst (λ l. Rows words l to (o .rest)) (sym (ap (λ v. v / link-factor) word ∙ row-link (o .row))) (o .later),
         c .2 ∙ ap (λ Δ. shares-name Δ Δ₂) (o .split) ∙ first-not (o .name) (o .meaning) (o .rest) Δ₂ (ap (λ x. has-name x Δ₂) is ∙ row-has-not (found Δ₂ s) g),
       )
     where
@@ -299,10 +300,10 @@ compare-none words from middle to at w q Δ₁ Δ₂ r s = let c = w Δ₁ Δ₂
 
 module _ (words : List ℕ) (from middle to at : ℕ) (e : (Δ : Scope) × Rows words from middle Δ) (d : (Δ : Scope) × Rows words middle to Δ)
     (w : Compared words from middle to at) (f : ¬ (at ≡ to)) where
-  pub compare-low : at ≤ 2000
+  pub compare-low : at ≤ most-nodes
   compare-low = let o = opened (w (d .0) (e .0) (d .1) (e .1) .1) f in omega (arith, o .row .node-low, o .pointer)
 
-  pub compare-less : getD words (1999 + at) 0 / 1024 < at
+  pub compare-less : getD words (pointers-from + at) 0 / link-factor < at
   compare-less =
       let o = opened (w (d .0) (e .0) (d .1) (e .1) .1) f in
-      subst (λ v. v < at) (sym (ap (λ v. v / 1024) (pointer-word words at (o .node) (o .pointer)) ∙ row-link (o .row))) (omega (arith, o .row .link-low, o .pointer))
+      subst (λ v. v < at) (sym (ap (λ v. v / link-factor) (pointer-word words at (o .node) (o .pointer)) ∙ row-link (o .row))) (omega (arith, o .row .link-low, o .pointer))

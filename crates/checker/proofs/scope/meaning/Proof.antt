@@ -1,5 +1,5 @@
 -- A name's meaning, or 10.
-use Rattle.checker.proofs.laws.codes.CodeLaws.{meaning-absent, meaning-present}
+use Rattle.checker.proofs.laws.scope.MeaningLaws.{meaning-absent, meaning-present}
 use borrow.Author.Needs.{needs}
 use Rattle.checker.proofs.scope.meaning.Statement.{statement}
 use Rattle.checker.proofs.scope.meaning.Tie as tie

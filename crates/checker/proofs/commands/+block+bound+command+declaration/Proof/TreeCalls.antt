@@ -4,6 +4,7 @@
 use Prim.Native.Nat.{_+_, _-_, _*_, ℕ, _<_}
 use borrow.Fn.Kinds.{In}
 use borrow.Fn.PlainCycle.{Measures, is, falls, and}
+use Rattle.rules.specs.paper.Limits.{most-nodes}
 use Rattle.checker.proofs.commands.block.Reads as block
 use Rattle.checker.proofs.commands.block.Kinds as block-kinds
 use Rattle.checker.proofs.commands.+block+bound+command+declaration.Lts-block as block-lts
@@ -30,16 +31,16 @@ use Rattle.reader.proofs.kind.Reads as kind-reads
 use Rattle.reader.proofs.operand.Reads as operand-reads
 
 abbrev pub μ-block : Measures 1 block-kinds.ps ℕ
-μ-block κs a = 2 * (2000 - (a .1 .1 .1 .0))
+μ-block κs a = 2 * (most-nodes - (a .1 .1 .1 .0))
 
 abbrev pub μ-bound : Measures 1 bound-kinds.ps ℕ
-μ-bound κs a = 2 * (2000 - (a .1 .1 .1 .0))
+μ-bound κs a = 2 * (most-nodes - (a .1 .1 .1 .0))
 
 abbrev pub μ-command : Measures 1 command-kinds.ps ℕ
-μ-command κs a = 2 * (2000 - (a .1 .1 .1 .0)) + 1
+μ-command κs a = 2 * (most-nodes - (a .1 .1 .1 .0)) + 1
 
 abbrev pub μ-declaration : Measures 1 declaration-kinds.ps ℕ
-μ-declaration κs a = 2 * (2000 - (a .1 .1 .1 .1 .0))
+μ-declaration κs a = 2 * (most-nodes - (a .1 .1 .1 .1 .0))
 
 abbrev pub block-at : ℕ → In 1 block-kinds.ps
 block-at t = and 1 block-kinds.ps (is 1 block-kinds.ps μ-block t) block.Pre
