@@ -1,1 +1,1 @@
-mod laws
+pub mod laws

@@ -12,8 +12,6 @@ use Rattle.checker.specs.Rows.{rows-from, rows-end, Rows, ScopeAt}
 use Rattle.checker.specs.Answers.{answer, fine-answer, meaning-answer, ExpressionAt}
 use Rattle.checker.specs.declared.codes.Answer.{Answer}
 use Rattle.checker.specs.declared.codes.Answer.the-variants.{Is, Fault}
-use Rattle.checker.specs.declared.Verdict.{Verdict}
-use Rattle.checker.specs.declared.Verdict.the-variants as Verdicts
 
 -- Only rows of nodes from this one on are written: the words below its row and those from `rows-end` on are as they were.
 pub record WritesRowsFrom (words words′ : List ℕ) (node : ℕ) : Type 0 where
@@ -114,12 +112,17 @@ DeclarationJudgedAt words words′ registers scope tail node r =
 abbrev pub BoundJudgedAt : List ℕ → (registers scope node : ℕ) → Answer → Type 0
 BoundJudgedAt words registers scope node r = (b : Bound) (Γ : Scope) → BoundAt words node b → ScopeAt words registers scope Γ → r ≡ meaning-answer (bound-means Γ b)
 
--- The answer for a whole tree: what its root is, or the refusal's number and the node.
-abbrev pub verdict : Judged Passed → Verdict
-verdict (fault x p) = Verdicts.Fault (refusal-number x) p
-verdict (fine (expression-of-code c)) = Verdicts.Code c
-verdict (fine a-command) = Verdicts.Command
+-- The number of what a root is: the code of an expression, and for a command one that is no code.
+abbrev pub command-number : ℕ
+command-number = 8
+
+abbrev pub root-number : Passed → ℕ
+root-number (expression-of-code c) = c
+root-number a-command = command-number
+
+abbrev pub root-answer : Judged Passed → Answer
+root-answer = answer root-number
 
 -- What the root is, with the registers in scope; or its first fault.
-abbrev pub RootJudgedAt : List ℕ → (registers : ℕ) → Verdict → Type 0
-RootJudgedAt words registers r = (t : Root) → RootAt words t → r ≡ verdict (root-is (register-scope registers) t)
+abbrev pub RootJudgedAt : List ℕ → (registers : ℕ) → Answer → Type 0
+RootJudgedAt words registers r = (t : Root) → RootAt words t → r ≡ root-answer (root-is (register-scope registers) t)

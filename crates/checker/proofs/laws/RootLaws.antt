@@ -5,29 +5,20 @@ use mathlib.Core.List.{List, []}
 use native.Mathlib.Omega.{arith}
 use lib.ListN.{length, getD}
 use Rattle.rules.specs.paper.Tree.{Root, Expression, Command, Block}
-use Rattle.rules.specs.paper.Refusals.{refusal-number}
+use Rattle.rules.specs.paper.Tree as Tree
+use Rattle.rules.specs.paper.Limits.{codes}
 use Rattle.rules.specs.paper.Checker.{Scope, Judged, fault, fine, _>>=_, Fine, Passed, expression-of-code, a-command, register-scope, root-is, expression-code, command-ok}
 use Rattle.reader.specs.Pack.{packed-kind}
 use Rattle.reader.specs.Stored.{HasWord, kind-is, StoredExpression, StoredBlock, StoredCommand, StoredRoot, root-expression, root-command, RootAt}
 use Rattle.reader.specs.Stored as Stored
 use Rattle.checker.specs.Rows.{ScopeAt, no-rows}
 use Rattle.checker.specs.Answers.{answer, code-answer, fine-answer, ExpressionAt, ExpressionJudgedAt}
-use Rattle.checker.specs.Commands.{CommandAt, CommandJudgedAt, verdict, RootJudgedAt}
+use Rattle.checker.specs.Commands.{CommandAt, CommandJudgedAt, command-number, root-number, root-answer, RootJudgedAt}
 use Rattle.checker.specs.declared.codes.Answer.{Answer}
 use Rattle.checker.specs.declared.codes.Answer.the-variants.{Is, Fault}
-use Rattle.checker.specs.declared.Verdict.{Verdict}
-use Rattle.checker.specs.declared.Verdict.the-variants as Verdicts
-use Rattle.checker.proofs.laws.codes.AnswerLaws.{two-answers, same-is}
-use Rattle.checker.proofs.laws.expressions.ExpressionLaws.{operator-below, expression-low}
-use Rattle.checker.proofs.laws.places.StandingLaws.{command-low}
-
--- A fault stays the fault.
-as-verdict : {x p y q : ℕ} → Fault y q ≡ Fault x p → Verdicts.Fault x p ≡ Verdicts.Fault y q
-as-verdict h = ap of-answer (sym h)
-  where
-    of-answer : Answer → Verdict
-    of-answer (Is c) = Verdicts.Command
-    of-answer (Fault x p) = Verdicts.Fault x p
+use Rattle.checker.proofs.laws.codes.AnswerLaws.{then-fault, then-fine, then-inverse}
+use Rattle.checker.proofs.laws.expressions.ExpressionLaws.{operator-below}
+use Rattle.checker.proofs.laws.expressions.CodeRangeLaws.{code-low}
 
 -- Before any declaration the scope is the registers.
 pub register-scope-at : (words : List ℕ) (registers : ℕ) → ScopeAt words registers 0 (register-scope registers)
@@ -68,50 +59,47 @@ module _ (words : List ℕ) (which : ℕ) (known : which ≡ packed-kind (getD w
       by {d = d} {j = j} (root-command {c = c} s) = (c, record { depth = d; next = j; stored = s })
 
   module _ (registers : ℕ) (r : Answer) where
-    module _ (low : which < 20) (judged : ExpressionJudgedAt words registers 0 0 r) where
-      of-expression : (a : Verdict) → ((e : Expression) → r ≡ code-answer (expression-code (register-scope registers) e) →
-          a ≡ verdict (expression-code (register-scope registers) e >>= λ c. fine (expression-of-code c))) → RootJudgedAt words registers a
-      unfolding root-is
-      of-expression a done t at = by (at .stored)
-        where
-          by : {d j : ℕ} {t : Root} → StoredRoot words d 0 j t → a ≡ verdict (root-is (register-scope registers) t)
-          by {d = d} {j = j} (root-expression {e = e} s) = done e (judged e (register-scope registers) (record { depth = d; next = j; stored = s }) (register-scope-at words registers))
-          by (root-command s) = absurd (omega (arith, low, known, high-kind s))
+    pub expression-judged : which < 20 → ExpressionJudgedAt words registers 0 0 r → RootJudgedAt words registers r
+    unfolding root-is
+    expression-judged low judged t at = by (at .stored)
+      where
+        passes : (j : Judged ℕ) → code-answer j ≡ root-answer (j >>= λ c. fine (expression-of-code c))
+        passes (fault x p) = refl
+        passes (fine c) = refl
 
-      pub expression-passes : (c : ℕ) → r ≡ Is c → RootJudgedAt words registers (Verdicts.Code c)
-      expression-passes c q = of-expression (Verdicts.Code c) (λ e f. by (expression-code (register-scope registers) e) (sym f ∙ q))
-        where
-          by : (j : Judged ℕ) → code-answer j ≡ Is c → Verdicts.Code c ≡ verdict (j >>= λ c. fine (expression-of-code c))
-          by (fault x p) h = absurd (two-answers (Is c) c (refusal-number x) p refl (sym h))
-          by (fine d) h = ap Verdicts.Code (same-is (Is c) c d refl (sym h))
-
-      pub expression-fails : (x p : ℕ) → r ≡ Fault x p → RootJudgedAt words registers (Verdicts.Fault x p)
-      expression-fails x p q = of-expression (Verdicts.Fault x p) (λ e f. by (expression-code (register-scope registers) e) (sym f ∙ q))
-        where
-          by : (j : Judged ℕ) → code-answer j ≡ Fault x p → Verdicts.Fault x p ≡ verdict (j >>= λ c. fine (expression-of-code c))
-          by (fault y o) h = as-verdict h
-          by (fine d) h = absurd (two-answers (Fault x p) d x p (sym h) refl)
+        by : {d j : ℕ} {t : Root} → StoredRoot words d 0 j t → r ≡ root-answer (root-is (register-scope registers) t)
+        by {d = d} {j = j} (root-expression {e = e} s) =
+            judged e (register-scope registers) (record { depth = d; next = j; stored = s }) (register-scope-at words registers) ∙ passes (expression-code (register-scope registers) e)
+        by (root-command s) = absurd (omega (arith, low, known, high-kind s))
 
     module _ (high : 20 ≤ which) (judged : CommandJudgedAt words registers 0 0 r) where
-      of-command : (a : Verdict) → ((c : Command) → r ≡ fine-answer (command-ok (register-scope registers) c) →
-          a ≡ verdict (command-ok (register-scope registers) c >>= λ done. fine a-command)) → RootJudgedAt words registers a
+      of-command : (a : Answer) → ((c : Command) → r ≡ fine-answer (command-ok (register-scope registers) c) →
+          a ≡ root-answer (command-ok (register-scope registers) c >>= λ done. fine a-command)) → RootJudgedAt words registers a
       unfolding root-is
       of-command a done t at = by (at .stored)
         where
-          by : {d j : ℕ} {t : Root} → StoredRoot words d 0 j t → a ≡ verdict (root-is (register-scope registers) t)
+          by : {d j : ℕ} {t : Root} → StoredRoot words d 0 j t → a ≡ root-answer (root-is (register-scope registers) t)
           by (root-expression s) = absurd (omega (arith, high, known, low-kind s))
           by {d = d} {j = j} (root-command {c = c} s) = done c (judged c (register-scope registers) (record { depth = d; next = j; stored = s }) (register-scope-at words registers))
 
-      pub command-fails : (x p : ℕ) → r ≡ Fault x p → RootJudgedAt words registers (Verdicts.Fault x p)
-      command-fails x p q = of-command (Verdicts.Fault x p) (λ c f. by (command-ok (register-scope registers) c) (sym f ∙ q))
-        where
-          by : (j : Judged Fine) → fine-answer j ≡ Fault x p → Verdicts.Fault x p ≡ verdict (j >>= λ done. fine a-command)
-          by (fault y o) h = as-verdict h
-          by (fine d) h = absurd (two-answers (Fault x p) 0 x p (sym h) refl)
+      pub command-fails : (x p : ℕ) → r ≡ Fault x p → RootJudgedAt words registers r
+      command-fails x p q = of-command r (λ c g. then-fault (λ done. 0) root-number (command-ok (register-scope registers) c) (λ done. fine a-command) r x p g q)
 
-      pub command-passes : (z : ℕ) → r ≡ Is z → RootJudgedAt words registers Verdicts.Command
-      command-passes z q = of-command Verdicts.Command (λ c f. by (command-ok (register-scope registers) c) (sym f ∙ q))
-        where
-          by : (j : Judged Fine) → fine-answer j ≡ Is z → Verdicts.Command ≡ verdict (j >>= λ done. fine a-command)
-          by (fault y o) h = absurd (two-answers (Is z) z (refusal-number y) o refl (sym h))
-          by (fine d) h = refl
+      pub command-passes : (z : ℕ) → r ≡ Is z → RootJudgedAt words registers (Is command-number)
+      command-passes z q =
+          of-command (Is command-number) (λ c g. then-fine (λ done. 0) root-number (command-ok (register-scope registers) c) (λ done. fine a-command) r (Is command-number) z g q (λ done known e. refl))
+
+-- The code of a root that is an expression is a type code.
+pub root-code-low : (registers : ℕ) (t : Root) (c : ℕ) → root-is (register-scope registers) t ≡ fine (expression-of-code c) → c < codes
+unfolding root-is
+root-code-low registers (Tree.expression e) c q =
+    let inside = then-inverse (expression-code (register-scope registers) e) (λ k. fine (expression-of-code k)) (expression-of-code c) q in
+    subst (λ k. k < codes) (same-code (inside .0) c (inside .2)) (code-low (register-scope-at [] registers) e (inside .0) (inside .1))
+  where
+    same-code : (k c : ℕ) → _≡_ {A = Judged Passed} (fine (expression-of-code k)) (fine (expression-of-code c)) → k ≡ c
+    same-code k c h = cc
+root-code-low registers (Tree.command k) c q =
+    absurd (apart c (then-inverse (command-ok (register-scope registers) k) (λ done. fine a-command) (expression-of-code c) q .2))
+  where
+    apart : (c : ℕ) → _≡_ {A = Judged Passed} (fine a-command) (fine (expression-of-code c)) → ⊥
+    apart c h = let z : _≡_ {A = ℕ} 0 1 = cc in omega arith

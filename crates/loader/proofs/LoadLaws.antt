@@ -1,5 +1,5 @@
 -- From the reader's and the checker's answers to the image's, and which work words they leave alone.
-use Prim.Native.Nat.{ℕ, zero, suc, _+_, _<_, _≤_}
+use Prim.Native.Nat.{ℕ, zero, suc, _+_, _-_, _<_, _≤_}
 use mathlib.Core.Path.{_≡_, refl, sym, ap, _∙_, subst}
 use mathlib.Core.List.{List, [], _∷_}
 use native.Mathlib.Omega.{arith}
@@ -12,7 +12,7 @@ use Rattle.rules.specs.paper.Reader.{Reading, bad, image, read}
 use Rattle.rules.specs.claims.Listing.{root-nodes}
 use Rattle.rules.specs.claims.Image.{IsImage}
 use Rattle.rules.specs.proofs.reading.ReaderExact.{read-exact}
-use Rattle.rules.specs.paper.Checker.{Judged, fault, fine, Passed, expression-of-code, a-command, register-scope, root-is}
+use Rattle.rules.specs.paper.Checker.{Judged, fault, fine, Passed, register-scope, root-is}
 use Rattle.rules.specs.paper.Engine.{check-image, check-reading, checked}
 use Rattle.reader.specs.Pack.{root-words}
 use Rattle.reader.specs.Put.{KeptBeyond, put, put-length, put-beyond}
@@ -21,14 +21,15 @@ use Rattle.reader.specs.Stored.{StoredRoot, root-expression, root-command, Root
 use Rattle.reader.specs.StoredLaws.{SameNodes, same-expression, same-command, stored-by-put, root-next}
 use Rattle.reader.specs.declared.Shape.{Shape}
 use Rattle.reader.specs.declared.Shape.the-variants as Shapes
-use Rattle.checker.specs.Commands.{WritesRowsFrom, verdict, RootJudgedAt}
-use Rattle.checker.specs.declared.Verdict.{Verdict}
-use Rattle.checker.specs.declared.Verdict.the-variants as Verdicts
-use Rattle.engine.specs.Examined.{ExamineAnswer}
-use Rattle.engine.specs.declared.Examined.{Examined}
-use Rattle.engine.specs.declared.Examined.the-variants.{Code, Command, Refused}
+use Rattle.checker.specs.Commands.{WritesRowsFrom, root-number, root-answer, RootJudgedAt}
+use Rattle.checker.specs.declared.codes.Answer.{Answer}
+use Rattle.checker.specs.declared.codes.Answer.the-variants.{Is, Fault}
+use Rattle.checker.proofs.laws.RootLaws.{root-code-low}
+use Rattle.loader.specs.Answers.{LoadAnswer}
+use Rattle.loader.specs.declared.Loaded.{Loaded}
+use Rattle.loader.specs.declared.Loaded.the-variants as Load
 
--- ---- Work words from 8,192 on.
+-- ---- Work words from `work-words` on.
 
 pub beyond-then : {a b c : List ℕ} → KeptBeyond work-words a b → KeptBeyond work-words b c → KeptBeyond work-words a c
 beyond-then g h = record { same-length = h .same-length ∙ g .same-length; same-beyond = h .same-beyond ∙ g .same-beyond }
@@ -44,7 +45,8 @@ drop-more (suc n) m (x ∷ a) = ap (λ k. drop k (x ∷ a)) (suc-add n m) ∙ dr
 
 beyond-read : {a b : List ℕ} → KeptBeyond most-nodes a b → KeptBeyond work-words a b
 beyond-read {a} {b} k =
-    record { same-length = k .same-length; same-beyond = drop-more 2000 6192 b ∙ ap (drop 6192) (k .same-beyond) ∙ sym (drop-more 2000 6192 a) }
+    let rest = work-words - most-nodes in
+    record { same-length = k .same-length; same-beyond = drop-more most-nodes rest b ∙ ap (drop rest) (k .same-beyond) ∙ sym (drop-more most-nodes rest a) }
 
 all-same : (a b : List ℕ) → length b ≡ length a → ((i : ℕ) → getD b i 0 ≡ getD a i 0) → b ≡ a
 all-same [] [] q f = refl
@@ -63,7 +65,7 @@ drop-same (suc n) (x ∷ a) [] q f = absurd (omega (arith, q))
 drop-same (suc n) (x ∷ a) (y ∷ b) q f = drop-same n a b (omega (arith, q)) (λ i h. f (suc i) (omega (arith, h)))
 
 pub beyond-kept : {a b : List ℕ} {node : ℕ} → WritesRowsFrom a b node → KeptBeyond work-words a b
-beyond-kept {a} {b} k = record { same-length = k .same-length; same-beyond = drop-same 8192 a b (k .same-length) (λ i h. k .same-beyond i (omega (arith, h))) }
+beyond-kept {a} {b} k = record { same-length = k .same-length; same-beyond = drop-same work-words a b (k .same-length) (λ i h. k .same-beyond i (omega (arith, h))) }
 
 -- ---- The shape.
 
@@ -73,47 +75,50 @@ two-shapes s n r x p g h = let z : _≡_ {A = ℕ} 0 1 = cc in omega arith
 same-registers : (s : Shape) (n r m q : ℕ) → s ≡ Shapes.Image n r → s ≡ Shapes.Image m q → r ≡ q
 same-registers s n r m q g h = cc
 
-same-refused : (s : Shape) (x p y q : ℕ) → s ≡ Shapes.Refused x p → s ≡ Shapes.Refused y q → Refused x p ≡ Refused y q
-same-refused s x p y q g h = ap of-shape (sym g ∙ h)
-  where
-    of-shape : Shape → Examined
-    of-shape (Shapes.Image n r) = Command r
-    of-shape (Shapes.Refused x p) = Refused x p
+same-nodes : (s : Shape) (n r m q : ℕ) → s ≡ Shapes.Image n r → s ≡ Shapes.Image m q → n ≡ m
+same-nodes s n r m q g h = cc
+
+same-refused : (s : Shape) (x p y q : ℕ) → s ≡ Shapes.Refused x p → s ≡ Shapes.Refused y q → Load.Refused x p ≡ Load.Refused y q
+same-refused s x p y q g h = cc
 
 module _ (words before after : List ℕ) (shape : Shape) (answered : ShapeAnswer (read words) shape before after) where
-  pub shape-refused : (x p : ℕ) → shape ≡ Shapes.Refused x p → ExamineAnswer (check-image words) (Refused x p) before after
+  pub shape-refused : (x p : ℕ) → shape ≡ Shapes.Refused x p → LoadAnswer (check-image words) (Load.Refused x p) before after
   unfolding check-image
   shape-refused x p q = by (read words) answered
     where
-      by : (g : Reading) → ShapeAnswer g shape before after → ExamineAnswer (check-reading g) (Refused x p) before after
+      by : (g : Reading) → ShapeAnswer g shape before after → LoadAnswer (check-reading g) (Load.Refused x p) before after
       by (bad y o) a = record { answer = same-refused shape x p (refusal-number y) o q (a .answer); beyond = beyond-read (a .kept) }
       by (image r t) a = absurd (two-shapes shape (length (root-nodes t)) r x p (a .answer) q)
 
-  -- A tree that was read stands in the work words.
-  pub record TreeRead (registers : ℕ) : Type 0 where
+  -- A tree that was read stands in the work words, and ends at its count of nodes.
+  pub record TreeRead (nodes registers : ℕ) : Type 0 where
     pub tree : Root
     pub reads : read words ≡ image registers tree
+    pub counted : nodes ≡ length (root-nodes tree)
     pub stands : RootAt after tree
+    pub ends : stands .next ≡ length (root-nodes tree)
     pub beyond : KeptBeyond work-words before after
 
-  pub tree-read : (nodes registers : ℕ) → 8192 ≤ length before → shape ≡ Shapes.Image nodes registers → TreeRead registers
+  pub tree-read : (nodes registers : ℕ) → work-words ≤ length before → shape ≡ Shapes.Image nodes registers → TreeRead nodes registers
   tree-read nodes registers room q = by (read words) refl answered
     where
-      by : (g : Reading) → read words ≡ g → ShapeAnswer g shape before after → TreeRead registers
+      by : (g : Reading) → read words ≡ g → ShapeAnswer g shape before after → TreeRead nodes registers
       by (bad y o) e a = absurd (two-shapes shape nodes registers (refusal-number y) o q (a .answer))
       by (image r t) e a =
           let is : IsImage words r t = read-exact words r t .0 e in
           record {
             tree = t;
             reads = e ∙ ap (λ k. image k t) (same-registers shape (length (root-nodes t)) r nodes registers (a .answer) q);
+            counted = same-nodes shape nodes registers (length (root-nodes t)) r q (a .answer);
             stands = record { depth = most-depth; next = length (root-nodes t); stored = subst (λ ws. StoredRoot ws most-depth 0 (length (root-nodes t)) t) (sym (a .written)) (stored-by-put before (is .shape) (is .size) (omega (arith, room))) };
+            ends = refl;
             beyond = record {
               same-length = ap length (a .written) ∙ put-length 0 (root-words t) before;
-              same-beyond = ap (drop 8192) (a .written) ∙ put-beyond 8192 0 (root-words t) before (omega (arith, root-next (is .shape), is .size));
+              same-beyond = ap (drop work-words) (a .written) ∙ put-beyond work-words 0 (root-words t) before (omega (arith, root-next (is .shape), is .size));
             };
           }
 
--- ---- The verdict.
+-- ---- The root.
 
 same-root : (words words′ : List ℕ) → SameNodes words words′ → {d i j : ℕ} {t : Root} → StoredRoot words d i j t → StoredRoot words′ d i j t
 same-root words words′ same (root-expression h) = root-expression (same-expression words words′ same h)
@@ -123,60 +128,44 @@ same-root words words′ same (root-command h) = root-command (same-command word
 tree-kept : {a b : List ℕ} {t : Root} → WritesRowsFrom a b 0 → RootAt a t → RootAt b t
 tree-kept {a} {b} k s = record { depth = s .depth; next = s .next; stored = same-root a b (λ i h. k .same-below i (omega (arith, h))) (s .stored) }
 
-abbrev code-of : Verdict → ℕ
-code-of (Verdicts.Code c) = c
-code-of Verdicts.Command = 8
-code-of (Verdicts.Fault x p) = x
+two-answers : (a x p : ℕ) → Is a ≡ Fault x p → ⊥
+two-answers a x p h = let z : _≡_ {A = ℕ} 0 1 = cc in omega arith
 
-abbrev place-of : Verdict → ℕ
-place-of (Verdicts.Code c) = 0
-place-of Verdicts.Command = 0
-place-of (Verdicts.Fault x p) = p
+same-is : (a b : ℕ) → Is a ≡ Is b → a ≡ b
+same-is a b h = cc
 
-abbrev IsCode : Verdict → Type 0
-IsCode (Verdicts.Code c) = Unit {0}
-IsCode Verdicts.Command = ⊥
-IsCode (Verdicts.Fault x p) = ⊥
+as-refused : (x p y q : ℕ) → Fault x p ≡ Fault y q → Load.Refused x p ≡ Load.Refused y q
+as-refused x p y q h = cc
 
-abbrev IsCommand : Verdict → Type 0
-IsCommand (Verdicts.Code c) = ⊥
-IsCommand Verdicts.Command = Unit {0}
-IsCommand (Verdicts.Fault x p) = ⊥
-
-abbrev IsFault : Verdict → Type 0
-IsFault (Verdicts.Code c) = ⊥
-IsFault Verdicts.Command = ⊥
-IsFault (Verdicts.Fault x p) = Unit {0}
-
-module _ (words before middle after : List ℕ) (registers : ℕ) (t : Root) (reads : read words ≡ image registers t) (stands : RootAt middle t) (beyond : KeptBeyond work-words before middle) (kept : WritesRowsFrom middle after 0)
-    (v : Verdict) (judged : RootJudgedAt middle registers v) where
+module _ (words before middle after : List ℕ) (shape : Shape) (answered : ShapeAnswer (read words) shape before middle) (nodes registers : ℕ) (tree : TreeRead words before middle shape answered nodes registers)
+    (kept : WritesRowsFrom middle after 0) (r : Answer) (judged : RootJudgedAt middle registers r) where
   all-beyond : KeptBeyond work-words before after
-  all-beyond = beyond-then beyond (beyond-kept kept)
+  all-beyond = beyond-then (tree .beyond) (beyond-kept kept)
 
-  of-reading : (a : Examined) → ((j : Judged Passed) → v ≡ verdict j → ExamineAnswer (checked registers t j) a before after) → ExamineAnswer (check-image words) a before after
+  of-reading : (a : Loaded) → ((j : Judged Passed) → root-is (register-scope registers) (tree .tree) ≡ j → r ≡ root-answer j → LoadAnswer (checked registers (tree .tree) j) a before after) →
+      LoadAnswer (check-image words) a before after
   unfolding check-image
-  of-reading a done = subst (λ g. ExamineAnswer (check-reading g) a before after) (sym reads) (done (root-is (register-scope registers) t) (judged t stands))
+  of-reading a done =
+      subst (λ g. LoadAnswer (check-reading g) a before after) (sym (tree .reads)) (done (root-is (register-scope registers) (tree .tree)) refl (judged (tree .tree) (tree .stands)))
 
-  pub code-passes : (c : ℕ) → v ≡ Verdicts.Code c → ExamineAnswer (check-image words) (Code c registers) before after
-  code-passes c q = of-reading (Code c registers) (λ j h. by j (sym q ∙ h))
+  pub root-passes : (number : ℕ) → r ≡ Is number → LoadAnswer (check-image words) (Load.Passed number registers nodes) before after
+  unfolding tree-kept
+  root-passes number q = of-reading (Load.Passed number registers nodes) (λ j e h. by j e (sym q ∙ h))
     where
-      by : (j : Judged Passed) → Verdicts.Code c ≡ verdict j → ExamineAnswer (checked registers t j) (Code c registers) before after
-      by (fault x p) h = absurd (subst IsCode h tt)
-      by (fine (expression-of-code d)) h = record { answer = ap (λ k. Code k registers) (ap code-of h); stands = tree-kept kept stands; beyond = all-beyond }
-      by (fine a-command) h = absurd (subst IsCode h tt)
+      by : (j : Judged Passed) → root-is (register-scope registers) (tree .tree) ≡ j → Is number ≡ root-answer j → LoadAnswer (checked registers (tree .tree) j) (Load.Passed number registers nodes) before after
+      by (fault x p) e h = absurd (two-answers number (refusal-number x) p h)
+      by (fine c) e h =
+          record {
+            answer = ap (λ k. Load.Passed k registers nodes) (same-is number (root-number c) h) ∙ ap (Load.Passed (root-number c) registers) (tree .counted);
+            stands = tree-kept kept (tree .stands);
+            ends = tree .ends;
+            code-low = λ k known. root-code-low registers (tree .tree) k (e ∙ ap fine known);
+            beyond = all-beyond;
+          }
 
-  pub command-passes : v ≡ Verdicts.Command → ExamineAnswer (check-image words) (Command registers) before after
-  command-passes q = of-reading (Command registers) (λ j h. by j (sym q ∙ h))
+  pub root-refused : (x p : ℕ) → r ≡ Fault x p → LoadAnswer (check-image words) (Load.Refused x p) before after
+  root-refused x p q = of-reading (Load.Refused x p) (λ j e h. by j (sym q ∙ h))
     where
-      by : (j : Judged Passed) → Verdicts.Command ≡ verdict j → ExamineAnswer (checked registers t j) (Command registers) before after
-      by (fault x p) h = absurd (subst IsCommand h tt)
-      by (fine (expression-of-code d)) h = absurd (subst IsCommand h tt)
-      by (fine a-command) h = record { answer = refl; stands = tree-kept kept stands; beyond = all-beyond }
-
-  pub fault-refused : (x p : ℕ) → v ≡ Verdicts.Fault x p → ExamineAnswer (check-image words) (Refused x p) before after
-  fault-refused x p q = of-reading (Refused x p) (λ j h. by j (sym q ∙ h))
-    where
-      by : (j : Judged Passed) → Verdicts.Fault x p ≡ verdict j → ExamineAnswer (checked registers t j) (Refused x p) before after
-      by (fault y o) h = record { answer = ap (λ k. Refused k p) (ap code-of h) ∙ ap (Refused (refusal-number y)) (ap place-of h); beyond = all-beyond }
-      by (fine (expression-of-code d)) h = absurd (subst IsFault h tt)
-      by (fine a-command) h = absurd (subst IsFault h tt)
+      by : (j : Judged Passed) → Fault x p ≡ root-answer j → LoadAnswer (checked registers (tree .tree) j) (Load.Refused x p) before after
+      by (fault y o) h = record { answer = as-refused x p (refusal-number y) o h; beyond = all-beyond }
+      by (fine c) h = absurd (two-answers (root-number c) x p (sym h))

@@ -4,17 +4,18 @@ use mathlib.Core.Path.{_≡_, refl, ap, _∙_}
 use native.Mathlib.Omega.{arith}
 use denote.Ref.{now}
 use lib.ListN.{length, set}
-use Rattle.engine.proofs.ClearLaws.{zeroed, zero-step, zeroed-length, all-zeroed}
-use Rattle.engine.proofs.clear.Statement.{statement}
-use Rattle.engine.proofs.clear.Tie as tie
-use Rattle.engine.proofs.clear.Reads as reads
-use Rattle.engine.proofs.clear.Lts as lts
+use Rattle.rules.specs.paper.Limits.{work-words}
+use Rattle.loader.proofs.ClearLaws.{zeroed, zero-step, zeroed-length, all-zeroed}
+use Rattle.loader.proofs.clear.Statement.{statement}
+use Rattle.loader.proofs.clear.Tie as tie
+use Rattle.loader.proofs.clear.Reads as reads
+use Rattle.loader.proofs.clear.Lts as lts
 
 abbrev Inv-loop : tie.InvT-loop
-Inv-loop work₀ i₀ work i = (i ≤ 8192) × (work ≡ zeroed i work₀)
+Inv-loop work₀ i₀ work i = (i ≤ work-words) × (work ≡ zeroed i work₀)
 
 abbrev μ-loop : tie.MeasureT-loop
-μ-loop work₀ i₀ work i = 8192 - i
+μ-loop work₀ i₀ work i = work-words - i
 
 loop-holds : tie.Need-loop-holds Inv-loop μ-loop
 loop-holds c = (omega arith, refl)

@@ -4,6 +4,7 @@ use mathlib.Core.Path.{_≡_, refl, sym, ap, _∙_}
 use mathlib.Core.List.{List, [], _∷_, _++_}
 use native.Mathlib.Omega.{arith}
 use lib.ListN.{length, drop, set, replicate}
+use Rattle.rules.specs.paper.Limits.{work-words}
 use Rattle.rules.specs.paper.Engine.{cleared}
 
 -- The first i words are 0.
@@ -21,11 +22,11 @@ zeroed-length zero words h = refl
 zeroed-length (suc i) [] h = absurd (omega (arith, h))
 zeroed-length (suc i) (w ∷ ws) h = ap suc (zeroed-length i ws (omega (arith, h)))
 
-pub all-zeroed : (i : ℕ) (words now : List ℕ) → now ≡ zeroed i words → i ≤ 8192 → 8192 ≤ i → now ≡ cleared words
+pub all-zeroed : (i : ℕ) (words now : List ℕ) → now ≡ zeroed i words → i ≤ work-words → work-words ≤ i → now ≡ cleared words
 unfolding cleared
 all-zeroed i words now q low high = q ∙ ap (λ k. zeroed k words) (both i low high)
   where
-    both : (i : ℕ) → i ≤ 8192 → 8192 ≤ i → i ≡ 8192
+    both : (i : ℕ) → i ≤ work-words → work-words ≤ i → i ≡ work-words
     both i a b = omega arith
 
 pub zero-step : (i : ℕ) (words now : List ℕ) → now ≡ zeroed i words → i < length words → set now i 0 ≡ zeroed (i + 1) words
