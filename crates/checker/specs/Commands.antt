@@ -4,12 +4,13 @@ use mathlib.Core.Path.{_≡_}
 use mathlib.Core.List.{List, []}
 use lib.ListN.{length, getD}
 use Rattle.rules.specs.paper.Refusals.{Refusal, refusal-number}
-use Rattle.rules.specs.paper.Limits.{names}
+use Rattle.rules.specs.paper.Limits.{names, most-parameters}
 use Rattle.rules.specs.paper.Tree.{Formal, Expression, Command, Assign, Call, Block, Declaration, Bound, Root}
 use Rattle.rules.specs.paper.Checker.{Scope, Judged, fault, fine, _>>=_, same-codes, distinct, with-formals, expression-codes, command-ok, block-ok, declaration-gives, bound-means, Passed, expression-of-code, a-command, register-scope, root-is}
 use Rattle.reader.specs.Stored.{HasWord, StoredExpression, StoredActuals, StoredFormals, StoredCommand, StoredBlock, StoredDeclaration, StoredBound, RootAt}
 use Rattle.checker.specs.Rows.{rows-from, rows-end, Rows, ScopeAt}
 use Rattle.checker.specs.Answers.{answer, fine-answer, meaning-answer, ExpressionAt}
+use Rattle.checker.specs.Packing.{packed-codes, AllCodes}
 use Rattle.checker.specs.declared.codes.Answer.{Answer}
 use Rattle.checker.specs.declared.codes.Answer.the-variants.{Is, Fault}
 
@@ -42,6 +43,7 @@ pub record CallAt (words : List ℕ) (node x : ℕ) (es : List Expression) : Typ
   pub end : ℕ
   pub count : ℕ
   pub name-low : x < names
+  pub few : count ≤ most-parameters
   pub word : HasWord words node 24 (x + names * count) end
   pub actuals : ActualsAt words (node + 1) count es
 
@@ -64,16 +66,15 @@ pub record BoundAt (words : List ℕ) (node : ℕ) (b : Bound) : Type 0 where
   pub next : ℕ
   pub stored : StoredBound words depth node next b
 
--- The expressions' codes are all there, or the first fault.
+-- The expressions' codes, packed, or the first fault.
 abbrev pub ActualsJudgedAt : List ℕ → (registers scope node count : ℕ) → Answer → Type 0
 ActualsJudgedAt words registers scope node count r =
-    (es : List Expression) (Γ : Scope) → ActualsAt words node count es → ScopeAt words registers scope Γ → r ≡ answer (λ cs. 0) (expression-codes Γ es)
+    (es : List Expression) (Γ : Scope) → ActualsAt words node count es → ScopeAt words registers scope Γ → r ≡ answer packed-codes (expression-codes Γ es)
 
--- Whether the expressions' codes are those of the Formals.
-abbrev pub AgreementJudgedAt : List ℕ → (registers scope place node formal count : ℕ) → Answer → Type 0
-AgreementJudgedAt words registers scope place node formal count r =
-    (es : List Expression) (fs : List Formal) (cs : List ℕ) (Γ : Scope) → ActualsAt words node count es → FormalsAt words formal count fs → ScopeAt words registers scope Γ →
-    expression-codes Γ es ≡ fine cs → r ≡ fine-answer (same-codes place fs cs)
+-- Whether the codes that are given packed are those of the Formals.
+abbrev pub AgreementJudgedAt : List ℕ → (place given formal count : ℕ) → Answer → Type 0
+AgreementJudgedAt words place given formal count r =
+    (fs : List Formal) (cs : List ℕ) → FormalsAt words formal count fs → length cs ≡ count → AllCodes cs → given ≡ packed-codes cs → r ≡ fine-answer (same-codes place fs cs)
 
 abbrev pub CallJudgedAt : List ℕ → (registers scope node : ℕ) → Answer → Type 0
 CallJudgedAt words registers scope node r =

@@ -6,6 +6,9 @@ ghost use Rattle.rules.specs.paper.Checker.{Meaning, id-code, deref-code, valre
 ghost use Rattle.checker.specs.Answers.{code-answer, fine-answer, meaning-answer, Numbered};
 use reader::kinds;
 
+// Type codes are below this; it is the base in which a Call's codes are packed.
+pub(crate) const CODES: usize = 8;
+
 // A judgement: what was asked for, or a fault with its place.
 pub enum Answer {
     Is(usize),

@@ -2,11 +2,13 @@
 ghost use mathlib.Core.List.{List};
 ghost use Prim.Native.Nat.{ℕ, _≤_};
 ghost use lib.ListN.{length};
+ghost use Rattle.rules.specs.paper.Limits.{most-parameters};
 ghost use Rattle.rules.specs.paper.Tree.{Expression, Formal, Command, Block, Declaration, Bound};
 ghost use Rattle.rules.specs.paper.Checker.{Scope};
 ghost use Rattle.checker.specs.Rows.{rows-end, ScopeAt};
 ghost use Rattle.checker.specs.Commands.{WritesRowsFrom, ActualsAt, FormalsAt, AssignAt, CallAt, CommandAt, BlockAt, DeclarationAt, BoundAt, ActualsJudgedAt, AgreementJudgedAt, AssignJudgedAt, CallJudgedAt, CommandJudgedAt, BlockJudgedAt, DeclarationJudgedAt, BoundJudgedAt};
 use crate::codes::Answer;
+use crate::codes::CODES;
 use crate::codes::anew;
 use crate::codes::assigned_code;
 use crate::codes::location_code;
@@ -50,13 +52,15 @@ fn assignment(work: &[u64], registers: usize, scope: usize, node: usize) -> Answ
     same(node, wanted, code)
 }
 
-// A Call's actuals: the first fault among them, if there is one.
+// A Call's actuals: their codes packed in one number, or the first fault among them.
 fn actuals(work: &[u64], registers: usize, scope: usize, node: usize, count: usize) -> Answer
     requires { ⌜ rows-end ≤ length (now work) ⌝ }
+    requires { ⌜ count ≤ most-parameters ⌝ }
     requires { ⌜ ((Γ : Scope) × ScopeAt (now work) registers scope Γ) ⌝ }
     requires { ⌜ ((es : List Expression) × ActualsAt (now work) node count es) ⌝ }
     ensures { λ r. ⌜ ActualsJudgedAt (now (work .entry)) registers scope node count r ⌝ }
 {
+    let mut codes = 0;
     let mut at = node;
     let mut left = count;
     while left != 0 {
@@ -64,46 +68,30 @@ fn actuals(work: &[u64], registers: usize, scope: usize, node: usize, count: usi
         let Answer::Is(code) = judged else {
             return judged;
         };
+        codes = codes * CODES + code;
         at = end(work, at);
         left = left - 1;
     }
-    Answer::Is(0)
+    Answer::Is(codes)
 }
 
-// The actuals' codes against the Formals'.
-fn agreement(
-    work: &[u64],
-    registers: usize,
-    scope: usize,
-    place: usize,
-    node: usize,
-    formal: usize,
-    count: usize,
-) -> Answer
+// The actuals' codes, which are given packed, against those of the Formals from a node on.
+fn agreement(work: &[u64], place: usize, given: usize, formal: usize, count: usize) -> Answer
     requires { ⌜ rows-end ≤ length (now work) ⌝ }
-    requires { ⌜ ((Γ : Scope) × ScopeAt (now work) registers scope Γ) ⌝ }
-    requires { ⌜ ((es : List Expression) × ActualsAt (now work) node count es) ⌝ }
+    requires { ⌜ count ≤ most-parameters ⌝ }
     requires { ⌜ ((fs : List Formal) × FormalsAt (now work) formal count fs) ⌝ }
-    ensures { λ r. ⌜ AgreementJudgedAt (now (work .entry)) registers scope place node formal count r ⌝ }
+    ensures { λ r. ⌜ AgreementJudgedAt (now (work .entry)) place given formal count r ⌝ }
 {
-    let mut at = node;
-    let mut parameter = formal;
+    let mut wanted = 0;
+    let mut at = formal;
     let mut left = count;
     while left != 0 {
-        let judged = expression(work, registers, scope, at);
-        let Answer::Is(code) = judged else {
-            return judged;
-        };
-        let word = operand(work, parameter);
-        let agrees = same(place, word / NAMES, code);
-        let Answer::Is(done) = agrees else {
-            return agrees;
-        };
-        at = end(work, at);
-        parameter = parameter + 1;
+        let word = operand(work, at);
+        wanted = wanted * CODES + word / NAMES;
+        at = at + 1;
         left = left - 1;
     }
-    Answer::Is(0)
+    same(place, wanted, given)
 }
 
 // Call.
@@ -116,7 +104,7 @@ fn call(work: &[u64], registers: usize, scope: usize, node: usize) -> Answer
     let word = operand(work, node);
     let count = word / NAMES;
     let given = actuals(work, registers, scope, node + 1, count);
-    let Answer::Is(done) = given else {
+    let Answer::Is(codes) = given else {
         return given;
     };
     let Found::Bound(number, pointer) = lookup(work, registers, scope, word % NAMES) else {
@@ -129,7 +117,7 @@ fn call(work: &[u64], registers: usize, scope: usize, node: usize) -> Answer
     if parameters != count {
         return Answer::Fault(14, node);
     }
-    agreement(work, registers, scope, node, node + 1, pointer + 1, count)
+    agreement(work, node, codes, pointer + 1, count)
 }
 
 // The command at a node in the scope at a pointer: 0, or its first fault.

@@ -2,3 +2,4 @@
 pub mod AnswerLaws
 pub mod CodeLaws
 pub mod TargetLaws
+pub mod PackingLaws

@@ -5,7 +5,7 @@ use mathlib.Core.List.{List, [], _∷_}
 use mathlib.Core.Option.{Option, none, some}
 use native.Mathlib.Omega.{arith}
 use lib.ListN.{length, getD}
-use Rattle.rules.specs.paper.Limits.{most-nodes, names}
+use Rattle.rules.specs.paper.Limits.{most-nodes, names, most-parameters}
 use Rattle.rules.specs.paper.Refusals.{Refusal, refusal-number, BadCall}
 use Rattle.rules.specs.paper.Tree.{Expression, Formal, Call}
 use Rattle.rules.specs.paper.Checker.{Meaning, code, function, Scope, Judged, fault, fine, _>>=_, Fine, ok, meaning-of, bound-name, called, same-count, same-codes, expression-code, expression-codes, command-ok}
@@ -13,12 +13,13 @@ use Rattle.reader.specs.Pack.{packed-operand}
 use Rattle.reader.specs.Stored.{HasWord, operand-is, StoredFormals}
 use Rattle.checker.specs.Rows.{function-number, meaning-number, MeaningAt, code-at, function-at, ScopeAt}
 use Rattle.checker.specs.Answers.{FoundAs, found-nothing, found-binding, found-register, answer, fine-answer}
+use Rattle.checker.specs.Packing.{packed-codes}
 use Rattle.checker.specs.Commands.{ActualsAt, FormalsAt, CallAt, CallJudgedAt, ActualsJudgedAt, AgreementJudgedAt}
 use Rattle.checker.specs.declared.scope.Found.{Found}
 use Rattle.checker.specs.declared.scope.Found.the-variants.{Bound, Nothing}
 use Rattle.checker.specs.declared.codes.Answer.{Answer}
 use Rattle.checker.specs.declared.codes.Answer.the-variants.{Is, Fault}
-use Rattle.checker.proofs.laws.commands.ActualLaws.{codes-parted}
+use Rattle.checker.proofs.laws.commands.ActualLaws.{codes-parted, all-low}
 use Rattle.checker.proofs.laws.codes.AnswerLaws.{nothing-bound, same-number, same-pointer, same-fine, then-fault, then-fine}
 use Rattle.checker.proofs.laws.places.PlaceLaws.{after-node, name-part, number-part}
 
@@ -33,6 +34,9 @@ call-name {x = x} word q a = ap (λ w. w % names) (q ∙ operand-is (a .word) (o
 pub call-actuals : {words : List ℕ} {node x : ℕ} {es : List Expression} (word : ℕ) → word ≡ packed-operand (getD words node 0) → CallAt words node x es → ActualsAt words (node + 1) (word / names) es
 call-actuals {words} {node} {x} {es} word q a =
     subst (λ n. ActualsAt words (node + 1) n es) (sym (ap (λ w. w / names) (q ∙ operand-is (a .word) (omega arith)) ∙ number-part x (a .count) (a .name-low))) (a .actuals)
+
+pub call-few : {words : List ℕ} {node x : ℕ} {es : List Expression} (word : ℕ) → word ≡ packed-operand (getD words node 0) → CallAt words node x es → word / names ≤ most-parameters
+call-few {x = x} word q a = subst (λ n. n ≤ most-parameters) (sym (ap (λ w. w / names) (q ∙ operand-is (a .word) (omega arith)) ∙ number-part x (a .count) (a .name-low))) (a .few)
 
 -- ---- Counts.
 
@@ -88,23 +92,23 @@ function-found {words} {o} {f} number pointer found q e = by found q
 -- ---- Each answer.
 
 module _ (words : List ℕ) (registers scope node word : ℕ) (known : word ≡ packed-operand (getD words node 0)) (given : Answer) (judged : ActualsJudgedAt words registers scope (node + 1) (word / names) given) where
-  codes-of : (x : ℕ) (es : List Expression) (Γ : Scope) → CallAt words node x es → ScopeAt words registers scope Γ → given ≡ answer (λ cs. 0) (expression-codes Γ es)
+  codes-of : (x : ℕ) (es : List Expression) (Γ : Scope) → CallAt words node x es → ScopeAt words registers scope Γ → given ≡ answer packed-codes (expression-codes Γ es)
   codes-of x es Γ a s = judged es Γ (call-actuals word known a) s
 
   pub call-actual-fault : (y p : ℕ) → given ≡ Fault y p → CallJudgedAt words registers scope node given
   unfolding command-ok after-actuals after-function
-  call-actual-fault y p q x es Γ a s = then-fault (λ cs. 0) (λ done. 0) (expression-codes Γ es) (after-actuals node x Γ) given y p (codes-of x es Γ a s) q
+  call-actual-fault y p q x es Γ a s = then-fault packed-codes (λ done. 0) (expression-codes Γ es) (after-actuals node x Γ) given y p (codes-of x es Γ a s) q
 
   module _ (z : ℕ) (found : Found) (got : given ≡ Is z) (looked : (Γ : Scope) → ScopeAt words registers scope Γ → FoundAs words (meaning-of (word % names) Γ) found) where
     after : (r : Answer) → ((x : ℕ) (es : List Expression) (cs : List ℕ) (Γ : Scope) → FoundAs words (meaning-of x Γ) found → ScopeAt words registers scope Γ → ActualsAt words (node + 1) (word / names) es →
-        expression-codes Γ es ≡ fine cs → r ≡ fine-answer (after-actuals node x Γ cs)) → CallJudgedAt words registers scope node r
+        expression-codes Γ es ≡ fine cs → packed-codes cs ≡ z → r ≡ fine-answer (after-actuals node x Γ cs)) → CallJudgedAt words registers scope node r
     unfolding command-ok after-actuals after-function
     after r done x es Γ a s =
-        then-fine (λ cs. 0) (λ done. 0) (expression-codes Γ es) (after-actuals node x Γ) given r z (codes-of x es Γ a s) got
-        (λ cs k q. done x es cs Γ (subst (λ y. FoundAs words (meaning-of y Γ) found) (call-name word known a) (looked Γ s)) s (call-actuals word known a) k)
+        then-fine packed-codes (λ done. 0) (expression-codes Γ es) (after-actuals node x Γ) given r z (codes-of x es Γ a s) got
+        (λ cs k q. done x es cs Γ (subst (λ y. FoundAs words (meaning-of y Γ) found) (call-name word known a) (looked Γ s)) s (call-actuals word known a) k q)
 
     pub call-unbound : found ≡ Nothing → CallJudgedAt words registers scope node (Fault 10 node)
-    call-unbound q = after (Fault 10 node) (λ x es cs Γ f s a k. unfold after-actuals in (by cs (meaning-of x Γ) found f q))
+    call-unbound q = after (Fault 10 node) (λ x es cs Γ f s a k packed. unfold after-actuals in (by cs (meaning-of x Γ) found f q))
       where
         by : (cs : List ℕ) (o : Option Meaning) (g : Found) → FoundAs words o g → g ≡ Nothing → Fault 10 node ≡ fine-answer (bound-name node o >>= λ m. called node m >>= after-function node cs)
         by cs o g found-nothing q = unfold refusal-number in refl
@@ -113,7 +117,7 @@ module _ (words : List ℕ) (registers scope node word : ℕ) (known : word ≡ 
 
     module _ (number pointer : ℕ) (bound : found ≡ Bound number pointer) where
       pub call-no-function : (number ≡ function-number → ⊥) → CallJudgedAt words registers scope node (Fault 14 node)
-      call-no-function n = after (Fault 14 node) (λ x es cs Γ f s a k. unfold after-actuals in (by cs (meaning-of x Γ) found f bound))
+      call-no-function n = after (Fault 14 node) (λ x es cs Γ f s a k packed. unfold after-actuals in (by cs (meaning-of x Γ) found f bound))
         where
           at : {k : ℕ} {m : Meaning} (cs : List ℕ) → MeaningAt words k m → (meaning-number m ≡ function-number → ⊥) → Fault 14 node ≡ fine-answer (called node m >>= after-function node cs)
           at cs (code-at l) n = unfold refusal-number in refl
@@ -126,28 +130,28 @@ module _ (words : List ℕ) (registers scope node word : ℕ) (known : word ≡ 
 
       module _ (eight : number ≡ function-number) (parameters : ℕ) (counted : parameters ≡ packed-operand (getD words pointer 0)) where
         next : (r : Answer) → ((es : List Expression) (cs : List ℕ) (fs : List Formal) (Γ : Scope) (end : ℕ) → parameters ≡ length fs → StoredFormals words (pointer + 1) end fs →
-            ScopeAt words registers scope Γ → ActualsAt words (node + 1) (word / names) es → expression-codes Γ es ≡ fine cs → r ≡ fine-answer (after-function node cs fs)) → CallJudgedAt words registers scope node r
+            ScopeAt words registers scope Γ → ActualsAt words (node + 1) (word / names) es → expression-codes Γ es ≡ fine cs → packed-codes cs ≡ z → r ≡ fine-answer (after-function node cs fs)) → CallJudgedAt words registers scope node r
         next r done =
             after r
-            (λ x es cs Γ f s a k. unfold after-actuals in
+            (λ x es cs Γ f s a k packed. unfold after-actuals in
             (let g = function-found number pointer f bound eight in
             subst (λ o. r ≡ fine-answer (bound-name node o >>= λ m. called node m >>= after-function node cs)) (sym (g .meant))
-            (done es cs (g .formals) Γ (g .end) (counted ∙ g .counted) (g .stored) s a k)))
+            (done es cs (g .formals) Γ (g .end) (counted ∙ g .counted) (g .stored) s a k packed)))
 
         pub call-count-apart : (parameters ≡ word / names → ⊥) → CallJudgedAt words registers scope node (Fault 14 node)
         call-count-apart apart =
             next (Fault 14 node)
-            (λ es cs fs Γ e n st s a k. unfold after-function refusal-number in
+            (λ es cs fs Γ e n st s a k packed. unfold after-function refusal-number in
             (subst (λ j. Fault 14 node ≡ fine-answer (j >>= λ done. same-codes node fs cs))
             (sym (count-apart node fs cs (λ q. apart (n ∙ q ∙ codes-length Γ es cs k ∙ a .number)))) refl))
 
-        pub call-agree : (r : Answer) → parameters ≡ word / names → AgreementJudgedAt words registers scope node (node + 1) (pointer + 1) (word / names) r → CallJudgedAt words registers scope node r
+        pub call-agree : (r : Answer) → parameters ≡ word / names → AgreementJudgedAt words node z (pointer + 1) (word / names) r → CallJudgedAt words registers scope node r
         call-agree r same agrees =
             next r
-            (λ es cs fs Γ e n st s a k. unfold after-function in
+            (λ es cs fs Γ e n st s a k packed. unfold after-function in
             (subst (λ j. r ≡ fine-answer (j >>= λ done. same-codes node fs cs))
             (sym (count-same node fs cs (sym n ∙ same ∙ sym (a .number) ∙ sym (codes-length Γ es cs k))))
-            (agrees es fs cs Γ a (record { next = e; stored = st; number = sym n ∙ same }) s k)))
+            (agrees fs cs (record { next = e; stored = st; number = sym n ∙ same }) (codes-length Γ es cs k ∙ a .number) (all-low s es cs k) (sym packed))))
 
 -- The Formals of the function that was found, for what compares the codes.
 pub found-formals : (words : List ℕ) (pointer parameters count : ℕ) {o : Option Meaning} → FunctionAt words pointer o → parameters ≡ packed-operand (getD words pointer 0) → parameters ≡ count →

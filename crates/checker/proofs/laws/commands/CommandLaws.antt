@@ -70,6 +70,7 @@ seen-command words node which c k at = by (at .stored) k
         (seen-call (record {
           end = j;
           count = length es;
+          few = g;
           name-low = l;
           word = h;
           actuals = record { depth = d; next = j; stored = subst (λ i. StoredActuals words d i j es) (after-node node) a; number = refl };

@@ -1,14 +1,17 @@
 -- Every expression's code is a type code: below 8.
 use Prim.Native.Nat.{ℕ, zero, suc, _<_}
-use mathlib.Core.Path.{_≡_}
+use mathlib.Core.Path.{_≡_, refl, subst}
 use mathlib.Core.List.{List}
 use native.Mathlib.Omega.{arith}
 use Rattle.rules.specs.paper.Limits.{codes}
+use Rattle.rules.specs.paper.Refusals.{refusal-number}
 use Rattle.rules.specs.paper.Tree.{Operator, arithmetic, Eq, order, logic, Expression, Num, Boo, Id, DeRef, ValRef, Binary, Not}
-use Rattle.rules.specs.paper.Checker.{Meaning, code, function, Scope, fine, _>>=_, meaning-of, bound-name, id-code, deref-code, valref-code, integers-give, truths-give, equals-give, operator-code, truth-only, expression-code}
+use Rattle.rules.specs.paper.Checker.{Meaning, code, function, Scope, Judged, fault, fine, _>>=_, meaning-of, bound-name, id-code, deref-code, valref-code, integers-give, truths-give, equals-give, operator-code, truth-only, expression-code}
 use Rattle.checker.specs.Rows.{meaning-number, ScopeAt}
-use Rattle.checker.specs.Answers.{Numbered, numbered-code}
-use Rattle.checker.proofs.laws.codes.AnswerLaws.{no-fault, same-fine, then-inverse}
+use Rattle.checker.specs.Answers.{code-answer, Numbered, numbered-code, ExpressionAt, ExpressionJudgedAt}
+use Rattle.checker.specs.declared.codes.Answer.{Answer}
+use Rattle.checker.specs.declared.codes.Answer.the-variants.{Is}
+use Rattle.checker.proofs.laws.codes.AnswerLaws.{two-answers, same-is, no-fault, same-fine, then-inverse}
 use Rattle.checker.proofs.laws.expressions.NameLaws.{scope-numbered}
 
 code-below : {n c : ℕ} → Numbered n (code c) → c < codes
@@ -85,3 +88,12 @@ code-low {Γ = Γ} s (Binary p o e₁ e₂) c q =
 code-low {Γ = Γ} s (Not p e) c q =
     let t = then-inverse (expression-code Γ e) (truth-only p 1) c q in
     truth-low p (t .0) c (t .2)
+
+-- So is the code of the expression that stands there.
+pub judged-low : (words : List ℕ) (registers scope node : ℕ) → ((Γ : Scope) × ScopeAt words registers scope Γ) → ((e : Expression) × ExpressionAt words node e) → (one : Answer) →
+    ExpressionJudgedAt words registers scope node one → (c : ℕ) → one ≡ Is c → c < codes
+judged-low words registers scope node s e one judged c q = by (expression-code (s .0) (e .0)) refl (judged (e .0) (s .0) (e .1) (s .1))
+  where
+    by : (j : Judged ℕ) → expression-code (s .0) (e .0) ≡ j → one ≡ code-answer j → c < codes
+    by (fault x p) known h = absurd (two-answers one c (refusal-number x) p q h)
+    by (fine d) known h = subst (λ k. k < codes) (same-is one d c h q) (code-low (s .1) (e .0) d known)
