@@ -1,13 +1,13 @@
 -- What the checker's functions answer about commands, declarations and what they bind, and which work words they leave alone.
-use Prim.Native.Nat.{ℕ, suc, _+_, _*_, _<_, _≤_}
+use Prim.Native.Nat.{ℕ, _+_, _*_, _<_, _≤_}
 use mathlib.Core.Path.{_≡_}
-use mathlib.Core.List.{List, []}
+use mathlib.Core.List.{List}
 use lib.ListN.{length, getD}
 use Rattle.rules.specs.paper.Refusals.{Refusal, refusal-number}
 use Rattle.rules.specs.paper.Limits.{names, most-parameters}
 use Rattle.rules.specs.paper.Tree.{Formal, Expression, Command, Assign, Call, Block, Declaration, Bound, Root}
 use Rattle.rules.specs.paper.Checker.{Scope, Judged, fault, fine, _>>=_, same-codes, distinct, with-formals, expression-codes, command-ok, block-ok, declaration-gives, bound-means, Passed, expression-of-code, a-command, register-scope, root-is}
-use Rattle.reader.specs.Stored.{HasWord, StoredExpression, StoredActuals, StoredFormals, StoredCommand, StoredBlock, StoredDeclaration, StoredBound, RootAt}
+use Rattle.reader.specs.Stored.{HasWord, StoredActuals, StoredFormals, StoredCommand, StoredBlock, StoredDeclaration, StoredBound, RootAt}
 use Rattle.checker.specs.Rows.{rows-from, rows-end, Rows, ScopeAt}
 use Rattle.checker.specs.Answers.{answer, fine-answer, meaning-answer, ExpressionAt}
 use Rattle.checker.specs.Packing.{packed-codes, AllCodes}

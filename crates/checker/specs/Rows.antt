@@ -1,10 +1,10 @@
 -- The scope as the work words hold it: a row for each node that binds a name, from word `rows-from` on, with a link to the row before it.
 -- A row is found by a pointer, one more than its node; pointer 0 stands for the registers.
-use Prim.Native.Nat.{ℕ, zero, suc, _+_, _*_, _<_, _≤_}
+use Prim.Native.Nat.{ℕ, suc, _+_, _*_, _<_, _≤_}
 use mathlib.Core.Path.{_≡_}
 use mathlib.Core.Bool.{Bool}
 use mathlib.Core.List.{List, [], _∷_, _++_}
-use mathlib.Core.Option.{Option, none, some}
+use mathlib.Core.Option.{none, some}
 use lib.ListN.{length, getD}
 use Rattle.rules.specs.paper.Limits.{most-nodes, names, codes}
 use Rattle.rules.specs.paper.Tree.{Formal}

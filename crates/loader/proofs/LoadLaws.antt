@@ -1,11 +1,11 @@
 -- From the reader's and the checker's answers to the image's, and which work words they leave alone.
-use Prim.Native.Nat.{ℕ, zero, suc, _+_, _-_, _<_, _≤_}
+use Prim.Native.Nat.{ℕ, zero, suc, _+_, _-_, _≤_}
 use mathlib.Core.Path.{_≡_, refl, sym, ap, _∙_, subst}
 use mathlib.Core.List.{List, [], _∷_}
 use native.Mathlib.Omega.{arith}
 use native.Mathlib.Nat.{zero-add, suc-add}
 use lib.ListN.{length, getD, drop}
-use Rattle.rules.specs.paper.Refusals.{Refusal, refusal-number}
+use Rattle.rules.specs.paper.Refusals.{refusal-number}
 use Rattle.rules.specs.paper.Limits.{most-nodes, most-depth, work-words}
 use Rattle.rules.specs.paper.Tree.{Root}
 use Rattle.rules.specs.paper.Reader.{Reading, bad, image, read}
@@ -15,8 +15,8 @@ use Rattle.rules.specs.proofs.reading.ReaderExact.{read-exact}
 use Rattle.rules.specs.paper.Checker.{Judged, fault, fine, Passed, register-scope, root-is}
 use Rattle.rules.specs.paper.Engine.{check-image, check-reading, checked}
 use Rattle.reader.specs.Pack.{root-words}
-use Rattle.reader.specs.Put.{KeptBeyond, put, put-length, put-beyond}
-use Rattle.reader.specs.Answers.{ShapeAnswer, Shape-refused, Shape-read}
+use Rattle.reader.specs.Put.{KeptBeyond, put-length, put-beyond}
+use Rattle.reader.specs.Answers.{ShapeAnswer}
 use Rattle.reader.specs.Stored.{StoredRoot, root-expression, root-command, RootAt}
 use Rattle.reader.specs.StoredLaws.{SameNodes, same-expression, same-command, stored-by-put, root-next}
 use Rattle.reader.specs.declared.Shape.{Shape}

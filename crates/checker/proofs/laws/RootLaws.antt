@@ -1,18 +1,18 @@
 -- The root: an expression or a command, with the registers in scope.
-use Prim.Native.Nat.{ℕ, suc, _+_, _<_, _≤_}
-use mathlib.Core.Path.{_≡_, refl, sym, ap, _∙_, subst}
+use Prim.Native.Nat.{ℕ, _<_, _≤_}
+use mathlib.Core.Path.{_≡_, refl, _∙_, subst}
 use mathlib.Core.List.{List, []}
 use native.Mathlib.Omega.{arith}
-use lib.ListN.{length, getD}
+use lib.ListN.{getD}
 use Rattle.rules.specs.paper.Tree.{Root, Expression, Command, Block}
 use Rattle.rules.specs.paper.Tree as Tree
 use Rattle.rules.specs.paper.Limits.{codes}
-use Rattle.rules.specs.paper.Checker.{Scope, Judged, fault, fine, _>>=_, Fine, Passed, expression-of-code, a-command, register-scope, root-is, expression-code, command-ok}
+use Rattle.rules.specs.paper.Checker.{Judged, fault, fine, _>>=_, Passed, expression-of-code, a-command, register-scope, root-is, expression-code, command-ok}
 use Rattle.reader.specs.Pack.{packed-kind}
-use Rattle.reader.specs.Stored.{HasWord, kind-is, StoredExpression, StoredBlock, StoredCommand, StoredRoot, root-expression, root-command, RootAt}
+use Rattle.reader.specs.Stored.{kind-is, StoredExpression, StoredBlock, StoredCommand, StoredRoot, root-expression, root-command, RootAt}
 use Rattle.reader.specs.Stored as Stored
 use Rattle.checker.specs.Rows.{ScopeAt, no-rows}
-use Rattle.checker.specs.Answers.{answer, code-answer, fine-answer, ExpressionAt, ExpressionJudgedAt}
+use Rattle.checker.specs.Answers.{code-answer, fine-answer, ExpressionAt, ExpressionJudgedAt}
 use Rattle.checker.specs.Commands.{CommandAt, CommandJudgedAt, command-number, root-number, root-answer, RootJudgedAt}
 use Rattle.checker.specs.declared.codes.Answer.{Answer}
 use Rattle.checker.specs.declared.codes.Answer.the-variants.{Is, Fault}

@@ -1,5 +1,4 @@
 -- The root: its kind says whether it is an expression or a command.
-use Prim.Native.Nat.{ℕ, _<_, _≤_}
 use native.Mathlib.Omega.{arith}
 use Rattle.checker.proofs.laws.scope.KeptLaws.{kept-nothing}
 use Rattle.checker.proofs.laws.RootLaws.{register-scope-at, expression-root, command-root, expression-judged, command-fails, command-passes}

@@ -1,9 +1,9 @@
 -- The first work words become 0 one by one.
-use Prim.Native.Nat.{ℕ, suc, _+_, _-_, _*_, _<_, _≤_}
+use Prim.Native.Nat.{_-_, _≤_}
 use mathlib.Core.Path.{_≡_, refl, ap, _∙_}
 use native.Mathlib.Omega.{arith}
 use denote.Ref.{now}
-use lib.ListN.{length, set}
+use lib.ListN.{length}
 use Rattle.rules.specs.paper.Limits.{work-words}
 use Rattle.loader.proofs.ClearLaws.{zeroed, zero-step, zeroed-length, all-zeroed}
 use Rattle.loader.proofs.clear.Statement.{statement}

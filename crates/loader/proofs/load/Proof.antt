@@ -1,5 +1,4 @@
 -- The shape first, then scope and types of the tree that was read.
-use Prim.Native.Nat.{ℕ, _≤_}
 use native.Mathlib.Omega.{arith}
 use Rattle.loader.proofs.LoadLaws.{shape-refused, tree-read, root-passes, root-refused}
 use borrow.Author.Needs.{needs}

@@ -1,5 +1,4 @@
 -- A Call's actuals one after the other, their codes packed. The loop's measure is how many are left.
-use Prim.Native.Nat.{_+_, _*_, _<_, _≤_}
 use native.Mathlib.Omega.{arith}
 use borrow.Author.Needs.{needs}
 use Rattle.checker.proofs.laws.codes.PackingLaws.{packed-room}

@@ -1,5 +1,4 @@
 -- The Formals' codes, packed one after the other, then compared with those that are given. The loop's measure is how many are left.
-use Prim.Native.Nat.{_+_, _*_, _/_, _<_, _≤_}
 use native.Mathlib.Omega.{arith}
 use borrow.Author.Needs.{needs}
 use Rattle.checker.proofs.laws.codes.PackingLaws.{packed-room}

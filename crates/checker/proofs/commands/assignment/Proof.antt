@@ -1,5 +1,4 @@
 -- Assign: the value, the name, whether it is assignable, and the codes.
-use Prim.Native.Nat.{ℕ, _+_, _-_, _≤_}
 use native.Mathlib.Omega.{arith}
 use Rattle.checker.proofs.laws.commands.AssignLaws.{assign-place, assign-value-fault, assign-name-fault, assign-target-fault, assign-same}
 use borrow.Author.Needs.{needs}

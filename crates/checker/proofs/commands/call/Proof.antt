@@ -1,5 +1,4 @@
 -- Call: the actuals, the name, that it is a function, its count and its codes.
-use Prim.Native.Nat.{ℕ, _+_, _/_, _<_, _≤_}
 use native.Mathlib.Omega.{arith}
 use Rattle.checker.proofs.laws.commands.CallLaws.{call-actuals, call-few, function-found, found-formals, call-actual-fault, call-unbound, call-no-function, call-count-apart, call-agree}
 use borrow.Author.Needs.{needs}

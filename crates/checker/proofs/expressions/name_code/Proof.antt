@@ -1,5 +1,4 @@
 -- An expression that is a name: its meaning first, then the rule of its kind. Assumes the contract's requires.
-use Prim.Native.Nat.{ℕ, _<_, _≤_}
 use native.Mathlib.Omega.{arith}
 use Rattle.checker.proofs.laws.expressions.NameLaws.{name-place, name-fault, name-id, name-deref, name-valref}
 use borrow.Author.Needs.{needs}

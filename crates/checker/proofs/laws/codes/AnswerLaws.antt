@@ -1,9 +1,9 @@
 -- An answer is what was asked or a fault, and one only; what comes after each.
 use Prim.Native.Nat.{ℕ, zero, suc}
-use mathlib.Core.Path.{_≡_, refl, sym, ap, _∙_, subst}
+use mathlib.Core.Path.{_≡_, refl, sym, subst}
 use native.Mathlib.Omega.{arith}
 use Rattle.rules.specs.paper.Refusals.{Refusal, refusal-number}
-use Rattle.rules.specs.paper.Checker.{Judged, fault, fine, _>>=_, Fine, ok, truth-only}
+use Rattle.rules.specs.paper.Checker.{Judged, fault, fine, _>>=_, ok, truth-only}
 use Rattle.checker.specs.Answers.{answer, code-answer, fine-answer}
 use Rattle.checker.specs.declared.scope.Found.{Found}
 use Rattle.checker.specs.declared.scope.Found.the-variants.{Bound, Nothing}

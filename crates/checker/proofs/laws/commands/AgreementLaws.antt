@@ -6,7 +6,7 @@ use native.Mathlib.Omega.{arith}
 use lib.ListN.{length, getD}
 use Rattle.rules.specs.paper.Limits.{names, codes}
 use Rattle.rules.specs.paper.Tree.{Formal}
-use Rattle.rules.specs.paper.Checker.{same-code, same-codes}
+use Rattle.rules.specs.paper.Checker.{same-code}
 use Rattle.reader.specs.Pack.{packed-operand}
 use Rattle.reader.specs.Stored.{StoredFormals, no-formals, one-formal}
 use Rattle.checker.specs.Answers.{fine-answer}

@@ -1,15 +1,15 @@
 -- Blocks: the declaration's names, then the command in the scope with them.
 use Prim.Native.Nat.{ℕ, suc, _+_, _<_, _≤_}
-use mathlib.Core.Path.{_≡_, refl, sym, ap, _∙_, subst}
+use mathlib.Core.Path.{_≡_, refl, sym, _∙_, subst}
 use mathlib.Core.List.{List, _++_}
 use native.Mathlib.Omega.{arith}
-use lib.ListN.{length, getD}
+use lib.ListN.{getD}
 use Rattle.rules.specs.paper.Limits.{most-nodes}
 use Rattle.rules.specs.paper.Tree.{Command, Block, Blk, Declaration}
-use Rattle.rules.specs.paper.Refusals.{Refusal, refusal-number}
-use Rattle.rules.specs.paper.Checker.{Scope, Judged, fault, fine, _>>=_, Fine, command-ok, block-ok, declaration-gives}
+use Rattle.rules.specs.paper.Refusals.{refusal-number}
+use Rattle.rules.specs.paper.Checker.{Scope, Judged, fine, _>>=_, command-ok, block-ok, declaration-gives}
 use Rattle.reader.specs.Pack.{packed-end}
-use Rattle.reader.specs.Stored.{HasWord, StoredCommand, StoredBlock, blk, StoredDeclaration}
+use Rattle.reader.specs.Stored.{StoredCommand, StoredBlock, blk, StoredDeclaration}
 use Rattle.checker.specs.Rows.{Rows, ScopeAt}
 use Rattle.checker.specs.Answers.{answer, fine-answer}
 use Rattle.checker.specs.Commands.{WritesRowsFrom, CommandAt, BlockAt, DeclarationAt, NamesFrom, names-from, names-fault, CommandJudgedAt, BlockJudgedAt, DeclarationJudgedAt}

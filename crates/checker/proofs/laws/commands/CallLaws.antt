@@ -1,16 +1,16 @@
 -- Call: the actuals, the name, that it is a function, how many Formals it has, and their codes.
-use Prim.Native.Nat.{ℕ, zero, suc, _+_, _*_, _/_, _%_, _<_, _≤_}
+use Prim.Native.Nat.{ℕ, suc, _+_, _/_, _%_, _<_, _≤_}
 use mathlib.Core.Path.{_≡_, refl, sym, ap, _∙_, subst}
 use mathlib.Core.List.{List, [], _∷_}
-use mathlib.Core.Option.{Option, none, some}
+use mathlib.Core.Option.{Option, some}
 use native.Mathlib.Omega.{arith}
 use lib.ListN.{length, getD}
 use Rattle.rules.specs.paper.Limits.{most-nodes, names, most-parameters}
-use Rattle.rules.specs.paper.Refusals.{Refusal, refusal-number, BadCall}
-use Rattle.rules.specs.paper.Tree.{Expression, Formal, Call}
-use Rattle.rules.specs.paper.Checker.{Meaning, code, function, Scope, Judged, fault, fine, _>>=_, Fine, ok, meaning-of, bound-name, called, same-count, same-codes, expression-code, expression-codes, command-ok}
+use Rattle.rules.specs.paper.Refusals.{refusal-number, BadCall}
+use Rattle.rules.specs.paper.Tree.{Expression, Formal}
+use Rattle.rules.specs.paper.Checker.{Meaning, function, Scope, Judged, fault, fine, _>>=_, Fine, ok, meaning-of, bound-name, called, same-count, same-codes, expression-codes, command-ok}
 use Rattle.reader.specs.Pack.{packed-operand}
-use Rattle.reader.specs.Stored.{HasWord, operand-is, StoredFormals}
+use Rattle.reader.specs.Stored.{operand-is, StoredFormals}
 use Rattle.checker.specs.Rows.{function-number, meaning-number, MeaningAt, code-at, function-at, ScopeAt}
 use Rattle.checker.specs.Answers.{FoundAs, found-nothing, found-binding, found-register, answer, fine-answer}
 use Rattle.checker.specs.Packing.{packed-codes}

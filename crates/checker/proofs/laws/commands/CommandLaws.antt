@@ -1,24 +1,23 @@
 -- Commands by the kind of their node: which command stands there, and what it is judged from its parts.
 use Prim.Native.Nat.{ℕ, suc, _+_, _<_, _≤_}
-use mathlib.Core.Path.{_≡_, refl, sym, ap, _∙_, subst}
+use mathlib.Core.Path.{_≡_, refl, sym, _∙_, subst}
 use mathlib.Core.List.{List}
 use native.Mathlib.Omega.{arith}
 use lib.ListN.{length, getD}
-use Rattle.rules.specs.paper.Limits.{names}
 use Rattle.rules.specs.paper.Tree.{Expression, Command, Assign, Loop, CSeq, block, Call, Block}
-use Rattle.rules.specs.paper.Checker.{Scope, Judged, _>>=_, Fine, ok, truth-only, expression-code, command-ok, block-ok}
+use Rattle.rules.specs.paper.Checker.{Scope, _>>=_, ok, truth-only, expression-code, command-ok}
 use Rattle.reader.specs.Pack.{packed-kind, packed-end}
-use Rattle.reader.specs.Stored.{HasWord, kind-is, StoredExpression, StoredActuals, StoredCommand, StoredBlock}
+use Rattle.reader.specs.Stored.{kind-is, StoredExpression, StoredActuals, StoredCommand, StoredBlock}
 use Rattle.reader.specs.Stored as Stored
 use Rattle.checker.specs.Rows.{ScopeAt}
-use Rattle.checker.specs.Answers.{answer, code-answer, fine-answer, ExpressionAt, ExpressionJudgedAt}
+use Rattle.checker.specs.Answers.{code-answer, fine-answer, ExpressionAt, ExpressionJudgedAt}
 use Rattle.checker.specs.Commands.{WritesRowsFrom, AssignAt, AssignJudgedAt, CallAt, CallJudgedAt, CommandAt, BlockAt, CommandJudgedAt, BlockJudgedAt}
 use Rattle.checker.specs.declared.codes.Answer.{Answer}
 use Rattle.checker.specs.declared.codes.Answer.the-variants.{Is, Fault}
 use Rattle.checker.proofs.laws.codes.AnswerLaws.{then-fault, then-fine, then-code, truth-fine}
-use Rattle.checker.proofs.laws.expressions.ExpressionLaws.{expression-low, expression-on, expression-end}
+use Rattle.checker.proofs.laws.expressions.ExpressionLaws.{expression-on, expression-end}
 use Rattle.checker.proofs.laws.places.PlaceLaws.{after-node}
-use Rattle.checker.proofs.laws.places.StandingLaws.{command-low, command-on, command-end}
+use Rattle.checker.proofs.laws.places.StandingLaws.{command-on, command-end}
 use Rattle.checker.proofs.laws.scope.KeptLaws.{kept-command, kept-scope}
 
 -- ---- Which command it is.

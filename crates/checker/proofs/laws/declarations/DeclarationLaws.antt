@@ -8,10 +8,10 @@ use native.Mathlib.Omega.{arith}
 use lib.ListN.{length, getD, set}
 use Rattle.rules.specs.paper.Limits.{most-nodes, names}
 use Rattle.rules.specs.paper.Refusals.{Repeated, refusal-number}
-use Rattle.rules.specs.paper.Tree.{Expression, Formal, Command, Block, Declaration, Bind, DSeq, Bound}
+use Rattle.rules.specs.paper.Tree.{Declaration, Bind, DSeq, Bound}
 use Rattle.rules.specs.paper.Checker.{Meaning, Scope, Judged, fault, fine, _>>=_, shares-name, declaration-gives, bound-means}
 use Rattle.reader.specs.Pack.{packed-kind, packed-end, packed-operand}
-use Rattle.reader.specs.Stored.{HasWord, kind-is, end-is, operand-is, StoredFormals, StoredDeclaration, bind, dseq, StoredBound}
+use Rattle.reader.specs.Stored.{HasWord, kind-is, operand-is, StoredDeclaration, bind, dseq, StoredBound}
 use Rattle.checker.specs.Rows.{rows-from, rows-end, row-word, meaning-number, MeaningAt, HasRow, Rows, no-rows, one-row, ScopeAt}
 use Rattle.checker.specs.Answers.{meaning-answer}
 use Rattle.checker.specs.Commands.{WritesRowsFrom, BoundAt, DeclarationAt, NamesFrom, names-from, names-fault, DeclarationJudgedAt, BoundJudgedAt}

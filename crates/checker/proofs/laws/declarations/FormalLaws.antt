@@ -8,7 +8,7 @@ use lib.ListN.{length, getD, set}
 use Rattle.rules.specs.paper.Refusals.{Repeated, refusal-number}
 use Rattle.rules.specs.paper.Limits.{most-nodes, names, codes}
 use Rattle.rules.specs.paper.Tree.{Formal}
-use Rattle.rules.specs.paper.Checker.{code, Named, Scope, Judged, fault, fine, _>>=_, has-name, distinct, with-formals}
+use Rattle.rules.specs.paper.Checker.{code, Named, Scope, fault, has-name, distinct, with-formals}
 use Rattle.reader.specs.Pack.{packed-operand}
 use Rattle.reader.specs.Stored.{HasWord, StoredFormals, no-formals, one-formal, operand-is}
 use Rattle.checker.specs.Rows.{rows-from, rows-end, row-word, code-at, Rows, one-row, RowFound}

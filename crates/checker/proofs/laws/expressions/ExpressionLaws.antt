@@ -1,18 +1,16 @@
 -- Expressions by the kind of their node: which expression stands there, and its code from its children's.
-use Prim.Native.Nat.{ℕ, zero, suc, _+_, _<_, _≤_}
-use mathlib.Core.Path.{_≡_, refl, sym, ap, _∙_, subst}
+use Prim.Native.Nat.{ℕ, suc, _+_, _<_, _≤_}
+use mathlib.Core.Path.{_≡_, refl, sym, _∙_, subst}
 use mathlib.Core.Bool.{Bool}
 use mathlib.Core.List.{List}
 use native.Mathlib.Omega.{arith}
-use lib.Dec.{T, eqb, eqb-refl}
-use lib.ListN.{length, getD}
+use lib.ListN.{getD}
 use Rattle.rules.specs.paper.Limits.{most-nodes}
 use Rattle.rules.specs.paper.Kinds.{operator-number}
-use Rattle.rules.specs.paper.Tree.{Operator, arithmetic, Sum, Sub, Mul, Div, Eq, order, Lt, Le, Gt, Ge, logic, And, Or, Expression, Num, Boo, Id, DeRef, ValRef, Binary, Not}
+use Rattle.rules.specs.paper.Tree.{Operator, arithmetic, Sum, Sub, Mul, Div, Eq, order, Lt, Le, Gt, Ge, logic, And, Or, Expression, Num, Boo, Binary, Not}
 use Rattle.rules.specs.paper.Checker.{Scope, _>>=_, operator-code, truth-only, expression-code}
 use Rattle.reader.specs.Pack.{packed-kind, packed-end}
-use Rattle.reader.specs.Stored.{HasWord, kind-is, end-is, StoredExpression, num, boo, id, deref, valref, binary, negation}
-use Rattle.checker.specs.Rows.{ScopeAt}
+use Rattle.reader.specs.Stored.{kind-is, end-is, StoredExpression, num, boo, id, deref, valref, binary, negation}
 use Rattle.checker.specs.Answers.{code-answer, NameAt, id-at, deref-at, valref-at, ExpressionAt, ExpressionJudgedAt}
 use Rattle.checker.specs.declared.codes.Answer.{Answer}
 use Rattle.checker.specs.declared.codes.Answer.the-variants.{Is, Fault}

@@ -1,15 +1,15 @@
 -- Expressions that are names: every meaning in a scope has its number, and a name's code follows from it.
 use Prim.Native.Nat.{ℕ, zero, suc, _<_}
-use mathlib.Core.Path.{_≡_, refl, sym, ap, _∙_, subst}
+use mathlib.Core.Path.{_≡_, refl, sym, _∙_, subst}
 use mathlib.Core.Bool.{Bool, true, false, cond}
-use mathlib.Core.List.{List, [], _∷_, _++_}
+use mathlib.Core.List.{List, _∷_, _++_}
 use mathlib.Core.Option.{Option, none, some, Option·none-ne-some}
 use native.Mathlib.Omega.{arith}
 use lib.Dec.{T, eqb, eqb-refl}
-use lib.ListN.{length, getD}
+use lib.ListN.{getD}
 use Rattle.rules.specs.paper.Limits.{most-nodes}
-use Rattle.rules.specs.paper.Tree.{Expression, Id, DeRef, ValRef}
-use Rattle.rules.specs.paper.Checker.{Meaning, code, function, Named, Scope, meaning-of, bound-name, fine, id-code, deref-code, valref-code, expression-code, register-scope}
+use Rattle.rules.specs.paper.Tree.{Expression}
+use Rattle.rules.specs.paper.Checker.{Meaning, code, Named, Scope, meaning-of, bound-name, fine, id-code, deref-code, valref-code, expression-code, register-scope}
 use Rattle.reader.specs.Pack.{packed-kind, packed-operand}
 use Rattle.reader.specs.Stored.{HasWord, kind-is, operand-is}
 use Rattle.checker.specs.Rows.{meaning-number, MeaningAt, code-at, function-at, Rows, no-rows, one-row, ScopeAt}

@@ -1,15 +1,15 @@
 -- Where commands, blocks, declarations and what they bind stand and end.
-use Prim.Native.Nat.{ℕ, suc, _+_, _<_, _≤_}
-use mathlib.Core.Path.{_≡_, ap, subst}
+use Prim.Native.Nat.{ℕ, _<_, _≤_}
+use mathlib.Core.Path.{_≡_, ap}
 use mathlib.Core.List.{List}
 use native.Mathlib.Omega.{arith}
-use lib.ListN.{length, getD}
+use lib.ListN.{getD}
 use Rattle.rules.specs.paper.Limits.{most-nodes}
 use Rattle.rules.specs.paper.Tree.{Expression, Formal, Command, Block, Declaration, Bound}
 use Rattle.reader.specs.Pack.{packed-end}
-use Rattle.reader.specs.Stored.{HasWord, end-is, StoredActuals, no-actuals, one-actual, StoredFormals, no-formals, one-formal, StoredCommand, assign, loop, cseq, block-of, call, StoredBlock, blk, StoredDeclaration, bind, dseq, StoredBound, plain-of, ref, abs}
+use Rattle.reader.specs.Stored.{end-is, StoredActuals, no-actuals, one-actual, StoredFormals, no-formals, one-formal, StoredCommand, assign, loop, cseq, block-of, call, StoredBlock, blk, StoredDeclaration, bind, dseq, StoredBound, plain-of, ref, abs}
 use Rattle.checker.specs.Commands.{WritesRowsFrom}
-use Rattle.checker.proofs.laws.expressions.ExpressionLaws.{expression-low, expression-on}
+use Rattle.checker.proofs.laws.expressions.ExpressionLaws.{expression-on}
 
 pub actuals-on : {words : List ℕ} {d i j : ℕ} {es : List Expression} → StoredActuals words d i j es → i ≤ j
 actuals-on no-actuals = omega arith

@@ -1,21 +1,17 @@
 -- Rows of the scope: what they hold, how they are walked, and what writing elsewhere leaves of them.
-use Prim.Native.Nat.{ℕ, zero, suc, _+_, _*_, _/_, _%_, _<_, _≤_}
+use Prim.Native.Nat.{ℕ, zero, suc, _+_, _/_, _%_, _<_, _≤_}
 use mathlib.Core.Path.{_≡_, refl, sym, ap, _∙_, subst}
 use mathlib.Core.Bool.{Bool, true, false, cond, _||_}
 use mathlib.Core.List.{List, [], _∷_, _++_}
-use mathlib.Core.Option.{Option, none, some, Option·none-ne-some}
+use mathlib.Core.Option.{none, some, Option·none-ne-some}
 use native.Mathlib.Omega.{arith}
 use lib.Dec.{T, eqb, eqb→eq, eqb-refl}
-use lib.ListN.{length, getD}
+use lib.ListN.{getD}
 use Rattle.rules.specs.paper.Limits.{names, most-nodes}
-use Rattle.rules.specs.proofs.Basics.{true-test, false-test, append-assoc}
-use Rattle.rules.specs.paper.Tree.{Formal}
-use Rattle.rules.specs.paper.Checker.{Meaning, code, function, Named, Scope, meaning-of, has-name, shares-name, register-scope}
-use Rattle.reader.specs.Stored.{HasWord, StoredFormals}
-use Rattle.reader.specs.StoredLaws.{SameNodes, same-formals}
-use Rattle.checker.specs.Rows.{rows-from, pointers-from, meaning-numbers, link-factor, row-word, meaning-number, MeaningAt, code-at, function-at, HasRow, Rows, no-rows, one-row, ScopeAt, RowFound, absent, present}
+use Rattle.rules.specs.proofs.Basics.{true-test, false-test}
+use Rattle.rules.specs.paper.Checker.{Meaning, code, Named, Scope, meaning-of, has-name, shares-name, register-scope}
+use Rattle.checker.specs.Rows.{rows-from, pointers-from, meaning-numbers, link-factor, row-word, meaning-number, MeaningAt, HasRow, Rows, no-rows, one-row, ScopeAt, RowFound, absent, present}
 use Rattle.checker.specs.Answers.{FoundAs, found-nothing, found-binding, found-register}
-use Rattle.checker.specs.declared.scope.Found.{Found}
 use Rattle.checker.specs.declared.scope.Found.the-variants.{Bound, Nothing}
 
 -- ---- A row's parts.
