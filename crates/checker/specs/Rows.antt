@@ -1,6 +1,6 @@
 -- The scope as the work words hold it: a row for each node that binds a name, from word `rows-from` on, with a link to the row before it.
 -- A row is found by a pointer, one more than its node; pointer 0 stands for the registers.
-use Prim.Native.Nat.{ℕ, suc, _+_, _*_, _<_, _≤_}
+use Prim.Native.Nat.{ℕ, suc, _+_, _-_, _*_, _<_, _≤_}
 use mathlib.Core.Path.{_≡_}
 use mathlib.Core.Bool.{Bool}
 use mathlib.Core.List.{List, [], _∷_, _++_}
@@ -16,17 +16,17 @@ abbrev pub rows-from : ℕ
 rows-from = 2000
 
 abbrev pub rows-end : ℕ
-rows-end = 4000
+rows-end = rows-from + most-nodes
 
 abbrev pub pointers-from : ℕ
-pointers-from = 1999
+pointers-from = rows-from - 1
 
 -- The numbers of meanings, which are below 16, and what a link is multiplied by in a row's word.
 abbrev pub meaning-numbers : ℕ
 meaning-numbers = 16
 
 abbrev pub link-factor : ℕ
-link-factor = 1024
+link-factor = names * meaning-numbers
 
 abbrev pub row-word : (name meaning link : ℕ) → ℕ
 row-word x m l = x + names * m + link-factor * l

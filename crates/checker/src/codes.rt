@@ -33,7 +33,7 @@ pub(crate) fn id_code(node: usize, number: usize) -> Answer
     if number < 2 {
         return Answer::Is(number);
     }
-    if number < 8 {
+    if number < CODES {
         return Answer::Is(number - 2);
     }
     Answer::Fault(11, node)
@@ -46,7 +46,7 @@ pub(crate) fn deref_code(node: usize, number: usize) -> Answer
     if number < 2 {
         return Answer::Fault(11, node);
     }
-    if number < 8 {
+    if number < CODES {
         return Answer::Is(number);
     }
     Answer::Fault(11, node)
@@ -59,7 +59,7 @@ pub(crate) fn valref_code(node: usize, number: usize) -> Answer
     if number < 4 {
         return Answer::Fault(11, node);
     }
-    if number < 8 {
+    if number < CODES {
         return Answer::Is(number - 4);
     }
     Answer::Fault(11, node)

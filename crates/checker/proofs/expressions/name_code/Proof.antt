@@ -1,4 +1,4 @@
--- An expression that is a name: its meaning first, then the rule of its kind. Assumes the contract's requires.
+-- An expression that is a name: its meaning first, then the rule of its kind.
 use native.Mathlib.Omega.{arith}
 use Rattle.checker.proofs.laws.expressions.NameLaws.{name-place, name-fault, name-id, name-deref, name-valref}
 use borrow.Author.Needs.{needs}

@@ -3,6 +3,7 @@ use Prim.Native.Nat.{ℕ, zero, suc, _-_, _<_, _≤_}
 use mathlib.Core.Path.{_≡_, refl, sym, ap, subst}
 use native.Mathlib.Omega.{arith}
 use Rattle.rules.specs.paper.Kinds.{operator-number}
+use Rattle.rules.specs.paper.Limits.{codes}
 use Rattle.rules.specs.paper.Refusals.{refusal-number}
 use Rattle.rules.specs.paper.Tree.{Operator, arithmetic, Sum, Sub, Mul, Div, Eq, order, Lt, Le, Gt, Ge, logic, And, Or}
 use Rattle.rules.specs.paper.Checker.{Meaning, id-code, deref-code, valref-code, integers-give, equals-give, truths-give, operator-code, truth-only}
@@ -15,16 +16,16 @@ use Rattle.checker.specs.declared.codes.Answer.the-variants.{Is, Fault}
 under-two : {c : ℕ} → suc (suc c) < 2 → ⊥
 under-two h = omega arith
 
-over-eight : 8 < 2 → ⊥
-over-eight h = omega arith
+over-codes : codes < 2 → ⊥
+over-codes h = omega arith
 
 pub id-plain : (p n : ℕ) → n < 2 → (m : Meaning) → Numbered n m → Is n ≡ code-answer (id-code p m)
 id-plain p zero h m (numbered-code l) = refl
 id-plain p (suc zero) h m (numbered-code l) = refl
 id-plain p (suc (suc n)) h m (numbered-code l) = absurd (under-two h)
-id-plain p n h m numbered-function = absurd (over-eight h)
+id-plain p n h m numbered-function = absurd (over-codes h)
 
-pub id-location : (p n : ℕ) → 2 ≤ n → n < 8 → (m : Meaning) → Numbered n m → Is (n - 2) ≡ code-answer (id-code p m)
+pub id-location : (p n : ℕ) → 2 ≤ n → n < codes → (m : Meaning) → Numbered n m → Is (n - 2) ≡ code-answer (id-code p m)
 id-location p zero g h m (numbered-code l) = absurd (low g)
   where
     low : 2 ≤ 0 → ⊥
@@ -39,14 +40,14 @@ id-location p (suc (suc n)) g h m (numbered-code l) = ap Is (two-less n)
     two-less n = omega arith
 id-location p n g h m numbered-function = absurd (high h)
   where
-    high : 8 < 8 → ⊥
+    high : codes < codes → ⊥
     high h = omega arith
 
-pub id-function : (p n : ℕ) → 8 ≤ n → (m : Meaning) → Numbered n m → Fault 11 p ≡ code-answer (id-code p m)
+pub id-function : (p n : ℕ) → codes ≤ n → (m : Meaning) → Numbered n m → Fault 11 p ≡ code-answer (id-code p m)
 unfolding refusal-number
 id-function p n h m (numbered-code l) = absurd (both h l)
   where
-    both : {c : ℕ} → 8 ≤ c → c < 8 → ⊥
+    both : {c : ℕ} → codes ≤ c → c < codes → ⊥
     both h l = omega arith
 id-function p n h m numbered-function = refl
 
@@ -57,7 +58,7 @@ deref-plain p (suc zero) h m (numbered-code l) = refl
 deref-plain p (suc (suc n)) h m (numbered-code l) = absurd (under-two h)
 deref-plain p n h m numbered-function = refl
 
-pub deref-location : (p n : ℕ) → 2 ≤ n → n < 8 → (m : Meaning) → Numbered n m → Is n ≡ code-answer (deref-code p m)
+pub deref-location : (p n : ℕ) → 2 ≤ n → n < codes → (m : Meaning) → Numbered n m → Is n ≡ code-answer (deref-code p m)
 deref-location p zero g h m (numbered-code l) = absurd (low g)
   where
     low : 2 ≤ 0 → ⊥
@@ -69,14 +70,14 @@ deref-location p (suc zero) g h m (numbered-code l) = absurd (low g)
 deref-location p (suc (suc n)) g h m (numbered-code l) = refl
 deref-location p n g h m numbered-function = absurd (high h)
   where
-    high : 8 < 8 → ⊥
+    high : codes < codes → ⊥
     high h = omega arith
 
-pub deref-function : (p n : ℕ) → 8 ≤ n → (m : Meaning) → Numbered n m → Fault 11 p ≡ code-answer (deref-code p m)
+pub deref-function : (p n : ℕ) → codes ≤ n → (m : Meaning) → Numbered n m → Fault 11 p ≡ code-answer (deref-code p m)
 unfolding refusal-number
 deref-function p n h m (numbered-code l) = absurd (both h l)
   where
-    both : {c : ℕ} → 8 ≤ c → c < 8 → ⊥
+    both : {c : ℕ} → codes ≤ c → c < codes → ⊥
     both h l = omega arith
 deref-function p n h m numbered-function = refl
 
@@ -92,7 +93,7 @@ valref-low p (suc (suc (suc (suc n)))) h m (numbered-code l) = absurd (under-fou
     under-four h = omega arith
 valref-low p n h m numbered-function = refl
 
-pub valref-location : (p n : ℕ) → 4 ≤ n → n < 8 → (m : Meaning) → Numbered n m → Is (n - 4) ≡ code-answer (valref-code p m)
+pub valref-location : (p n : ℕ) → 4 ≤ n → n < codes → (m : Meaning) → Numbered n m → Is (n - 4) ≡ code-answer (valref-code p m)
 valref-location p zero g h m (numbered-code l) = absurd (low g)
   where
     low : 4 ≤ 0 → ⊥
@@ -115,14 +116,14 @@ valref-location p (suc (suc (suc (suc n)))) g h m (numbered-code l) = ap Is (fou
     four-less n = omega arith
 valref-location p n g h m numbered-function = absurd (high h)
   where
-    high : 8 < 8 → ⊥
+    high : codes < codes → ⊥
     high h = omega arith
 
-pub valref-function : (p n : ℕ) → 8 ≤ n → (m : Meaning) → Numbered n m → Fault 11 p ≡ code-answer (valref-code p m)
+pub valref-function : (p n : ℕ) → codes ≤ n → (m : Meaning) → Numbered n m → Fault 11 p ≡ code-answer (valref-code p m)
 unfolding refusal-number
 valref-function p n h m (numbered-code l) = absurd (both h l)
   where
-    both : {c : ℕ} → 8 ≤ c → c < 8 → ⊥
+    both : {c : ℕ} → codes ≤ c → c < codes → ⊥
     both h l = omega arith
 valref-function p n h m numbered-function = refl
 

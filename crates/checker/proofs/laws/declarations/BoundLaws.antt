@@ -5,13 +5,13 @@ use mathlib.Core.Path.{_≡_, refl, sym, _∙_, subst}
 use mathlib.Core.List.{List, [], _∷_, _++_}
 use native.Mathlib.Omega.{arith}
 use lib.ListN.{length, getD}
-use Rattle.rules.specs.paper.Limits.{most-nodes}
+use Rattle.rules.specs.paper.Limits.{codes, most-nodes}
 use Rattle.rules.specs.paper.Refusals.{refusal-number}
 use Rattle.rules.specs.paper.Tree.{Expression, Formal, Block, Bound, plain, Ref, Abs}
 use Rattle.rules.specs.paper.Checker.{Meaning, code, function, Scope, Judged, fault, fine, _>>=_, Fine, expression-code, distinct, with-formals, ref-code, block-ok, bound-means}
 use Rattle.reader.specs.Pack.{packed-kind, packed-operand}
 use Rattle.reader.specs.Stored.{HasWord, kind-is, operand-is, StoredExpression, num, boo, id, deref, valref, binary, negation, StoredFormals, no-formals, one-formal, StoredBlock, blk, StoredBound, plain-of, ref, abs}
-use Rattle.checker.specs.Rows.{meaning-numbers, meaning-number, MeaningAt, code-at, function-at, Rows, no-rows, ScopeAt}
+use Rattle.checker.specs.Rows.{function-number, meaning-numbers, meaning-number, MeaningAt, code-at, function-at, Rows, no-rows, ScopeAt}
 use Rattle.checker.specs.Answers.{code-answer, fine-answer, meaning-answer, ExpressionAt, ExpressionJudgedAt}
 use Rattle.checker.specs.Commands.{formals-give, FormalsJudgedAt, WritesRowsFrom, FormalsAt, BlockAt, BoundAt, NamesFrom, names-from, names-fault, BlockJudgedAt, BoundJudgedAt}
 use Rattle.checker.specs.declared.codes.Answer.{Answer}
@@ -26,7 +26,7 @@ use Rattle.checker.proofs.laws.expressions.CodeRangeLaws.{code-low}
 -- ---- A meaning that was found fits into the row of the node before.
 
 module _ {words : List ℕ} {node : ℕ} where
-  meaning-code : (c : ℕ) (m : Meaning) → c < 8 → fine (code c) ≡ fine m → MeaningAt words node m
+  meaning-code : (c : ℕ) (m : Meaning) → c < codes → fine (code c) ≡ fine m → MeaningAt words node m
   meaning-code c m l q = subst (MeaningAt words node) (same-fine (code c) m q) (code-at l)
 
   meaning-ref : (p c : ℕ) (m : Meaning) → ref-code p c ≡ fine m → MeaningAt words node m
@@ -252,8 +252,8 @@ module _ (words : List ℕ) (registers scope node which : ℕ) (known : which �
             pub abs-body-fault : (x p : ℕ) → inside ≡ Fault x p → Means inside
             abs-body-fault x p q = abs-means inside (λ fs j e. then-fault (λ done. 0) meaning-number j (λ done. fine (function fs)) inside x p e q)
 
-            pub abs-body-fine : (c : ℕ) → inside ≡ Is c → Means (Is 8)
-            abs-body-fine c q = abs-means (Is 8) (λ fs j e. then-fine (λ done. 0) meaning-number j (λ done. fine (function fs)) inside (Is 8) c e q (λ a k z. refl))
+            pub abs-body-fine : (c : ℕ) → inside ≡ Is c → Means (Is function-number)
+            abs-body-fine c q = abs-means (Is function-number) (λ fs j e. then-fine (λ done. 0) meaning-number j (λ done. fine (function fs)) inside (Is function-number) c e q (λ a k z. refl))
 
             pub abs-kept : (words₂ : List ℕ) → WritesRowsFrom words₁ words₂ (node + 1 + count) → WritesRowsFrom words words₂ node
             abs-kept words₂ kept₂ = kept-then (kept-lower kept₁ (omega arith)) kept₂ (omega arith)

@@ -12,7 +12,7 @@ use Rattle.rules.specs.paper.Tree.{Declaration, Bind, DSeq, Bound}
 use Rattle.rules.specs.paper.Checker.{Meaning, Scope, Judged, fault, fine, _>>=_, shares-name, declaration-gives, bound-means}
 use Rattle.reader.specs.Pack.{packed-kind, packed-end, packed-operand}
 use Rattle.reader.specs.Stored.{HasWord, kind-is, operand-is, StoredDeclaration, bind, dseq, StoredBound}
-use Rattle.checker.specs.Rows.{rows-from, rows-end, row-word, meaning-number, MeaningAt, HasRow, Rows, no-rows, one-row, ScopeAt}
+use Rattle.checker.specs.Rows.{meaning-numbers, rows-from, rows-end, row-word, meaning-number, MeaningAt, HasRow, Rows, no-rows, one-row, ScopeAt}
 use Rattle.checker.specs.Answers.{meaning-answer}
 use Rattle.checker.specs.Commands.{WritesRowsFrom, BoundAt, DeclarationAt, NamesFrom, names-from, names-fault, DeclarationJudgedAt, BoundJudgedAt}
 use Rattle.checker.specs.declared.codes.Answer.{Answer}
@@ -248,7 +248,7 @@ module _ (words : List ℕ) (registers scope tail node which : ℕ) (known : whi
   pub bind-low : ((d : Declaration) × (next : ℕ) × DeclarationAt words node next d) → node + 1 < most-nodes
   bind-low d = bound-low (bind-child d .1)
 
-  pub bind-name : (name : ℕ) → name ≡ packed-operand (getD words node 0) → ((d : Declaration) × (next : ℕ) × DeclarationAt words node next d) → name < 64
+  pub bind-name : (name : ℕ) → name ≡ packed-operand (getD words node 0) → ((d : Declaration) × (next : ℕ) × DeclarationAt words node next d) → name < names
   bind-name name named d =
       let a = bind-there (d .0) (d .1) (d .2) in
       omega (arith, named, operand-is (a .word) (omega arith), a .name-low)
@@ -266,7 +266,7 @@ module _ (words : List ℕ) (registers scope tail node which : ℕ) (known : whi
         by (fine m) f g = absurd (two-answers meant (meaning-number m) x p g q)
 
     module _ (number : ℕ) (got : meant ≡ Is number) where
-      pub bind-number : ((Γ : Scope) × ScopeAt words registers scope Γ) → ((d : Declaration) × (next : ℕ) × DeclarationAt words node next d) → number < 16
+      pub bind-number : ((Γ : Scope) × ScopeAt words registers scope Γ) → ((d : Declaration) × (next : ℕ) × DeclarationAt words node next d) → number < meaning-numbers
       bind-number s d =
           let b = bind-child d in
           let m = means-inverse meant number (bound-means (s .0) (b .0)) (means (b .0) (s .0) (b .1) (s .1)) got in

@@ -11,7 +11,7 @@ use Rattle.rules.specs.paper.Tree.{Formal}
 use Rattle.rules.specs.paper.Checker.{code, Named, Scope, fault, has-name, distinct, with-formals}
 use Rattle.reader.specs.Pack.{packed-operand}
 use Rattle.reader.specs.Stored.{HasWord, StoredFormals, no-formals, one-formal, operand-is}
-use Rattle.checker.specs.Rows.{rows-from, rows-end, row-word, code-at, Rows, one-row, RowFound}
+use Rattle.checker.specs.Rows.{meaning-numbers, rows-from, rows-end, row-word, code-at, Rows, one-row, RowFound}
 use Rattle.checker.specs.Commands.{WritesRowsFrom, FormalsAt, NamesFrom, names-from, names-fault, formals-give, FormalsJudgedAt}
 use Rattle.checker.specs.declared.codes.Answer.{Answer}
 use Rattle.checker.specs.declared.codes.Answer.the-variants.{Is, Fault}
@@ -55,7 +55,7 @@ first-formal {words} {count = count} a f = by (a .stored) (a .number) f
         fewer n e = omega arith
 
 module _ {words : List ℕ} {node count : ℕ} {fs : List Formal} (o : FirstFormal words node count fs) (w : ℕ) (is : w ≡ packed-operand (getD words node 0)) where
-  formal-word : w ≡ o .first .name + 64 * o .first .code
+  formal-word : w ≡ o .first .name + names * o .first .code
   formal-word = is ∙ operand-is (o .word) (omega arith)
 
   pub formal-name : w % names ≡ o .first .name
@@ -67,7 +67,7 @@ module _ {words : List ℕ} {node count : ℕ} {fs : List Formal} (o : FirstForm
 pub formal-node-low : (words : List ℕ) (node count : ℕ) → ((fs : List Formal) × FormalsAt words node count fs) → ¬ (count ≡ 0) → node < most-nodes
 formal-node-low words node count e f = first-formal (e .1) f .word .place-low
 
-pub formal-code-low : (words : List ℕ) (node count w : ℕ) → ((fs : List Formal) × FormalsAt words node count fs) → ¬ (count ≡ 0) → w ≡ packed-operand (getD words node 0) → w / names < 16
+pub formal-code-low : (words : List ℕ) (node count w : ℕ) → ((fs : List Formal) × FormalsAt words node count fs) → ¬ (count ≡ 0) → w ≡ packed-operand (getD words node 0) → w / names < meaning-numbers
 formal-code-low words node count w e f is =
     let o = first-formal (e .1) f in
     omega (arith, formal-code o w is, o .code-low)

@@ -1,4 +1,4 @@
--- Every expression's code is a type code: below 8.
+-- Every expression's code is a type code.
 use Prim.Native.Nat.{ℕ, zero, suc, _<_}
 use mathlib.Core.Path.{_≡_, refl, subst}
 use mathlib.Core.List.{List}

@@ -1,4 +1,4 @@
--- The newest row of a name: so far the name has not been met. Assumes the contract's requires.
+-- The newest row of a name: so far the name has not been met.
 use native.Mathlib.Omega.{arith}
 use Rattle.checker.proofs.laws.scope.RowLaws.{Walked, walk-start, walk-on, walk-less, walk-low, walk-found, walk-absent}
 use Rattle.checker.proofs.scope.find_row.Statement.{statement}

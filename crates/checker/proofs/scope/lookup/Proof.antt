@@ -1,4 +1,4 @@
--- A name's meaning: the newest row, else a register. Assumes the contract's requires.
+-- A name's meaning: the newest row, else a register.
 use native.Mathlib.Omega.{arith}
 use Rattle.checker.proofs.laws.scope.RowLaws.{lookup-register, lookup-nothing, lookup-row, found-low}
 use borrow.Author.Needs.{needs}

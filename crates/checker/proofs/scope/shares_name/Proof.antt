@@ -1,4 +1,4 @@
--- A name in two lots of rows: so far none was met. Assumes the contract's requires.
+-- A name in two lots of rows: so far none was met.
 use native.Mathlib.Omega.{arith}
 use Rattle.checker.proofs.laws.scope.RowLaws.{Compared, compare-start, compare-shared, compare-on, compare-none, compare-low, compare-less}
 use Rattle.checker.proofs.scope.shares_name.Statement.{statement}
