@@ -1,17 +1,1 @@
-mod ActualLaws
-mod AnswerLaws
-mod AssignLaws
-mod BlockLaws
-mod BoundLaws
-mod CallLaws
-mod CodeLaws
-mod CommandLaws
-mod DeclarationLaws
-mod ExpressionLaws
-mod FormalLaws
-mod KeptLaws
-mod NameLaws
-mod PlaceLaws
-mod RootLaws
-mod RowLaws
-mod StandingLaws
+pub mod laws

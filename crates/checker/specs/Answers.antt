@@ -1,24 +1,28 @@
 -- What the checker's functions answer, by the definitions of the rules.
-use Prim.Native.Nat.{ℕ, suc, _+_, _<_, _≤_}
+use Prim.Native.Nat.{ℕ, suc, _<_}
 use mathlib.Core.Path.{_≡_}
 use mathlib.Core.List.{List}
 use mathlib.Core.Option.{Option, none, some}
 use Rattle.rules.specs.paper.Refusals.{refusal-number}
-use Rattle.rules.specs.paper.Limits.{names}
+use Rattle.rules.specs.paper.Limits.{names, codes}
 use Rattle.rules.specs.paper.Tree.{Formal, Expression, Id, DeRef, ValRef}
-use Rattle.rules.specs.paper.Checker.{Meaning, code, function, Scope, Fine, Judged, fault, fine, expression-code}
+use Rattle.rules.specs.paper.Checker.{Meaning, code, function, Scope, Fine, Judged, fault, fine, meaning-of, bound-name, expression-code}
 use Rattle.reader.specs.Stored.{HasWord, StoredExpression}
-use Rattle.checker.specs.Rows.{meaning-number, MeaningAt, ScopeAt}
-use Rattle.checker.specs.declared.Found.{Found}
-use Rattle.checker.specs.declared.Found.the-variants.{Bound, Nothing}
-use Rattle.checker.specs.declared.Answer.{Answer}
-use Rattle.checker.specs.declared.Answer.the-variants.{Is, Fault}
+use Rattle.checker.specs.Rows.{function-number, meaning-number, MeaningAt, ScopeAt}
+use Rattle.checker.specs.declared.scope.Found.{Found}
+use Rattle.checker.specs.declared.scope.Found.the-variants.{Bound, Nothing}
+use Rattle.checker.specs.declared.codes.Answer.{Answer}
+use Rattle.checker.specs.declared.codes.Answer.the-variants.{Is, Fault}
 
 -- A look-up answers the binding, by the number of its meaning and its pointer, or nothing.
 pub data FoundAs (words : List ℕ) : Option Meaning → Found → Type 0 where
   found-nothing : FoundAs words none Nothing
   found-binding : {m : Meaning} {k : ℕ} → MeaningAt words k m → FoundAs words (some m) (Bound (meaning-number m) (suc k))
   found-register : FoundAs words (some (code 2)) (Bound 2 0)
+
+-- What the look-up of a name finds in the scope at a pointer.
+abbrev pub NameFoundAt : List ℕ → (registers scope name : ℕ) → Found → Type 0
+NameFoundAt words registers scope name r = (Γ : Scope) → ScopeAt words registers scope Γ → FoundAs words (meaning-of name Γ) r
 
 -- A judgement answers a number for what was asked, or the refusal's number and the node.
 abbrev pub answer : {A : Type 0} → (A → ℕ) → Judged A → Answer
@@ -34,16 +38,24 @@ fine-answer = answer (λ done. 0)
 abbrev pub meaning-answer : Judged Meaning → Answer
 meaning-answer = answer meaning-number
 
+-- The number of a name's meaning, or 10 at the node.
+abbrev pub MeaningJudgedAt : List ℕ → (registers scope node name : ℕ) → Answer → Type 0
+MeaningJudgedAt words registers scope node name r = (Γ : Scope) → ScopeAt words registers scope Γ → r ≡ meaning-answer (bound-name node (meaning-of name Γ))
+
 -- Which meaning a number stands for; of a function, it leaves open which.
 pub data Numbered : ℕ → Meaning → Type 0 where
-  numbered-code : {c : ℕ} → c < 8 → Numbered c (code c)
-  numbered-function : {fs : List Formal} → Numbered 8 (function fs)
+  numbered-code : {c : ℕ} → c < codes → Numbered c (code c)
+  numbered-function : {fs : List Formal} → Numbered function-number (function fs)
 
 -- An expression that is a name.
 pub data NameAt (words : List ℕ) (node : ℕ) : Expression → Type 0 where
   id-at : {x : ℕ} → x < names → HasWord words node 3 x (suc node) → NameAt words node (Id node x)
   deref-at : {x : ℕ} → x < names → HasWord words node 16 x (suc node) → NameAt words node (DeRef node x)
   valref-at : {x : ℕ} → x < names → HasWord words node 17 x (suc node) → NameAt words node (ValRef node x)
+
+-- The answer is the code of the name that stands there, or its fault.
+abbrev pub NameJudgedAt : List ℕ → (registers scope node : ℕ) → Answer → Type 0
+NameJudgedAt words registers scope node r = (e : Expression) (Γ : Scope) → NameAt words node e → ScopeAt words registers scope Γ → r ≡ code-answer (expression-code Γ e)
 
 -- An expression stands at a node, to some depth and up to some node.
 pub record ExpressionAt (words : List ℕ) (node : ℕ) (e : Expression) : Type 0 where
@@ -52,5 +64,5 @@ pub record ExpressionAt (words : List ℕ) (node : ℕ) (e : Expression) : Type 
   pub stored : StoredExpression words depth node next e
 
 -- The answer is the code of the expression that stands there, or its first fault.
-abbrev pub CodeAt : List ℕ → (registers scope node : ℕ) → Answer → Type 0
-CodeAt words registers scope node r = (e : Expression) (Γ : Scope) → ExpressionAt words node e → ScopeAt words registers scope Γ → r ≡ code-answer (expression-code Γ e)
+abbrev pub ExpressionJudgedAt : List ℕ → (registers scope node : ℕ) → Answer → Type 0
+ExpressionJudgedAt words registers scope node r = (e : Expression) (Γ : Scope) → ExpressionAt words node e → ScopeAt words registers scope Γ → r ≡ code-answer (expression-code Γ e)

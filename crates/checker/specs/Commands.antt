@@ -1,25 +1,24 @@
 -- What the checker's functions answer about commands, declarations and what they bind, and which work words they leave alone.
-use Prim.Native.Nat.{ℕ, suc, _+_, _*_, _<_, _≤_}
+use Prim.Native.Nat.{ℕ, _+_, _*_, _<_, _≤_}
 use mathlib.Core.Path.{_≡_}
-use mathlib.Core.List.{List, []}
+use mathlib.Core.List.{List}
 use lib.ListN.{length, getD}
 use Rattle.rules.specs.paper.Refusals.{Refusal, refusal-number}
-use Rattle.rules.specs.paper.Limits.{names}
+use Rattle.rules.specs.paper.Limits.{names, most-parameters}
 use Rattle.rules.specs.paper.Tree.{Formal, Expression, Command, Assign, Call, Block, Declaration, Bound, Root}
-use Rattle.rules.specs.paper.Checker.{Meaning, Scope, Judged, fault, fine, Fine, ok, same-codes, distinct, with-formals, expression-codes, command-ok, block-ok, declaration-gives, bound-means, Passed, expression-of-code, a-command, register-scope, root-is}
-use Rattle.reader.specs.Stored.{HasWord, StoredExpression, StoredActuals, StoredFormals, StoredCommand, StoredBlock, StoredDeclaration, StoredBound, RootAt}
-use Rattle.checker.specs.Rows.{Rows, ScopeAt}
+use Rattle.rules.specs.paper.Checker.{Scope, Judged, fault, fine, _>>=_, same-codes, distinct, with-formals, expression-codes, command-ok, block-ok, declaration-gives, bound-means, Passed, expression-of-code, a-command, register-scope, root-is}
+use Rattle.reader.specs.Stored.{HasWord, StoredActuals, StoredFormals, StoredCommand, StoredBlock, StoredDeclaration, StoredBound, RootAt}
+use Rattle.checker.specs.Rows.{rows-from, rows-end, Rows, ScopeAt}
 use Rattle.checker.specs.Answers.{answer, fine-answer, meaning-answer, ExpressionAt}
-use Rattle.checker.specs.declared.Answer.{Answer}
-use Rattle.checker.specs.declared.Answer.the-variants.{Is, Fault}
-use Rattle.checker.specs.declared.Verdict.{Verdict}
-use Rattle.checker.specs.declared.Verdict.the-variants as Verdicts
+use Rattle.checker.specs.Packing.{packed-codes, AllCodes}
+use Rattle.checker.specs.declared.codes.Answer.{Answer}
+use Rattle.checker.specs.declared.codes.Answer.the-variants.{Is, Fault}
 
--- The words below a node's row, and those from 4,000 on, are as they were.
-pub record Kept (words words′ : List ℕ) (node : ℕ) : Type 0 where
+-- Only rows of nodes from this one on are written: the words below its row and those from `rows-end` on are as they were.
+pub record WritesRowsFrom (words words′ : List ℕ) (node : ℕ) : Type 0 where
   pub same-length : length words′ ≡ length words
-  pub same-below : (i : ℕ) → i < 2000 + node → getD words′ i 0 ≡ getD words i 0
-  pub same-beyond : (i : ℕ) → 4000 ≤ i → getD words′ i 0 ≡ getD words i 0
+  pub same-below : (i : ℕ) → i < rows-from + node → getD words′ i 0 ≡ getD words i 0
+  pub same-beyond : (i : ℕ) → rows-end ≤ i → getD words′ i 0 ≡ getD words i 0
 
 -- Some expressions, one after the other from a node on.
 pub record ActualsAt (words : List ℕ) (node count : ℕ) (es : List Expression) : Type 0 where
@@ -44,6 +43,7 @@ pub record CallAt (words : List ℕ) (node x : ℕ) (es : List Expression) : Typ
   pub end : ℕ
   pub count : ℕ
   pub name-low : x < names
+  pub few : count ≤ most-parameters
   pub word : HasWord words node 24 (x + names * count) end
   pub actuals : ActualsAt words (node + 1) count es
 
@@ -66,23 +66,22 @@ pub record BoundAt (words : List ℕ) (node : ℕ) (b : Bound) : Type 0 where
   pub next : ℕ
   pub stored : StoredBound words depth node next b
 
--- The expressions' codes are all there, or the first fault.
-abbrev pub CodesAt : List ℕ → (registers scope node count : ℕ) → Answer → Type 0
-CodesAt words registers scope node count r =
-    (es : List Expression) (Γ : Scope) → ActualsAt words node count es → ScopeAt words registers scope Γ → r ≡ answer (λ cs. 0) (expression-codes Γ es)
+-- The expressions' codes, packed, or the first fault.
+abbrev pub ActualsJudgedAt : List ℕ → (registers scope node count : ℕ) → Answer → Type 0
+ActualsJudgedAt words registers scope node count r =
+    (es : List Expression) (Γ : Scope) → ActualsAt words node count es → ScopeAt words registers scope Γ → r ≡ answer packed-codes (expression-codes Γ es)
 
--- Whether the expressions' codes are those of the Formals.
-abbrev pub AgreesAt : List ℕ → (registers scope place node formal count : ℕ) → Answer → Type 0
-AgreesAt words registers scope place node formal count r =
-    (es : List Expression) (fs : List Formal) (cs : List ℕ) (Γ : Scope) → ActualsAt words node count es → FormalsAt words formal count fs → ScopeAt words registers scope Γ →
-    expression-codes Γ es ≡ fine cs → r ≡ fine-answer (same-codes place fs cs)
+-- Whether the codes that are given packed are those of the Formals.
+abbrev pub AgreementJudgedAt : List ℕ → (place given formal count : ℕ) → Answer → Type 0
+AgreementJudgedAt words place given formal count r =
+    (fs : List Formal) (cs : List ℕ) → FormalsAt words formal count fs → length cs ≡ count → AllCodes cs → given ≡ packed-codes cs → r ≡ fine-answer (same-codes place fs cs)
 
-abbrev pub CallsAt : List ℕ → (registers scope node : ℕ) → Answer → Type 0
-CallsAt words registers scope node r =
+abbrev pub CallJudgedAt : List ℕ → (registers scope node : ℕ) → Answer → Type 0
+CallJudgedAt words registers scope node r =
     (x : ℕ) (es : List Expression) (Γ : Scope) → CallAt words node x es → ScopeAt words registers scope Γ → r ≡ fine-answer (command-ok Γ (Call node x es))
 
-abbrev pub AssignsAt : List ℕ → (registers scope node : ℕ) → Answer → Type 0
-AssignsAt words registers scope node r =
+abbrev pub AssignJudgedAt : List ℕ → (registers scope node : ℕ) → Answer → Type 0
+AssignJudgedAt words registers scope node r =
     (x : ℕ) (e : Expression) (Γ : Scope) → AssignAt words node x e → ScopeAt words registers scope Γ → r ≡ fine-answer (command-ok Γ (Assign node x e))
 
 -- A pointer at the newest of some names, down to a pointer before them and below a node; or the first fault.
@@ -90,28 +89,41 @@ pub data NamesFrom (words : List ℕ) (to node : ℕ) : Judged Scope → Answer 
   names-from : {t : ℕ} {Δ : Scope} → Rows words t to Δ → t ≤ node → NamesFrom words to node (fine Δ) (Is t)
   names-fault : {r : Refusal} {p : ℕ} → NamesFrom words to node (fault r p) (Fault (refusal-number r) p)
 
--- The command that stands there is fine, or its first fault.
-abbrev pub CommandFineAt : List ℕ → (registers scope node : ℕ) → Answer → Type 0
-CommandFineAt words registers scope node r = (c : Command) (Γ : Scope) → CommandAt words node c → ScopeAt words registers scope Γ → r ≡ fine-answer (command-ok Γ c)
+-- The names that Formals give on top of those seen before them; a name that comes twice is refused.
+abbrev pub formals-give : Scope → List Formal → Judged Scope
+formals-give seen fs = distinct seen fs >>= λ done. fine (with-formals fs seen)
 
-abbrev pub BlockFineAt : List ℕ → (registers scope node : ℕ) → Answer → Type 0
-BlockFineAt words registers scope node r = (b : Block) (Γ : Scope) → BlockAt words node b → ScopeAt words registers scope Γ → r ≡ fine-answer (block-ok Γ b)
+abbrev pub FormalsJudgedAt : (words words′ : List ℕ) (scope tail node count : ℕ) → Answer → Type 0
+FormalsJudgedAt words words′ scope tail node count r =
+    (fs : List Formal) (seen : Scope) → FormalsAt words node count fs → Rows words tail scope seen → NamesFrom words′ scope (node + count) (formals-give seen fs) r
+
+-- The command that stands there is fine, or its first fault.
+abbrev pub CommandJudgedAt : List ℕ → (registers scope node : ℕ) → Answer → Type 0
+CommandJudgedAt words registers scope node r = (c : Command) (Γ : Scope) → CommandAt words node c → ScopeAt words registers scope Γ → r ≡ fine-answer (command-ok Γ c)
+
+abbrev pub BlockJudgedAt : List ℕ → (registers scope node : ℕ) → Answer → Type 0
+BlockJudgedAt words registers scope node r = (b : Block) (Γ : Scope) → BlockAt words node b → ScopeAt words registers scope Γ → r ≡ fine-answer (block-ok Γ b)
 
 -- The names that the declaration gives, with rows from the answer's pointer to `tail`; or its first fault.
-abbrev pub DeclaresAt : (words words′ : List ℕ) (registers scope tail node : ℕ) → Answer → Type 0
-DeclaresAt words words′ registers scope tail node r =
+abbrev pub DeclarationJudgedAt : (words words′ : List ℕ) (registers scope tail node : ℕ) → Answer → Type 0
+DeclarationJudgedAt words words′ registers scope tail node r =
     (d : Declaration) (next : ℕ) (Γ : Scope) → DeclarationAt words node next d → ScopeAt words registers scope Γ → NamesFrom words′ tail next (declaration-gives Γ d) r
 
 -- The number of what the Bind's child means, or its first fault.
-abbrev pub MeansAt : List ℕ → (registers scope node : ℕ) → Answer → Type 0
-MeansAt words registers scope node r = (b : Bound) (Γ : Scope) → BoundAt words node b → ScopeAt words registers scope Γ → r ≡ meaning-answer (bound-means Γ b)
+abbrev pub BoundJudgedAt : List ℕ → (registers scope node : ℕ) → Answer → Type 0
+BoundJudgedAt words registers scope node r = (b : Bound) (Γ : Scope) → BoundAt words node b → ScopeAt words registers scope Γ → r ≡ meaning-answer (bound-means Γ b)
 
--- The answer for a whole tree: what its root is, or the refusal's number and the node.
-abbrev pub verdict : Judged Passed → Verdict
-verdict (fault x p) = Verdicts.Fault (refusal-number x) p
-verdict (fine (expression-of-code c)) = Verdicts.Code c
-verdict (fine a-command) = Verdicts.Command
+-- The number of what a root is: the code of an expression, and for a command one that is no code.
+abbrev pub command-number : ℕ
+command-number = 8
+
+abbrev pub root-number : Passed → ℕ
+root-number (expression-of-code c) = c
+root-number a-command = command-number
+
+abbrev pub root-answer : Judged Passed → Answer
+root-answer = answer root-number
 
 -- What the root is, with the registers in scope; or its first fault.
-abbrev pub PassesAs : List ℕ → (registers : ℕ) → Verdict → Type 0
-PassesAs words registers r = (t : Root) → RootAt words t → r ≡ verdict (root-is (register-scope registers) t)
+abbrev pub RootJudgedAt : List ℕ → (registers : ℕ) → Answer → Type 0
+RootJudgedAt words registers r = (t : Root) → RootAt words t → r ≡ root-answer (root-is (register-scope registers) t)

@@ -1,3 +1,4 @@
 pub mod Rows
 pub mod Answers
+pub mod Packing
 pub mod Commands

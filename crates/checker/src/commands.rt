@@ -1,66 +1,40 @@
 // Commands, declarations and what they bind: scope and types.
-ghost use mathlib.Core.Path.{_≡_};
 ghost use mathlib.Core.List.{List};
-ghost use Prim.Native.Nat.{ℕ, _<_, _≤_};
+ghost use Prim.Native.Nat.{ℕ, _≤_};
 ghost use lib.ListN.{length};
+ghost use Rattle.rules.specs.paper.Limits.{most-parameters};
 ghost use Rattle.rules.specs.paper.Tree.{Expression, Formal, Command, Block, Declaration, Bound};
-ghost use Rattle.rules.specs.paper.Checker.{Scope, Meaning, assignable, same-code, ref-code};
-ghost use Rattle.checker.specs.Rows.{ScopeAt};
-ghost use Rattle.checker.specs.Answers.{code-answer, fine-answer, meaning-answer, Numbered};
-ghost use Rattle.checker.specs.Commands.{ActualsAt, FormalsAt, AssignAt, AssignsAt, CallAt, CallsAt, CodesAt, AgreesAt, Kept, CommandAt, BlockAt, DeclarationAt, BoundAt, CommandFineAt, BlockFineAt, DeclaresAt, MeansAt};
-use crate::Answer;
-use crate::Found;
-use crate::anew;
-use crate::expression;
+ghost use Rattle.rules.specs.paper.Checker.{Scope};
+ghost use Rattle.checker.specs.Rows.{rows-end, ScopeAt};
+ghost use Rattle.checker.specs.Commands.{WritesRowsFrom, ActualsAt, FormalsAt, AssignAt, CallAt, CommandAt, BlockAt, DeclarationAt, BoundAt, ActualsJudgedAt, AgreementJudgedAt, AssignJudgedAt, CallJudgedAt, CommandJudgedAt, BlockJudgedAt, DeclarationJudgedAt, BoundJudgedAt};
+use crate::codes::Answer;
+use crate::codes::CODES;
+use crate::codes::anew;
+use crate::codes::assigned_code;
+use crate::codes::location_code;
+use crate::codes::same;
+use crate::codes::truth;
+use crate::expressions::expression;
 use crate::formals::formals;
-use crate::formals::row_word;
-use crate::lookup;
-use crate::meaning;
-use crate::shares_name;
-use crate::truth;
+use crate::scope::FUNCTION;
+use crate::scope::Found;
+use crate::scope::NAMES;
+use crate::scope::ROWS;
+use crate::scope::lookup;
+use crate::scope::meaning;
+use crate::scope::row_word;
+use crate::scope::shares_name;
 use reader::end;
 use reader::kind;
+use reader::kinds;
 use reader::operand;
-
-// Assign: the code of the value that a name of this meaning takes.
-fn assigned_code(node: usize, number: usize) -> Answer
-    ensures { λ r. ⌜ ((m : Meaning) → Numbered number m → r ≡ code-answer (assignable node m)) ⌝ }
-{
-    if number == 2 {
-        return Answer::Is(0);
-    }
-    if number == 3 {
-        return Answer::Is(1);
-    }
-    Answer::Fault(13, node)
-}
-
-// The codes have to be the same.
-fn same(node: usize, wanted: usize, given: usize) -> Answer
-    ensures { λ r. ⌜ r ≡ fine-answer (same-code node wanted given) ⌝ }
-{
-    if wanted != given {
-        return Answer::Fault(11, node);
-    }
-    Answer::Is(0)
-}
-
-// Ref: the code of a location for a value of this code.
-fn location_code(node: usize, code: usize) -> Answer
-    ensures { λ r. ⌜ r ≡ meaning-answer (ref-code node code) ⌝ }
-{
-    if 5 < code {
-        return Answer::Fault(11, node);
-    }
-    Answer::Is(code + 2)
-}
 
 // Assign.
 fn assignment(work: &[u64], registers: usize, scope: usize, node: usize) -> Answer
-    requires { ⌜ 4000 ≤ length (now work) ⌝ }
+    requires { ⌜ rows-end ≤ length (now work) ⌝ }
     requires { ⌜ ((Γ : Scope) × ScopeAt (now work) registers scope Γ) ⌝ }
     requires { ⌜ ((x : ℕ) × (e : Expression) × AssignAt (now work) node x e) ⌝ }
-    ensures { λ r. ⌜ AssignsAt (now (work .entry)) registers scope node r ⌝ }
+    ensures { λ r. ⌜ AssignJudgedAt (now (work .entry)) registers scope node r ⌝ }
 {
     let given = expression(work, registers, scope, node + 1);
     let Answer::Is(code) = given else {
@@ -78,13 +52,15 @@ fn assignment(work: &[u64], registers: usize, scope: usize, node: usize) -> Answ
     same(node, wanted, code)
 }
 
-// A Call's actuals: the first fault among them, if there is one.
+// A Call's actuals: their codes packed in one number, or the first fault among them.
 fn actuals(work: &[u64], registers: usize, scope: usize, node: usize, count: usize) -> Answer
-    requires { ⌜ 4000 ≤ length (now work) ⌝ }
+    requires { ⌜ rows-end ≤ length (now work) ⌝ }
+    requires { ⌜ count ≤ most-parameters ⌝ }
     requires { ⌜ ((Γ : Scope) × ScopeAt (now work) registers scope Γ) ⌝ }
     requires { ⌜ ((es : List Expression) × ActualsAt (now work) node count es) ⌝ }
-    ensures { λ r. ⌜ CodesAt (now (work .entry)) registers scope node count r ⌝ }
+    ensures { λ r. ⌜ ActualsJudgedAt (now (work .entry)) registers scope node count r ⌝ }
 {
+    let mut codes = 0;
     let mut at = node;
     let mut left = count;
     while left != 0 {
@@ -92,95 +68,79 @@ fn actuals(work: &[u64], registers: usize, scope: usize, node: usize, count: usi
         let Answer::Is(code) = judged else {
             return judged;
         };
+        codes = codes * CODES + code;
         at = end(work, at);
         left = left - 1;
     }
-    Answer::Is(0)
+    Answer::Is(codes)
 }
 
-// The actuals' codes against the Formals'.
-fn agreement(
-    work: &[u64],
-    registers: usize,
-    scope: usize,
-    place: usize,
-    node: usize,
-    formal: usize,
-    count: usize,
-) -> Answer
-    requires { ⌜ 4000 ≤ length (now work) ⌝ }
-    requires { ⌜ ((Γ : Scope) × ScopeAt (now work) registers scope Γ) ⌝ }
-    requires { ⌜ ((es : List Expression) × ActualsAt (now work) node count es) ⌝ }
+// The actuals' codes, which are given packed, against those of the Formals from a node on.
+fn agreement(work: &[u64], place: usize, given: usize, formal: usize, count: usize) -> Answer
+    requires { ⌜ rows-end ≤ length (now work) ⌝ }
+    requires { ⌜ count ≤ most-parameters ⌝ }
     requires { ⌜ ((fs : List Formal) × FormalsAt (now work) formal count fs) ⌝ }
-    ensures { λ r. ⌜ AgreesAt (now (work .entry)) registers scope place node formal count r ⌝ }
+    ensures { λ r. ⌜ AgreementJudgedAt (now (work .entry)) place given formal count r ⌝ }
 {
-    let mut at = node;
-    let mut parameter = formal;
+    let mut wanted = 0;
+    let mut at = formal;
     let mut left = count;
     while left != 0 {
-        let judged = expression(work, registers, scope, at);
-        let Answer::Is(code) = judged else {
-            return judged;
-        };
-        let word = operand(work, parameter);
-        let agrees = same(place, word / 64, code);
-        let Answer::Is(done) = agrees else {
-            return agrees;
-        };
-        at = end(work, at);
-        parameter = parameter + 1;
+        let word = operand(work, at);
+        wanted = wanted * CODES + word / NAMES;
+        at = at + 1;
         left = left - 1;
     }
-    Answer::Is(0)
+    same(place, wanted, given)
 }
 
 // Call.
 fn call(work: &[u64], registers: usize, scope: usize, node: usize) -> Answer
-    requires { ⌜ 4000 ≤ length (now work) ⌝ }
+    requires { ⌜ rows-end ≤ length (now work) ⌝ }
     requires { ⌜ ((Γ : Scope) × ScopeAt (now work) registers scope Γ) ⌝ }
     requires { ⌜ ((x : ℕ) × (es : List Expression) × CallAt (now work) node x es) ⌝ }
-    ensures { λ r. ⌜ CallsAt (now (work .entry)) registers scope node r ⌝ }
+    ensures { λ r. ⌜ CallJudgedAt (now (work .entry)) registers scope node r ⌝ }
 {
     let word = operand(work, node);
-    let count = word / 64;
+    let count = word / NAMES;
     let given = actuals(work, registers, scope, node + 1, count);
-    let Answer::Is(done) = given else {
+    let Answer::Is(codes) = given else {
         return given;
     };
-    let Found::Bound(number, pointer) = lookup(work, registers, scope, word % 64) else {
+    let Found::Bound(number, pointer) = lookup(work, registers, scope, word % NAMES) else {
         return Answer::Fault(10, node);
     };
-    if number != 8 {
+    if number != FUNCTION {
         return Answer::Fault(14, node);
     }
     let parameters = operand(work, pointer);
     if parameters != count {
         return Answer::Fault(14, node);
     }
-    agreement(work, registers, scope, node, node + 1, pointer + 1, count)
+    agreement(work, node, codes, pointer + 1, count)
 }
 
 // The command at a node in the scope at a pointer: 0, or its first fault.
 pub(crate) fn command(work: &mut [u64], registers: usize, scope: usize, node: usize) -> Answer
-    requires { ⌜ 4000 ≤ length (now work) ⌝ }
+    requires { ⌜ rows-end ≤ length (now work) ⌝ }
     requires { ⌜ scope ≤ node ⌝ }
     requires { ⌜ ((Γ : Scope) × ScopeAt (now work) registers scope Γ) ⌝ }
     requires { ⌜ ((c : Command) × CommandAt (now work) node c) ⌝ }
-    ensures { λ r. ⌜ CommandFineAt (now (work .entry)) registers scope node r ⌝ }
-    ensures { λ r. ⌜ Kept (now (work .entry)) (now (work .exit)) node ⌝ }
+    ensures { λ r. ⌜ CommandJudgedAt (now (work .entry)) registers scope node r ⌝ }
+    ensures { λ r. ⌜ WritesRowsFrom (now (work .entry)) (now (work .exit)) node ⌝ }
 {
     let which = kind(work, node);
-    if which == 20 {
+    if which == kinds::ASSIGN {
         return assignment(work, registers, scope, node);
     }
-    if which == 23 {
+    if which == kinds::BLK {
         let inside = block(work, registers, scope, node);
         return anew(inside);
     }
-    if which == 24 {
+    if which == kinds::CALL {
         return call(work, registers, scope, node);
     }
-    if which == 21 {
+    if which == kinds::LOOP {
         let test = expression(work, registers, scope, node + 1);
         let Answer::Is(code) = test else {
             return test;
@@ -203,12 +163,12 @@ pub(crate) fn command(work: &mut [u64], registers: usize, scope: usize, node: us
 
 // The block at a node: its declaration, then its command in the scope with the names that this gives.
 fn block(work: &mut [u64], registers: usize, scope: usize, node: usize) -> Answer
-    requires { ⌜ 4000 ≤ length (now work) ⌝ }
+    requires { ⌜ rows-end ≤ length (now work) ⌝ }
     requires { ⌜ scope ≤ node ⌝ }
     requires { ⌜ ((Γ : Scope) × ScopeAt (now work) registers scope Γ) ⌝ }
     requires { ⌜ ((b : Block) × BlockAt (now work) node b) ⌝ }
-    ensures { λ r. ⌜ BlockFineAt (now (work .entry)) registers scope node r ⌝ }
-    ensures { λ r. ⌜ Kept (now (work .entry)) (now (work .exit)) node ⌝ }
+    ensures { λ r. ⌜ BlockJudgedAt (now (work .entry)) registers scope node r ⌝ }
+    ensures { λ r. ⌜ WritesRowsFrom (now (work .entry)) (now (work .exit)) node ⌝ }
 {
     let declared = declaration(work, registers, scope, scope, node + 1);
     let Answer::Is(inner) = declared else {
@@ -221,16 +181,16 @@ fn block(work: &mut [u64], registers: usize, scope: usize, node: usize) -> Answe
 
 // The declaration at a node: rows for its names, linked from `tail`, and the pointer of the newest.
 fn declaration(work: &mut [u64], registers: usize, scope: usize, tail: usize, node: usize) -> Answer
-    requires { ⌜ 4000 ≤ length (now work) ⌝ }
+    requires { ⌜ rows-end ≤ length (now work) ⌝ }
     requires { ⌜ scope ≤ node ⌝ }
     requires { ⌜ tail ≤ node ⌝ }
     requires { ⌜ ((Γ : Scope) × ScopeAt (now work) registers scope Γ) ⌝ }
     requires { ⌜ ((d : Declaration) × (next : ℕ) × DeclarationAt (now work) node next d) ⌝ }
-    ensures { λ r. ⌜ DeclaresAt (now (work .entry)) (now (work .exit)) registers scope tail node r ⌝ }
-    ensures { λ r. ⌜ Kept (now (work .entry)) (now (work .exit)) node ⌝ }
+    ensures { λ r. ⌜ DeclarationJudgedAt (now (work .entry)) (now (work .exit)) registers scope tail node r ⌝ }
+    ensures { λ r. ⌜ WritesRowsFrom (now (work .entry)) (now (work .exit)) node ⌝ }
 {
     let which = kind(work, node);
-    if which == 31 {
+    if which == kinds::DSEQ {
         let first = declaration(work, registers, scope, tail, node + 1);
         let Answer::Is(middle) = first else {
             return first;
@@ -251,28 +211,28 @@ fn declaration(work: &mut [u64], registers: usize, scope: usize, tail: usize, no
     let Answer::Is(number) = meant else {
         return meant;
     };
-    work[2000 + node] = row_word(name, number, tail);
+    work[ROWS + node] = row_word(name, number, tail);
     Answer::Is(node + 1)
 }
 
 // What a Bind's child means.
 fn bound(work: &mut [u64], registers: usize, scope: usize, node: usize) -> Answer
-    requires { ⌜ 4000 ≤ length (now work) ⌝ }
+    requires { ⌜ rows-end ≤ length (now work) ⌝ }
     requires { ⌜ scope ≤ node ⌝ }
     requires { ⌜ ((Γ : Scope) × ScopeAt (now work) registers scope Γ) ⌝ }
     requires { ⌜ ((b : Bound) × BoundAt (now work) node b) ⌝ }
-    ensures { λ r. ⌜ MeansAt (now (work .entry)) registers scope node r ⌝ }
-    ensures { λ r. ⌜ Kept (now (work .entry)) (now (work .exit)) node ⌝ }
+    ensures { λ r. ⌜ BoundJudgedAt (now (work .entry)) registers scope node r ⌝ }
+    ensures { λ r. ⌜ WritesRowsFrom (now (work .entry)) (now (work .exit)) node ⌝ }
 {
     let which = kind(work, node);
-    if which == 40 {
+    if which == kinds::REF {
         let value = expression(work, registers, scope, node + 1);
         let Answer::Is(code) = value else {
             return value;
         };
         return location_code(node, code);
     }
-    if which == 41 {
+    if which == kinds::ABS {
         let count = operand(work, node);
         let parameters = formals(work, scope, scope, node + 1, count);
         let Answer::Is(inner) = parameters else {
@@ -282,7 +242,7 @@ fn bound(work: &mut [u64], registers: usize, scope: usize, node: usize) -> Answe
         let Answer::Is(done) = body else {
             return body;
         };
-        return Answer::Is(8);
+        return Answer::Is(FUNCTION);
     }
     let value = expression(work, registers, scope, node);
     anew(value)

@@ -12,12 +12,13 @@ use Rattle.rules.specs.paper.Limits.{work-words}
 use Rattle.rules.specs.paper.Checker.{expression-of-code, a-command}
 use Rattle.rules.specs.paper.Engine.{CheckAnswer, root-code, root-command, not-passed, checker, check-answer, check-image, cleared, turned-back, passed}
 use Rattle.rules.specs.paper.Engine as Rules
-use Rattle.engine.specs.Answers.{check-reply, reply-refusal, reply-value, reply-place, Replies}
 use Rattle.reader.specs.Put.{KeptBeyond}
+use Rattle.checker.specs.Commands.{command-number}
+use Rattle.loader.specs.Answers.{LoadAnswer}
+use Rattle.loader.specs.declared.Loaded.{Loaded}
+use Rattle.loader.specs.declared.Loaded.the-variants as Load
+use Rattle.engine.specs.Answers.{check-reply, reply-refusal, reply-value, reply-place, Replies}
 use Rattle.engine.specs.declared.CheckReply.{CheckReply}
-use Rattle.engine.specs.Examined.{ExamineAnswer}
-use Rattle.engine.specs.declared.Examined.{Examined}
-use Rattle.engine.specs.declared.Examined.the-variants as Examine
 use Rattle.engine.specs.declared.Checked.{Checked}
 use Rattle.engine.specs.declared.Checked.the-variants.{Code, Command, Refused}
 
@@ -43,39 +44,48 @@ room-answer image work r h q = q ∙ sym (ap (λ c. check-reply (c .answer)) (en
 pub room-work : (image work after last : List ℕ) → 8192 ≤ length work → KeptBeyond work-words work after → last ≡ cleared after → last ≡ checker image work .work
 room-work image work after last h b q = q ∙ cleared-same work after b ∙ sym (ap (λ c. c .work) (enough image work h))
 
--- What was examined, as the checker alone answers it.
-abbrev of-examined : Examined → Checked
-of-examined (Examine.Code c r) = Code c
-of-examined (Examine.Command r) = Command
-of-examined (Examine.Refused x p) = Refused x p
+-- ---- What was loaded, as the checker alone answers it.
 
-record Answered (image work last : List ℕ) (r : Checked) : Type 0 where
-  pub answer : r ≡ check-reply (checker image work .answer)
-  pub words : last ≡ checker image work .work
+loaded-twice : (e : Loaded) (number count nodes x p : ℕ) → e ≡ Load.Passed number count nodes → e ≡ Load.Refused x p → ⊥
+loaded-twice e number count nodes x p g h = let z : _≡_ {A = ℕ} 0 1 = cc in omega arith
 
-examined-answer : (image work after last : List ℕ) (e : Examined) → 8192 ≤ length work → ExamineAnswer (check-image image) e work after → last ≡ cleared after → Answered image work last (of-examined e)
-examined-answer image work after last e h a q = by (check-image image) refl a
-  where
-    done : (c : Rules.Checked) → check-image image ≡ c → of-examined e ≡ check-reply (check-answer c) → KeptBeyond work-words work after → Answered image work last (of-examined e)
-    done c u v b = record { answer = room-answer image work (of-examined e) h (v ∙ sym (ap (λ k. check-reply (check-answer k)) u)); words = room-work image work after last h b q }
+same-root : (e : Loaded) (number count nodes other-number other-count other-nodes : ℕ) → e ≡ Load.Passed number count nodes → e ≡ Load.Passed other-number other-count other-nodes → number ≡ other-number
+same-root e number count nodes other-number other-count other-nodes g h = cc
 
-    by : (c : Rules.Checked) → check-image image ≡ c → ExamineAnswer c e work after → Answered image work last (of-examined e)
-    by (turned-back x p) u t = done (turned-back x p) u (ap of-examined (t .answer)) (t .beyond)
-    by (passed r t (expression-of-code c)) u g = done (passed r t (expression-of-code c)) u (ap of-examined (g .answer)) (g .beyond)
-    by (passed r t a-command) u g = done (passed r t a-command) u (ap of-examined (g .answer)) (g .beyond)
+same-refusal : (e : Loaded) (x p y q : ℕ) → e ≡ Load.Refused x p → e ≡ Load.Refused y q → Refused x p ≡ Refused y q
+same-refusal e x p y q g h = cc
 
-module _ (image work after last : List ℕ) (e : Examined) (room : 8192 ≤ length work) (a : ExamineAnswer (check-image image) e work after) (q : last ≡ cleared after) where
-  answered-as : (r : Checked) → of-examined e ≡ r → (r ≡ check-reply (checker image work .answer)) × (last ≡ checker image work .work)
-  answered-as r g = let b = examined-answer image work after last e room a q in (sym g ∙ b .answer, b .words)
+module _ (image work after last : List ℕ) (e : Loaded) (room : 8192 ≤ length work) (a : LoadAnswer (check-image image) e work after) (q : last ≡ cleared after) where
+  loaded-beyond : (c : Rules.Checked) → LoadAnswer c e work after → KeptBeyond work-words work after
+  loaded-beyond (turned-back x p) t = t .beyond
+  loaded-beyond (passed r t c) f = f .beyond
 
-  pub code-answered : (c n : ℕ) → e ≡ Examine.Code c n → (Code c ≡ check-reply (checker image work .answer)) × (last ≡ checker image work .work)
-  code-answered c n g = answered-as (Code c) (ap of-examined g)
+  answered-as : (r : Checked) → ((c : Rules.Checked) → LoadAnswer c e work after → r ≡ check-reply (check-answer c)) → (r ≡ check-reply (checker image work .answer)) × (last ≡ checker image work .work)
+  answered-as r done = (room-answer image work r room (done (check-image image) a), room-work image work after last room (loaded-beyond (check-image image) a) q)
 
-  pub command-answered : (n : ℕ) → e ≡ Examine.Command n → (Command ≡ check-reply (checker image work .answer)) × (last ≡ checker image work .work)
-  command-answered n g = answered-as Command (ap of-examined g)
+  module _ (number count nodes : ℕ) (g : e ≡ Load.Passed number count nodes) where
+    pub command-answered : number ≡ command-number → (Command ≡ check-reply (checker image work .answer)) × (last ≡ checker image work .work)
+    command-answered eight = answered-as Command by
+      where
+        by : (c : Rules.Checked) → LoadAnswer c e work after → Command ≡ check-reply (check-answer c)
+        by (turned-back x p) t = absurd (loaded-twice e number count nodes (refusal-number x) p g (t .answer))
+        by (passed r t (expression-of-code k)) f = absurd (omega (arith, f .code-low k refl, same-root e number count nodes k r _ g (f .answer), eight))
+        by (passed r t a-command) f = refl
 
-  pub refusal-answered : (x p : ℕ) → e ≡ Examine.Refused x p → (Refused x p ≡ check-reply (checker image work .answer)) × (last ≡ checker image work .work)
-  refusal-answered x p g = answered-as (Refused x p) (ap of-examined g)
+    pub code-answered : (number ≡ command-number → ⊥) → (Code number ≡ check-reply (checker image work .answer)) × (last ≡ checker image work .work)
+    code-answered other = answered-as (Code number) by
+      where
+        by : (c : Rules.Checked) → LoadAnswer c e work after → Code number ≡ check-reply (check-answer c)
+        by (turned-back x p) t = absurd (loaded-twice e number count nodes (refusal-number x) p g (t .answer))
+        by (passed r t (expression-of-code k)) f = ap Code (same-root e number count nodes k r _ g (f .answer))
+        by (passed r t a-command) f = absurd (other (same-root e number count nodes command-number r _ g (f .answer)))
+
+  pub refusal-answered : (x p : ℕ) → e ≡ Load.Refused x p → (Refused x p ≡ check-reply (checker image work .answer)) × (last ≡ checker image work .work)
+  refusal-answered x p g = answered-as (Refused x p) by
+    where
+      by : (c : Rules.Checked) → LoadAnswer c e work after → Refused x p ≡ check-reply (check-answer c)
+      by (turned-back y o) t = same-refusal e x p (refusal-number y) o g (t .answer)
+      by (passed r t c) f = absurd (loaded-twice e _ r _ x p (f .answer) g)
 
 -- ---- In three numbers.
 

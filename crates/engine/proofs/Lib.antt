@@ -2,8 +2,6 @@ mod BytesCounts
 mod BytesLaws
 mod BytesRun
 mod CheckLaws
-mod ClearLaws
-mod ExamineLaws
 mod ExecuteLaws
 mod OrderLaws
 mod PerformLaws

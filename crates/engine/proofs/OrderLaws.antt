@@ -8,7 +8,7 @@ use borrow.Author.Tests.{le-ltb, lt-ltb, le-leb, lt-leb, eq-eqb, ne-eqb}
 use lib.Dec.{T, eqb, leb, ltb}
 use lib.IntN.{ℤ}
 use lib.ListN.{length, getD}
-use Rattle.rules.specs.paper.Limits.{work-words}
+use Rattle.rules.specs.paper.Limits.{codes, work-words}
 use Rattle.rules.specs.paper.Refusals.{Refusal, refusal-number}
 use Rattle.rules.specs.paper.Refusals as Refusals
 use Rattle.rules.specs.paper.Tree.{Root}
@@ -19,16 +19,17 @@ use Rattle.integers.specs.Words.{integers-of, words-of}
 use Rattle.integers.specs.WordLaws.{integers-length, words-back}
 use Rattle.reader.specs.Stored.{RootAt}
 use Rattle.reader.specs.Put.{KeptBeyond}
-use Rattle.engine.specs.Examined.{ExamineAnswer}
+use Rattle.checker.specs.Commands.{command-number, root-number}
+use Rattle.loader.specs.Answers.{LoadAnswer}
+use Rattle.loader.specs.declared.Loaded.{Loaded}
+use Rattle.loader.specs.declared.Loaded.the-variants as Load
+use Rattle.loader.proofs.LoadLaws.{beyond-then}
 use Rattle.engine.specs.Runs.{run-reply, Performed, RunOf}
-use Rattle.engine.specs.declared.Examined.{Examined}
-use Rattle.engine.specs.declared.Examined.the-variants as Examine
 use Rattle.engine.specs.declared.Ran.{Ran}
 use Rattle.engine.specs.declared.Ran.the-variants.{Refused}
 use Rattle.engine.proofs.CheckLaws.{cleared-same}
-use Rattle.engine.proofs.ExamineLaws.{beyond-then}
 
--- ---- What was examined.
+-- ---- What was loaded.
 
 pub record FoundPassed (image : List ℕ) (registers : ℕ) (a : Passed) (before after : List ℕ) : Type 0 where
   pub tree : Root
@@ -36,67 +37,62 @@ pub record FoundPassed (image : List ℕ) (registers : ℕ) (a : Passed) (before
   pub stands : RootAt after tree
   pub beyond : KeptBeyond work-words before after
 
-same-code : (e : Examined) (c d n m : ℕ) → e ≡ Examine.Code c n → e ≡ Examine.Code d m → d ≡ c
-same-code e c d n m p q = cc
+-- What the root is, by its number.
+pub record FoundRoot (image : List ℕ) (number registers : ℕ) (before after : List ℕ) : Type 0 where
+  pub root : Passed
+  pub number-is : number ≡ root-number root
+  pub code-low : (k : ℕ) → root ≡ expression-of-code k → k < codes
+  pub found : FoundPassed image registers root before after
 
-same-count : (e : Examined) (c d n m : ℕ) → e ≡ Examine.Code c n → e ≡ Examine.Code d m → m ≡ n
-same-count e c d n m p q = cc
+same-root : (e : Loaded) (number n nodes other-number m other-nodes : ℕ) → e ≡ Load.Passed number n nodes → e ≡ Load.Passed other-number m other-nodes → number ≡ other-number
+same-root e number n nodes other-number m other-nodes p q = cc
 
-same-command-count : (e : Examined) (n m : ℕ) → e ≡ Examine.Command n → e ≡ Examine.Command m → m ≡ n
-same-command-count e n m p q = cc
+same-count : (e : Loaded) (number n nodes other-number m other-nodes : ℕ) → e ≡ Load.Passed number n nodes → e ≡ Load.Passed other-number m other-nodes → m ≡ n
+same-count e number n nodes other-number m other-nodes p q = cc
 
-same-number : (e : Examined) (x y p q : ℕ) → e ≡ Examine.Refused x p → e ≡ Examine.Refused y q → x ≡ y
-same-number e x y p q g h = cc
+same-refusal : (e : Loaded) (x p y q : ℕ) → e ≡ Load.Refused x p → e ≡ Load.Refused y q → Refused x p 0 ≡ Refused y q 0
+same-refusal e x p y q g h = cc
 
-same-place : (e : Examined) (x y p q : ℕ) → e ≡ Examine.Refused x p → e ≡ Examine.Refused y q → p ≡ q
-same-place e x y p q g h = cc
+passed-refused : (e : Loaded) (number n nodes x p : ℕ) → e ≡ Load.Passed number n nodes → e ≡ Load.Refused x p → ⊥
+passed-refused e number n nodes x p g h = let z : _≡_ {A = ℕ} 0 1 = cc in omega arith
 
-code-command : (e : Examined) (c n m : ℕ) → e ≡ Examine.Code c n → e ≡ Examine.Command m → ⊥
-code-command e c n m p q = let z : _≡_ {A = ℕ} 0 1 = cc in omega arith
+module _ (image before after : List ℕ) (e : Loaded) (a : LoadAnswer (check-image image) e before after) where
+  module _ (number n nodes : ℕ) (q : e ≡ Load.Passed number n nodes) where
+    pub found-root : FoundRoot image number n before after
+    found-root = by (check-image image) refl a
+      where
+        by : (k : Checked) → check-image image ≡ k → LoadAnswer k e before after → FoundRoot image number n before after
+        by (turned-back x p) u t = absurd (passed-refused e number n nodes (refusal-number x) p q (t .answer))
+        by (passed r t c) u f =
+            record {
+              root = c;
+              number-is = same-root e number n nodes (root-number c) r _ q (f .answer);
+              code-low = f .code-low;
+              found = record { tree = t; passes = u ∙ ap (λ i. passed i t c) (same-count e number n nodes (root-number c) r _ q (f .answer)); stands = f .stands; beyond = f .beyond };
+            }
 
-code-refused : (e : Examined) (c n x p : ℕ) → e ≡ Examine.Code c n → e ≡ Examine.Refused x p → ⊥
-code-refused e c n x p g h = let z : _≡_ {A = ℕ} 0 1 = cc in omega arith
+    pub found-command : number ≡ command-number → FoundPassed image n a-command before after
+    found-command eight = let o = found-root in by (o .root) (o .number-is) (o .code-low) (o .found)
+      where
+        by : (c : Passed) → number ≡ root-number c → ((k : ℕ) → c ≡ expression-of-code k → k < codes) → FoundPassed image n c before after → FoundPassed image n a-command before after
+        by (expression-of-code k) is low f = absurd (omega (arith, is, eight, low k refl))
+        by a-command is low f = f
 
-command-refused : (e : Examined) (n x p : ℕ) → e ≡ Examine.Command n → e ≡ Examine.Refused x p → ⊥
-command-refused e n x p g h = let z : _≡_ {A = ℕ} 0 1 = cc in omega arith
-
-module _ (image before after : List ℕ) (e : Examined) (a : ExamineAnswer (check-image image) e before after) where
-  pub found-expression : (c n : ℕ) → e ≡ Examine.Code c n → FoundPassed image n (expression-of-code c) before after
-  found-expression c n q = by (check-image image) refl a
-    where
-      by : (k : Checked) → check-image image ≡ k → ExamineAnswer k e before after → FoundPassed image n (expression-of-code c) before after
-      by (turned-back x p) u t = absurd (code-refused e c n (refusal-number x) p q (t .answer))
-      by (passed r t (expression-of-code d)) u f =
-          record {
-            tree = t;
-            passes = u ∙ ap (λ i. passed i t (expression-of-code d)) (same-count e c d n r q (f .answer)) ∙ ap (λ i. passed n t (expression-of-code i)) (same-code e c d n r q (f .answer));
-            stands = f .stands;
-            beyond = f .beyond;
-          }
-      by (passed r t a-command) u f = absurd (code-command e c n r q (f .answer))
-
-  pub found-command : (n : ℕ) → e ≡ Examine.Command n → FoundPassed image n a-command before after
-  found-command n q = by (check-image image) refl a
-    where
-      by : (k : Checked) → check-image image ≡ k → ExamineAnswer k e before after → FoundPassed image n a-command before after
-      by (turned-back x p) u t = absurd (command-refused e n (refusal-number x) p q (t .answer))
-      by (passed r t (expression-of-code d)) u f = absurd (code-command e d r n (f .answer) q)
-      by (passed r t a-command) u f = record { tree = t; passes = u ∙ ap (λ i. passed i t a-command) (same-command-count e n r q (f .answer)); stands = f .stands; beyond = f .beyond }
+    pub found-expression : (number ≡ command-number → ⊥) → FoundPassed image n (expression-of-code number) before after
+    found-expression other = let o = found-root in by (o .root) (o .number-is) (o .found)
+      where
+        by : (c : Passed) → number ≡ root-number c → FoundPassed image n c before after → FoundPassed image n (expression-of-code number) before after
+        by (expression-of-code k) is f = subst (λ i. FoundPassed image n (expression-of-code i) before after) (sym is) f
+        by a-command is f = absurd (other is)
 
   -- The image is refused: 0 steps, and the registers are kept.
-  pub image-refused : (registers : List ℕ) (budget x p : ℕ) → ((i : ℕ) → i < length registers → getD registers i 0 < 18446744073709551616) → e ≡ Examine.Refused x p →
+  pub image-refused : (registers : List ℕ) (budget x p : ℕ) → ((i : ℕ) → i < length registers → getD registers i 0 < 18446744073709551616) → e ≡ Load.Refused x p →
       Performed (run-checked (check-image image) (integers-of registers) budget []) (Refused x p 0) registers before after
   image-refused registers budget x p low q = by (check-image image) a
     where
-      by : (k : Checked) → ExamineAnswer k e before after → Performed (run-checked k (integers-of registers) budget []) (Refused x p 0) registers before after
-      by (turned-back y o) t =
-          record {
-            reply-is = ap (λ n. Refused n p 0) (same-number e x (refusal-number y) p o q (t .answer)) ∙ ap (λ n. Refused (refusal-number y) n 0) (same-place e x (refusal-number y) p o q (t .answer));
-            registers-are = sym (words-back registers low);
-            beyond = t .beyond;
-          }
-      by (passed r t (expression-of-code d)) f = absurd (code-refused e d r x p (f .answer) q)
-      by (passed r t a-command) f = absurd (command-refused e r x p (f .answer) q)
+      by : (k : Checked) → LoadAnswer k e before after → Performed (run-checked k (integers-of registers) budget []) (Refused x p 0) registers before after
+      by (turned-back y o) t = record { reply-is = same-refusal e x p (refusal-number y) o q (t .answer); registers-are = sym (words-back registers low); beyond = t .beyond }
+      by (passed r t c) f = absurd (passed-refused e _ r _ x p (f .answer) q)
 
 -- ---- 20.
 

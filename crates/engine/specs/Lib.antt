@@ -3,5 +3,4 @@ pub mod Bytes
 pub mod BytesKept
 pub mod BytesRead
 pub mod Delivered
-pub mod Examined
 pub mod Runs

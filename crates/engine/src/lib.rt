@@ -3,18 +3,15 @@ pub mod bytes;
 mod perform;
 
 ghost use mathlib.Core.Path.{_≡_};
-ghost use Prim.Native.Nat.{_<_, _≤_};
-ghost use lib.ListN.{length};
-ghost use Rattle.rules.specs.paper.Engine.{checker, cleared, check-image, engine};
+ghost use Rattle.rules.specs.paper.Engine.{checker, engine};
 ghost use Rattle.integers.specs.Words.{integers-of, words-of};
 ghost use Rattle.engine.specs.Answers.{check-reply, Replies};
-ghost use Rattle.engine.specs.Examined.{ExamineAnswer};
 ghost use Rattle.engine.specs.Runs.{run-reply, RunReplies};
 use crate::perform::perform;
-use checker::Verdict;
-use checker::root;
-use reader::Shape;
-use reader::read_image;
+use checker::COMMAND;
+use loader::Loaded;
+use loader::clear;
+use loader::load;
 
 // What a check answers: the root's code, a command, or a refusal with its place.
 pub enum Checked {
@@ -52,44 +49,6 @@ pub struct RunReply {
     pub steps: u64,
 }
 
-// The first 8,192 work words become 0.
-fn clear(work: &mut [u64])
-    requires { ⌜ 8192 ≤ length (now work) ⌝ }
-    ensures { λ r. ⌜ now (work .exit) ≡ cleared (now (work .entry)) ⌝ }
-{
-    let mut i = 0;
-    while i < 8192 {
-        work[i] = 0;
-        i = i + 1;
-    }
-}
-
-// What an image is found to be: its root's code or a command, with its count of registers; or a refusal with its place.
-pub(crate) enum Examined {
-    Code(usize, usize),
-    Command(usize),
-    Refused(u64, usize),
-}
-
-// The image is read and checked; its tree stands in the work words then, and the rest of the first 8,192 of them is spoilt.
-pub(crate) fn examine(image: &[u32], work: &mut [u64]) -> Examined
-    requires { ⌜ 8192 ≤ length (now work) ⌝ }
-    ensures { λ r. ⌜ ExamineAnswer (check-image (now (image .entry))) r (now (work .entry)) (now (work .exit)) ⌝ }
-{
-    let shape = read_image(work, image);
-    match shape {
-        Shape::Image(nodes, registers) => {
-            let verdict = root(work, registers);
-            match verdict {
-                Verdict::Code(code) => Examined::Code(code, registers),
-                Verdict::Command => Examined::Command(registers),
-                Verdict::Fault(number, place) => Examined::Refused(number, place),
-            }
-        }
-        Shape::Refused(number, place) => Examined::Refused(number, place),
-    }
-}
-
 // By `check-exact` (rules, ImageExact.antt) an image passes here exactly when it meets the paper's shape, scope and type rules.
 // The checker alone: any image words, any work words. Under 8,192 work words nothing is touched; every other call leaves the first
 // 8,192 of them 0 and the rest as they were.
@@ -100,12 +59,16 @@ pub fn check(image: &[u32], work: &mut [u64]) -> Checked
     if work.len() < 8192 {
         return Checked::Refused(22, 0);
     }
-    let examined = examine(image, work);
+    let loaded = load(image, work);
     clear(work);
-    match examined {
-        Examined::Code(code, registers) => Checked::Code(code),
-        Examined::Command(registers) => Checked::Command,
-        Examined::Refused(number, place) => Checked::Refused(number, place),
+    match loaded {
+        Loaded::Passed(number, registers, nodes) => {
+            if number == COMMAND {
+                return Checked::Command;
+            }
+            Checked::Code(number)
+        }
+        Loaded::Refused(number, place) => Checked::Refused(number, place),
     }
 }
 

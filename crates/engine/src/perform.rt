@@ -11,13 +11,14 @@ ghost use Rattle.rules.specs.paper.Engine.{check-image, passed, start, run-chec
 ghost use Rattle.integers.specs.Words.{integers-of};
 ghost use Rattle.reader.specs.Stored.{RootAt};
 ghost use Rattle.engine.specs.Runs.{ran, ExecuteAnswer, Performed, RunOf, LeftAs};
-use crate::Examined;
 use crate::Ran;
-use crate::examine;
 use automaton::Ending;
 use automaton::ends::take_registers;
 use automaton::ends::value_left;
 use automaton::start::start;
+use checker::COMMAND;
+use loader::Loaded;
+use loader::load;
 use machine::Machine;
 
 // The tree that stands in the work words is run from the registers, which take what it leaves in them.
@@ -78,20 +79,17 @@ pub(crate) fn perform(image: &[u32], registers: &mut [u64], budget: u64, work: &
     requires { ⌜ 8192 ≤ length (now work) ⌝ }
     ensures { λ r. ⌜ Performed (run-checked (check-image (now (image .entry))) (integers-of (now (registers .entry))) budget []) r (now (registers .exit)) (now (work .entry)) (now (work .exit)) ⌝ }
 {
-    let examined = examine(image, work);
-    match examined {
-        Examined::Code(code, count) => {
+    let loaded = load(image, work);
+    match loaded {
+        Loaded::Passed(number, count, nodes) => {
             if registers.len() != count {
                 return Ran::Refused(20, 0, 0);
             }
-            run_expression(registers, budget, work, code)
-        }
-        Examined::Command(count) => {
-            if registers.len() != count {
-                return Ran::Refused(20, 0, 0);
+            if number == COMMAND {
+                return run_command(registers, budget, work);
             }
-            run_command(registers, budget, work)
+            run_expression(registers, budget, work, number)
         }
-        Examined::Refused(number, place) => Ran::Refused(number, place, 0),
+        Loaded::Refused(number, place) => Ran::Refused(number, place, 0),
     }
 }

@@ -7,7 +7,7 @@ use Rattle.engine.proofs.run.Statement.{statement}
 use Rattle.engine.proofs.run.Tie as tie
 use Rattle.engine.proofs.run.Reads as reads
 use Rattle.engine.proofs.run.Lts as lts
-use Rattle.engine.proofs.clear.Reads as clear-reads
+use Rattle.loader.proofs.clear.Reads as clear-reads
 use Rattle.engine.proofs.perform.perform.Reads as perform-reads
 
 returns : tie.Need-returns

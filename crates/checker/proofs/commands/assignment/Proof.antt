@@ -1,16 +1,15 @@
 -- Assign: the value, the name, whether it is assignable, and the codes.
-use Prim.Native.Nat.{ℕ, _+_, _-_, _≤_}
 use native.Mathlib.Omega.{arith}
-use Rattle.checker.proofs.AssignLaws.{assign-place, assign-value-fault, assign-name-fault, assign-target-fault, assign-same}
+use Rattle.checker.proofs.laws.commands.AssignLaws.{assign-place, assign-value-fault, assign-name-fault, assign-target-fault, assign-same}
 use borrow.Author.Needs.{needs}
 use Rattle.checker.proofs.commands.assignment.Statement.{statement}
 use Rattle.checker.proofs.commands.assignment.Tie as tie
 use Rattle.checker.proofs.commands.assignment.Reads as reads
 use Rattle.checker.proofs.commands.assignment.Lts as lts
-use Rattle.checker.proofs.commands.assigned_code.Reads as assigned-code-reads
-use Rattle.checker.proofs.commands.same.Reads as same-reads
-use Rattle.checker.proofs.expression.Reads as expression-reads
-use Rattle.checker.proofs.meaning.Reads as meaning-reads
+use Rattle.checker.proofs.codes.assigned_code.Reads as assigned-code-reads
+use Rattle.checker.proofs.codes.same.Reads as same-reads
+use Rattle.checker.proofs.expressions.expression.Reads as expression-reads
+use Rattle.checker.proofs.scope.meaning.Reads as meaning-reads
 use Rattle.reader.proofs.operand.Reads as operand-reads
 
 add-expression : tie.Need-add-expression

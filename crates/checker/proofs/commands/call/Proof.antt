@@ -1,7 +1,6 @@
 -- Call: the actuals, the name, that it is a function, its count and its codes.
-use Prim.Native.Nat.{ℕ, _+_, _/_, _<_, _≤_}
 use native.Mathlib.Omega.{arith}
-use Rattle.checker.proofs.CallLaws.{call-actuals, function-found, found-formals, call-actual-fault, call-unbound, call-no-function, call-count-apart, call-agree}
+use Rattle.checker.proofs.laws.commands.CallLaws.{call-actuals, call-few, function-found, found-formals, call-actual-fault, call-unbound, call-no-function, call-count-apart, call-agree}
 use borrow.Author.Needs.{needs}
 use Rattle.checker.proofs.commands.call.Statement.{statement}
 use Rattle.checker.proofs.commands.call.Tie as tie
@@ -9,7 +8,7 @@ use Rattle.checker.proofs.commands.call.Reads as reads
 use Rattle.checker.proofs.commands.call.Lts as lts
 use Rattle.checker.proofs.commands.actuals.Reads as actuals-reads
 use Rattle.checker.proofs.commands.agreement.Reads as agreement-reads
-use Rattle.checker.proofs.lookup.Reads as lookup-reads
+use Rattle.checker.proofs.scope.lookup.Reads as lookup-reads
 use Rattle.reader.proofs.operand.Reads as operand-reads
 
 operand-requires : tie.Need-operand-requires
@@ -21,7 +20,8 @@ add-actuals c = search needs
 actuals-requires : tie.Need-actuals-requires
 actuals-requires c κs =
     let start = c .before .before in
-    (start .pre .0, (start .pre .1 .0, (start .pre .1 .1 .1, call-actuals _ (c .operand .ensures) (start .pre .1 .1 .2))))
+    let call = start .pre .1 .1 .2 in
+    (start .pre .0, (call-few _ (c .operand .ensures) call, (start .pre .1 .0, (start .pre .1 .1 .1, call-actuals _ (c .operand .ensures) call))))
 
 enum-known-given : tie.Need-enum-known-given
 enum-known-given c = search needs
@@ -58,10 +58,7 @@ returns-4 : tie.Need-returns-4
 returns-4 c = call-count-apart _ _ _ _ _ (c .before .before .before .before .before .before .before .before .before .before .before .operand .ensures) _ (c .before .before .before .before .before .before .before .before .before .before .actuals .ensures) _ _ (c .before .before .before .before .before .before .before .before .given .given .1) (c .before .before .before .before .before .before .lookup .ensures) _ _ (c .before .before .before .before .number .given .1) (c .before .before .if1 .left) _ (c .before .operand2 .ensures) (c .if2 .taken)
 
 add-agreement : tie.Need-add-agreement
-add-agreement c = search needs
-
-add-agreement-2 : tie.Need-add-agreement-2
-add-agreement-2 c =
+add-agreement c =
     let start = c .before .before .before .before .before .before .before .before .before .before .before .before .before in
     let scope = start .pre .1 .0 in
     let function = function-found _ _ (c .before .before .before .before .before .before .lookup .ensures (scope .0) (scope .1)) (c .before .before .before .before .number .given .1) (c .before .before .if1 .left) in
@@ -71,10 +68,8 @@ agreement-requires : tie.Need-agreement-requires
 agreement-requires c κs =
     let start = c .before .before .before .before .before .before .before .before .before .before .before .before .before in
     let scope = start .pre .1 .0 in
-    let function = function-found _ _ (c .before .before .before .before .before .before .lookup .ensures (scope .0) (scope .1)) (c .before .before .before .before .number .given .1) (c .before .before .if1 .left) in (
-      start .pre .0,
-      (start .pre .1 .0, ((start .pre .1 .1 .1, call-actuals _ (c .before .before .before .before .before .before .before .before .before .before .before .operand .ensures) (start .pre .1 .1 .2)), found-formals _ _ _ _ function (c .before .operand2 .ensures) (c .if2 .left))),
-    )
+    let function = function-found _ _ (c .before .before .before .before .before .before .lookup .ensures (scope .0) (scope .1)) (c .before .before .before .before .number .given .1) (c .before .before .if1 .left) in
+    (start .pre .0, (call-few _ (c .before .before .before .before .before .before .before .before .before .before .before .operand .ensures) (start .pre .1 .1 .2), found-formals _ _ _ _ function (c .before .operand2 .ensures) (c .if2 .left)))
 
 returns-5 : tie.Need-returns-5
 returns-5 c = call-agree _ _ _ _ _ (c .before .before .before .before .before .before .before .before .before .before .before .before .operand .ensures) _ (c .before .before .before .before .before .before .before .before .before .before .before .actuals .ensures) _ _ (c .before .before .before .before .before .before .before .before .before .given .given .1) (c .before .before .before .before .before .before .before .lookup .ensures) _ _ (c .before .before .before .before .before .number .given .1) (c .before .before .before .if1 .left) _ (c .before .before .operand2 .ensures) _ (c .before .if2 .left) (c .agreement .ensures)
@@ -97,6 +92,5 @@ call-spec =
     operand-requires-2
     returns-4
     add-agreement
-    add-agreement-2
     agreement-requires
     returns-5)

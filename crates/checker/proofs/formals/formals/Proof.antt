@@ -1,13 +1,13 @@
 -- The Formals of an Abs one after the other: each gets its row, unless its name has one. The loop's measure is how many are left.
 use native.Mathlib.Omega.{arith}
 use borrow.Author.Needs.{needs}
-use Rattle.checker.proofs.FormalLaws.{formal-node-low, formal-code-low, formals-none, formals-repeated, RowsSoFar, no-rows-yet, one-row-more}
+use Rattle.checker.proofs.laws.declarations.FormalLaws.{formal-node-low, formal-code-low, formals-none, formals-repeated, RowsSoFar, no-rows-yet, one-row-more}
 use Rattle.checker.proofs.formals.formals.Statement.{statement}
 use Rattle.checker.proofs.formals.formals.Tie as tie
 use Rattle.checker.proofs.formals.formals.Reads as reads
 use Rattle.checker.proofs.formals.formals.Lts as lts
-use Rattle.checker.proofs.find_row.Reads as find-row-reads
-use Rattle.checker.proofs.formals.row_word.Reads as row-word-reads
+use Rattle.checker.proofs.scope.find_row.Reads as find-row-reads
+use Rattle.checker.proofs.scope.row_word.Reads as row-word-reads
 use Rattle.reader.proofs.operand.Reads as operand-reads
 
 abbrev Inv-loop : tie.InvT-loop

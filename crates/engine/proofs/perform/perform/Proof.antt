@@ -3,21 +3,21 @@ use mathlib.Core.Path.{_≡_, ap, _∙_}
 use native.Mathlib.Omega.{arith}
 use denote.Ref.{now}
 use lib.ListN.{length}
-use Rattle.engine.proofs.OrderLaws.{found-expression, found-command, image-refused, count-refused, counted, run-performed}
+use Rattle.engine.proofs.OrderLaws.{found-root, found-expression, found-command, image-refused, count-refused, counted, run-performed}
 use borrow.Author.Needs.{needs}
 use Rattle.engine.proofs.perform.perform.Statement.{statement}
 use Rattle.engine.proofs.perform.perform.Tie as tie
 use Rattle.engine.proofs.perform.perform.Reads as reads
 use Rattle.engine.proofs.perform.perform.Lts as lts
-use Rattle.engine.proofs.examine.Reads as examine-reads
 use Rattle.engine.proofs.perform.run_command.Reads as run-command-reads
 use Rattle.engine.proofs.perform.run_expression.Reads as run-expression-reads
+use Rattle.loader.proofs.load.Reads as load-reads
 
-examine-requires : tie.Need-examine-requires
-examine-requires c κs = search needs
+load-requires : tie.Need-load-requires
+load-requires c κs = search needs
 
-enum-known-examined : tie.Need-enum-known-examined
-enum-known-examined c = search needs
+enum-known-loaded : tie.Need-enum-known-loaded
+enum-known-loaded c = search needs
 
 same-length : tie.Need-same-length
 same-length c = search needs
@@ -26,95 +26,75 @@ returns : tie.Need-returns
 returns c =
     let start = c .before .before .before .before .before .before .before .before .before .before .before in
     let known = c .before .before .before .before .before .before .before .before .before .slice-known .given in
-    let examined = c .before .before .before .before .before .before .examine in
-    count-refused _ (now (start .args .registers)) _ _ _ _ _ (found-expression _ _ _ _ (examined .ensures) _ _ (c .before .before .examined .given .1)) (λ i h. known i .fits) (c .if1 .taken)
+    let root = found-root _ _ _ _ (c .before .before .before .before .before .before .load .ensures) _ _ _ (c .before .before .loaded .given .1) in
+    count-refused _ (now (start .args .registers)) _ _ _ _ _ (root .found) (λ i h. known i .fits) (c .if1 .taken)
 
-run-expression-requires : tie.Need-run-expression-requires
-run-expression-requires c κs =
-    let start = c .before .before .before .before .before .before .before .before .before .before .before .before .before in
-    let examined = c .before .before .before .before .before .before .before .before .examine in
-    let found = found-expression _ _ _ _ (examined .ensures) _ _ (c .before .before .before .before .examined .given .1) in
-    (omega (arith, found .beyond .same-length, start .pre), (_, found .tree, counted _ (now (start .args .registers)) _ _ (start .args .budget) _ _ found (c .before .before .if1 .left), found .stands))
-
-enum-known-examined-2 : tie.Need-enum-known-examined-2
-enum-known-examined-2 c = search needs
+run-command-requires : tie.Need-run-command-requires
+run-command-requires c κs =
+    let start = c .before .before .before .before .before .before .before .before .before .before .before .before .before .before in
+    let found = found-command _ _ _ _ (c .before .before .before .before .before .before .before .before .before .load .ensures) _ _ _ (c .before .before .before .before .before .loaded .given .1) (c .before .before .if2 .taken) in
+    (omega (arith, found .beyond .same-length, start .pre), (_, found .tree, counted _ (now (start .args .registers)) _ _ (start .args .budget) _ _ found (c .before .before .before .if1 .left), found .stands))
 
 same-length-2 : tie.Need-same-length-2
 same-length-2 c = search needs
 
-returns-2 : tie.Need-returns-2
-returns-2 c =
-    let start = c .before .before .before .before .before .before .before .before .before .before .before in
-    let known = c .before .before .before .before .before .before .before .before .before .slice-known .given in
-    let examined = c .before .before .before .before .before .before .examine in
-    count-refused _ (now (start .args .registers)) _ _ _ _ _ (found-command _ _ _ _ (examined .ensures) _ (c .before .before .examined2 .given .1)) (λ i h. known i .fits) (c .if2 .taken)
-
-run-command-requires : tie.Need-run-command-requires
-run-command-requires c κs =
-    let start = c .before .before .before .before .before .before .before .before .before .before .before .before .before in
-    let examined = c .before .before .before .before .before .before .before .before .examine in
-    let found = found-command _ _ _ _ (examined .ensures) _ (c .before .before .before .before .examined2 .given .1) in
-    (omega (arith, found .beyond .same-length, start .pre), (_, found .tree, counted _ (now (start .args .registers)) _ _ (start .args .budget) _ _ found (c .before .before .if2 .left), found .stands))
-
-enum-known-examined-3 : tie.Need-enum-known-examined-3
-enum-known-examined-3 c = search needs
-
 same-length-3 : tie.Need-same-length-3
 same-length-3 c = search needs
+
+returns-2 : tie.Need-returns-2
+returns-2 c =
+    let start = c .before .before .before .before .before .before .before .before .before .before .before .before .before .before .before .before .before .before .before in
+    let found = found-command _ _ _ _ (c .before .before .before .before .before .before .before .before .before .before .before .before .before .before .load .ensures) _ _ _ (c .before .before .before .before .before .before .before .before .before .before .loaded .given .1) (c .before .before .before .before .before .before .before .if2 .taken) in
+    let equal = c .before .before .before .before .before .before .before .before .if1 .left in
+    run-performed _ (now (start .args .registers)) _ _ (start .args .budget) _ _ found _ _ _ equal (c .before .before .before .before .run-command .ensures _ (found .tree) (counted _ (now (start .args .registers)) _ _ (start .args .budget) _ _ found equal) (found .stands))
+
+run-expression-requires : tie.Need-run-expression-requires
+run-expression-requires c κs =
+    let start = c .before .before .before .before .before .before .before .before .before .before .before .before .before .before in
+    let found = found-expression _ _ _ _ (c .before .before .before .before .before .before .before .before .before .load .ensures) _ _ _ (c .before .before .before .before .before .loaded .given .1) (c .before .before .if2 .left) in
+    (omega (arith, found .beyond .same-length, start .pre), (_, found .tree, counted _ (now (start .args .registers)) _ _ (start .args .budget) _ _ found (c .before .before .before .if1 .left), found .stands))
+
+enum-known-loaded-2 : tie.Need-enum-known-loaded-2
+enum-known-loaded-2 c = search needs
 
 same-length-4 : tie.Need-same-length-4
 same-length-4 c = search needs
 
-returns-3 : tie.Need-returns-3
-returns-3 c =
-    let start = c .before .before .before .before .before .before .before .before .before .before .before .before .before .before .before .before .before .before in
-    let examined = c .before .before .before .before .before .before .before .before .before .before .before .before .before .examine in
-    let found = found-expression _ _ _ _ (examined .ensures) _ _ (c .before .before .before .before .before .before .before .before .before .examined .given .1) in
-    let equal = c .before .before .before .before .before .before .before .if1 .left in
-    run-performed _ (now (start .args .registers)) _ _ (start .args .budget) _ _ found _ _ _ equal (c .before .before .before .before .run-expression .ensures _ (found .tree) (counted _ (now (start .args .registers)) _ _ (start .args .budget) _ _ found equal) (found .stands))
-
 same-length-5 : tie.Need-same-length-5
 same-length-5 c = search needs
+
+returns-3 : tie.Need-returns-3
+returns-3 c =
+    let start = c .before .before .before .before .before .before .before .before .before .before .before .before .before .before .before .before .before .before .before in
+    let found = found-expression _ _ _ _ (c .before .before .before .before .before .before .before .before .before .before .before .before .before .before .load .ensures) _ _ _ (c .before .before .before .before .before .before .before .before .before .before .loaded .given .1) (c .before .before .before .before .before .before .before .if2 .left) in
+    let equal = c .before .before .before .before .before .before .before .before .if1 .left in
+    run-performed _ (now (start .args .registers)) _ _ (start .args .budget) _ _ found _ _ _ equal (c .before .before .before .before .run-expression .ensures _ (found .tree) (counted _ (now (start .args .registers)) _ _ (start .args .budget) _ _ found equal) (found .stands))
 
 same-length-6 : tie.Need-same-length-6
 same-length-6 c = search needs
 
 returns-4 : tie.Need-returns-4
 returns-4 c =
-    let start = c .before .before .before .before .before .before .before .before .before .before .before .before .before .before .before .before .before .before in
-    let examined = c .before .before .before .before .before .before .before .before .before .before .before .before .before .examine in
-    let found = found-command _ _ _ _ (examined .ensures) _ (c .before .before .before .before .before .before .before .before .before .examined2 .given .1) in
-    let equal = c .before .before .before .before .before .before .before .if2 .left in
-    run-performed _ (now (start .args .registers)) _ _ (start .args .budget) _ _ found _ _ _ equal (c .before .before .before .before .run-command .ensures _ (found .tree) (counted _ (now (start .args .registers)) _ _ (start .args .budget) _ _ found equal) (found .stands))
-
-same-length-7 : tie.Need-same-length-7
-same-length-7 c = search needs
-
-returns-5 : tie.Need-returns-5
-returns-5 c =
     let start = c .before .before .before .before .before .before .before .before .before .before in
     let known = c .before .before .before .before .before .before .before .before .slice-known .given in
-    image-refused _ _ _ _ (c .before .before .before .before .before .examine .ensures) (now (start .args .registers)) _ _ _ (λ i h. known i .fits) (c .before .examined3 .given .1)
+    image-refused _ _ _ _ (c .before .before .before .before .before .load .ensures) (now (start .args .registers)) _ _ _ (λ i h. known i .fits) (c .before .loaded2 .given .1)
 
 pub perform-spec : {M : Type 1} → statement M
 perform-spec =
     tie.close
     (tie.spec
-    examine-requires
-    enum-known-examined
+    load-requires
+    enum-known-loaded
     same-length
     returns
-    run-expression-requires
-    enum-known-examined-2
-    same-length-2
-    returns-2
     run-command-requires
-    enum-known-examined-3
+    same-length-2
     same-length-3
+    returns-2
+    run-expression-requires
+    enum-known-loaded-2
     same-length-4
-    returns-3
     same-length-5
+    returns-3
     same-length-6
-    returns-4
-    same-length-7
-    returns-5)
+    returns-4)

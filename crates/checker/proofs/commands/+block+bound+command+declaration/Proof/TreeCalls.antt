@@ -4,6 +4,7 @@
 use Prim.Native.Nat.{_+_, _-_, _*_, ℕ, _<_}
 use borrow.Fn.Kinds.{In}
 use borrow.Fn.PlainCycle.{Measures, is, falls, and}
+use Rattle.rules.specs.paper.Limits.{most-nodes}
 use Rattle.checker.proofs.commands.block.Reads as block
 use Rattle.checker.proofs.commands.block.Kinds as block-kinds
 use Rattle.checker.proofs.commands.+block+bound+command+declaration.Lts-block as block-lts
@@ -16,30 +17,30 @@ use Rattle.checker.proofs.commands.+block+bound+command+declaration.Lts
 use Rattle.checker.proofs.commands.declaration.Reads as declaration
 use Rattle.checker.proofs.commands.declaration.Kinds as declaration-kinds
 use Rattle.checker.proofs.commands.+block+bound+command+declaration.Lts-declaration as declaration-lts
-use Rattle.checker.proofs.anew.Reads as anew-reads
+use Rattle.checker.proofs.codes.anew.Reads as anew-reads
 use Rattle.checker.proofs.commands.assignment.Reads as assignment-reads
 use Rattle.checker.proofs.commands.call.Reads as call-reads
-use Rattle.checker.proofs.commands.location_code.Reads as location-code-reads
-use Rattle.checker.proofs.expression.Reads as expression-reads
+use Rattle.checker.proofs.codes.location_code.Reads as location-code-reads
+use Rattle.checker.proofs.expressions.expression.Reads as expression-reads
 use Rattle.checker.proofs.formals.formals.Reads as formals-reads
-use Rattle.checker.proofs.formals.row_word.Reads as row-word-reads
-use Rattle.checker.proofs.shares_name.Reads as shares-name-reads
-use Rattle.checker.proofs.truth.Reads as truth-reads
+use Rattle.checker.proofs.scope.row_word.Reads as row-word-reads
+use Rattle.checker.proofs.scope.shares_name.Reads as shares-name-reads
+use Rattle.checker.proofs.codes.truth.Reads as truth-reads
 use Rattle.reader.proofs.end.Reads as end-reads
 use Rattle.reader.proofs.kind.Reads as kind-reads
 use Rattle.reader.proofs.operand.Reads as operand-reads
 
 abbrev pub μ-block : Measures 1 block-kinds.ps ℕ
-μ-block κs a = 2 * (2000 - (a .1 .1 .1 .0))
+μ-block κs a = 2 * (most-nodes - (a .1 .1 .1 .0))
 
 abbrev pub μ-bound : Measures 1 bound-kinds.ps ℕ
-μ-bound κs a = 2 * (2000 - (a .1 .1 .1 .0))
+μ-bound κs a = 2 * (most-nodes - (a .1 .1 .1 .0))
 
 abbrev pub μ-command : Measures 1 command-kinds.ps ℕ
-μ-command κs a = 2 * (2000 - (a .1 .1 .1 .0)) + 1
+μ-command κs a = 2 * (most-nodes - (a .1 .1 .1 .0)) + 1
 
 abbrev pub μ-declaration : Measures 1 declaration-kinds.ps ℕ
-μ-declaration κs a = 2 * (2000 - (a .1 .1 .1 .1 .0))
+μ-declaration κs a = 2 * (most-nodes - (a .1 .1 .1 .1 .0))
 
 abbrev pub block-at : ℕ → In 1 block-kinds.ps
 block-at t = and 1 block-kinds.ps (is 1 block-kinds.ps μ-block t) block.Pre

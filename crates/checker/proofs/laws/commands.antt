@@ -1,0 +1,7 @@
+-- Commands by their kinds, with Assign, Call and blocks.
+pub mod AssignLaws
+pub mod ActualLaws
+pub mod AgreementLaws
+pub mod CallLaws
+pub mod CommandLaws
+pub mod BlockLaws

@@ -1,0 +1,4 @@
+-- Names, and expressions by their kinds.
+pub mod NameLaws
+pub mod ExpressionLaws
+pub mod CodeRangeLaws

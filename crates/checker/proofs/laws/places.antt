@@ -1,0 +1,3 @@
+-- Where nodes stand and end.
+pub mod PlaceLaws
+pub mod StandingLaws

@@ -1,0 +1,2 @@
+mod ClearLaws
+pub mod LoadLaws
