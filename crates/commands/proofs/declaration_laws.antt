@@ -1,4 +1,3 @@
 pub mod DeclarationLaws
 pub mod RefLaws
 pub mod FrameLaws
-pub mod EndLaws

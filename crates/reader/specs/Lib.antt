@@ -6,3 +6,5 @@ pub mod Tables
 pub mod Answers
 pub mod Stored
 pub mod StoredLaws
+pub mod StandingLaws
+pub mod KindTrees

@@ -5,15 +5,16 @@ use mathlib.Core.List.{List, [], _∷_}
 use native.Mathlib.Omega.{arith}
 use lib.Dec.{lit<}
 use lib.ListN.{length, getD}
-use Rattle.rules.specs.paper.Kinds.{operator-number}
-use Rattle.rules.specs.paper.Tree.{Operator, arithmetic, Eq, order, logic, Arithmetic, Sum, Sub, Mul, Div, Order, Lt, Le, Gt, Ge, Logic, And, Or, Expression, Formal, Command, Block, Declaration}
+use Rattle.rules.specs.paper.Tree.{Expression, Formal, Command, Block, Declaration}
 use Rattle.rules.specs.paper.States.{Environment, Store, Entry, Item, Mark, expression, command, declaration, reference, abstraction, mark}
 use Rattle.rules.specs.paper.Rules.{Rule, Effect}
 use Rattle.rules.specs.paper.Limits.{most-nodes}
 use Rattle.machine.specs.Layout.{top-control, mark-base}
 use Rattle.reader.specs.Pack.{packed-kind}
-use Rattle.reader.specs.Stored.{HasWord, kind-is, StoredExpression, StoredCommand, StoredBlock, StoredDeclaration, StoredBound}
+use Rattle.reader.specs.Stored.{HasWord, kind-is}
 use Rattle.reader.specs.Stored as Stored
+use Rattle.reader.specs.StandingLaws.{expression-root, command-root, declaration-root, root-low}
+use Rattle.reader.specs.KindTrees.{expression-of, expression-kinds, command-of, command-kinds, declaration-of, declaration-kinds}
 use Rattle.machine.specs.Regions.{stack, Regions, regions, Fits, with-control}
 use Rattle.machine.specs.Represents.{Mode, ControlAs, expression-on, command-on, declaration-on, reference-on, abstraction-on, operator-on, not-on, assign-on, loop-on, ref-on, bind-on, dseq-on, extend-on, leave-on, call-on, Models}
 use Rattle.machine.specs.Steps.{Stands, Ready}
@@ -21,6 +22,7 @@ use Rattle.automaton.specs.Runs.{EnabledAt}
 use Rattle.machine.specs.declared.Machine.{Machine}
 use Rattle.machine.proofs.state_laws.ModelLaws.{sizes}
 use Rattle.machine.proofs.state_laws.NodeLaws.{node-word}
+use Rattle.machine.proofs.state_laws.ItemLaws.{node-kind}
 
 -- The machine without the top of control.
 abbrev pub lowered : Machine → Machine
@@ -69,47 +71,22 @@ pub data ItemSort (words : List ℕ) (w : ℕ) : Item → Type 0 where
   abstraction-sort : {p : ℕ} {fs : List Formal} {b : Block} → w < most-nodes → packed-kind (getD words w 0) ≡ 41 → ItemSort words w (abstraction p fs b)
   mark-sort : {k : Mark} → mark-base ≤ w → ItemSort words w (mark k)
 
-operator-low : (o : Operator) → operator-number o < 15
-operator-low (arithmetic Sum) = omega arith
-operator-low (arithmetic Sub) = omega arith
-operator-low (arithmetic Mul) = omega arith
-operator-low (arithmetic Div) = omega arith
-operator-low Eq = omega arith
-operator-low (order Lt) = omega arith
-operator-low (order Le) = omega arith
-operator-low (order Gt) = omega arith
-operator-low (order Ge) = omega arith
-operator-low (logic And) = omega arith
-operator-low (logic Or) = omega arith
-
 module _ (words : List ℕ) (m : Machine) where
   kind-of-node : {i k w e : ℕ} → HasWord (regions words m .nodes) i k w e → k < 64 → packed-kind (getD words i 0) ≡ k
   kind-of-node h low = kind-is (node-word words m h) low
 
-  expression-kind : {d i j : ℕ} {e : Expression} → StoredExpression (regions words m .nodes) d i j e → (i < most-nodes) × (packed-kind (getD words i 0) < 20)
-  expression-kind (Stored.num h) = (h .place-low, omega (arith, kind-of-node h (lit< tt)))
-  expression-kind (Stored.boo h) = (h .place-low, omega (arith, kind-of-node h (lit< tt)))
-  expression-kind (Stored.id l h) = (h .place-low, omega (arith, kind-of-node h (lit< tt)))
-  expression-kind (Stored.deref l h) = (h .place-low, omega (arith, kind-of-node h (lit< tt)))
-  expression-kind (Stored.valref l h) = (h .place-low, omega (arith, kind-of-node h (lit< tt)))
-  expression-kind (Stored.binary {o = o} h a b) = (h .place-low, omega (arith, kind-of-node h (omega (arith, operator-low o)), operator-low o))
-  expression-kind (Stored.negation h a) = (h .place-low, omega (arith, kind-of-node h (lit< tt)))
-
-  command-kind : {d i j : ℕ} {c : Command} → StoredCommand (regions words m .nodes) d i j c → (i < most-nodes) × (20 ≤ packed-kind (getD words i 0)) × (packed-kind (getD words i 0) < 30)
-  command-kind (Stored.assign l h a) = let q = kind-of-node h (lit< tt) in (h .place-low, omega (arith, q), omega (arith, q))
-  command-kind (Stored.loop h a b) = let q = kind-of-node h (lit< tt) in (h .place-low, omega (arith, q), omega (arith, q))
-  command-kind (Stored.cseq h a b) = let q = kind-of-node h (lit< tt) in (h .place-low, omega (arith, q), omega (arith, q))
-  command-kind (Stored.block-of (Stored.blk h a b)) = let q = kind-of-node h (lit< tt) in (h .place-low, omega (arith, q), omega (arith, q))
-  command-kind (Stored.call l g h a) = let q = kind-of-node h (lit< tt) in (h .place-low, omega (arith, q), omega (arith, q))
-
-  declaration-kind : {d i j : ℕ} {c : Declaration} → StoredDeclaration (regions words m .nodes) d i j c → (i < most-nodes) × (30 ≤ packed-kind (getD words i 0)) × (packed-kind (getD words i 0) < 40)
-  declaration-kind (Stored.bind l h a) = let q = kind-of-node h (lit< tt) in (h .place-low, omega (arith, q), omega (arith, q))
-  declaration-kind (Stored.dseq h a b) = let q = kind-of-node h (lit< tt) in (h .place-low, omega (arith, q), omega (arith, q))
-
   item-sort : {mode : Mode} {w : ℕ} {ws : List ℕ} {i : Item} {C : List Item} → ControlAs (regions words m .nodes) mode (w ∷ ws) (i ∷ C) → ItemSort words w i
-  item-sort (expression-on s h) = let k = expression-kind s in expression-sort (k .0) (k .1)
-  item-sort (command-on s h) = let k = command-kind s in command-sort (k .0) (k .1) (k .2)
-  item-sort (declaration-on s h) = let k = declaration-kind s in declaration-sort (k .0) (k .1) (k .2)
+  item-sort (expression-on s h) = let r = expression-root s in expression-sort (root-low r) (omega (arith, node-kind words m r, expression-kinds (expression-of s)))
+  item-sort (command-on s h) =
+      let r = command-root s in
+      let q = node-kind words m r in
+      let k = command-kinds (command-of s) in
+      command-sort (root-low r) (omega (arith, q, k .0)) (omega (arith, q, k .1))
+  item-sort (declaration-on s h) =
+      let r = declaration-root s in
+      let q = node-kind words m r in
+      let k = declaration-kinds (declaration-of s) in
+      declaration-sort (root-low r) (omega (arith, q, k .0)) (omega (arith, q, k .1))
   item-sort (reference-on (Stored.ref k s) h) = reference-sort (k .place-low) (kind-of-node k (lit< tt))
   item-sort (abstraction-on (Stored.abs l k f s) h) = abstraction-sort (k .place-low) (kind-of-node k (lit< tt))
   item-sort (operator-on q h) = mark-sort (omega (arith, q))

@@ -11,13 +11,13 @@ use Rattle.rules.specs.paper.Checker.{Judged, fault, fine, _>>=_, Passed, expre
 use Rattle.reader.specs.Pack.{packed-kind}
 use Rattle.reader.specs.Stored.{kind-is, StoredExpression, StoredBlock, StoredCommand, StoredRoot, root-expression, root-command, RootAt}
 use Rattle.reader.specs.Stored as Stored
+use Rattle.reader.specs.StandingLaws.{operator-below}
 use Rattle.checker.specs.Rows.{ScopeAt, no-rows}
 use Rattle.checker.specs.Answers.{code-answer, fine-answer, ExpressionAt, ExpressionJudgedAt}
 use Rattle.checker.specs.Commands.{CommandAt, CommandJudgedAt, command-number, root-number, root-answer, RootJudgedAt}
 use Rattle.checker.specs.declared.codes.Answer.{Answer}
 use Rattle.checker.specs.declared.codes.Answer.the-variants.{Is, Fault}
 use Rattle.checker.proofs.laws.codes.AnswerLaws.{then-fault, then-fine, then-inverse}
-use Rattle.checker.proofs.laws.expressions.ExpressionLaws.{operator-below}
 use Rattle.checker.proofs.laws.expressions.CodeRangeLaws.{code-low}
 
 -- Before any declaration the scope is the registers.

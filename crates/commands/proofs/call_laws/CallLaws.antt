@@ -25,7 +25,8 @@ use Rattle.machine.proofs.state_laws.ModelLaws.{sizes, step-withheld}
 use Rattle.machine.proofs.state_laws.NodeLaws.{node-word}
 use Rattle.machine.proofs.stack_laws.SharedLaws.{Put, put-regions, grown-control}
 use Rattle.machine.proofs.stack_laws.RoomLaws.{Room, room-after}
-use Rattle.machine.proofs.state_laws.ItemLaws.{after-node, Rooted, expression-root, root-end, lowered, RunningTop, command-top}
+use Rattle.reader.specs.StandingLaws.{after-node, Rooted, expression-root}
+use Rattle.machine.proofs.state_laws.ItemLaws.{node-end, lowered, RunningTop, command-top}
 
 -- ---- The tree.
 
@@ -173,7 +174,7 @@ module _ {words : List ℕ} {m : Machine} {left₀ at₀ : ℕ} {words′ : List
       further : (mode : Mode) (all : List Item) → Putting (regions words m .nodes) mode (regions words m .control) left₀ at₀ all → Putting (regions words m .nodes) mode (regions after r .control) (left - 1) next all
       further mode all p =
           let n = next-actual some (g .putting mode all p) in
-          let place = q ∙ root-end after r (subst (λ nodes. Rooted nodes at (n .after)) (sym (ap (λ κ. κ .nodes) grown)) (n .root)) in
+          let place = q ∙ node-end after r (subst (λ nodes. Rooted nodes at (n .after)) (sym (ap (λ κ. κ .nodes) grown)) (n .root)) in
           subst (λ ws. Putting (regions words m .nodes) mode ws (left - 1) next all) (sym control-is)
           (subst (λ k. Putting (regions words m .nodes) mode (at ∷ regions words′ m′ .control) (left - 1) k all) (sym place) (n .rest))
 

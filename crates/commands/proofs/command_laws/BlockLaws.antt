@@ -25,7 +25,8 @@ use Rattle.machine.specs.Room.{full-stack}
 use Rattle.machine.proofs.state_laws.ModelLaws.{sizes, step-made, step-withheld-for-room}
 use Rattle.machine.proofs.stack_laws.SharedLaws.{Put, put-regions, value-fits}
 use Rattle.machine.proofs.stack_laws.RoomLaws.{Room, room-after}
-use Rattle.machine.proofs.state_laws.ItemLaws.{after-node, declaration-root, root-end, lowered, command-top}
+use Rattle.reader.specs.StandingLaws.{after-node, declaration-root}
+use Rattle.machine.proofs.state_laws.ItemLaws.{node-end, lowered, command-top}
 
 -- ---- The tree.
 
@@ -144,7 +145,7 @@ module _ (words : List ℕ) (m : Machine) (fits : Fits words m) (few : m .values
         let v = t .rest in
         let z = sizes words m (lowered v) in
         let κ = regions words m in
-        let body-is = place ∙ root-end words m (declaration-root (tree .declared)) in
+        let body-is = place ∙ node-end words m (declaration-root (tree .declared)) in
         let cells-are = cells-counted words m ∙ sym cells-kept in
         subst (λ g. StepAnswer (judge false g) (Made r) words after) (block-effect (ready .applies))
         (step-made words after m r (Made r) (declaration d ∷ mark extend-mark ∷ command c ∷ mark (leave-mark i n) ∷ C) (locations L ∷ X) E S [] n refl after-fits

@@ -20,7 +20,8 @@ use Rattle.machine.specs.Steps.{StepAnswer, Applicable, Steps, PutsTwo, Enters}
 use Rattle.machine.specs.declared.Machine.{Machine}
 use Rattle.machine.specs.declared.Stepped.{Stepped}
 use Rattle.machine.proofs.state_laws.NodeLaws.{node-word}
-use Rattle.machine.proofs.state_laws.ItemLaws.{after-node, command-root, root-end, lowered, command-top}
+use Rattle.reader.specs.StandingLaws.{after-node, command-root}
+use Rattle.machine.proofs.state_laws.ItemLaws.{node-end, lowered, command-top}
 
 -- The place of a command on top of control is a node's.
 pub command-low : (words : List ℕ) (m : Machine) (w : ℕ) (c : Command) → Applicable words m w (command c) → w < most-nodes
@@ -103,7 +104,7 @@ sequence-steps words m i r after second q puts c₁ c₂ C X E S L n rule f read
     let t = command-top (regions words m) i (CSeq i c₁ c₂) (ready .models) in
     let a = sequence-at (t .stored) in
     let u = t .rest in
-    let place = q ∙ root-end words m (command-root (a .first)) in
+    let place = q ∙ node-end words m (command-root (a .first)) in
     subst (λ g. StepAnswer (judge false g) r words after) (sequence-effect (ready .applies))
     (puts C X E S L n (command c₁) (command c₂) (lowered u)
     (command-on (a .first) (command-on (subst (λ k. StoredCommand (regions words m .nodes) (a .depth) k (a .next) c₂) (sym place) (a .second)) (u .control-as))))

@@ -20,7 +20,7 @@ use Rattle.machine.specs.Steps.{StepAnswer, Applicable, Steps, PutsTwo}
 use Rattle.machine.specs.declared.Machine.{Machine}
 use Rattle.machine.specs.declared.Stepped.{Stepped}
 use Rattle.machine.specs.declared.Stepped.the-variants.{Made}
-use Rattle.commands.proofs.declaration_laws.EndLaws.{EndsAt, expression-ends}
+use Rattle.reader.specs.StandingLaws.{Rooted, expression-root}
 use Rattle.machine.proofs.state_laws.NodeLaws.{node-word}
 use Rattle.machine.proofs.state_laws.ModelLaws.{step-made, fits-still}
 use Rattle.machine.proofs.state_laws.TopLaws.{at-height, two-on-top, bindable-top, node-top}
@@ -33,11 +33,11 @@ record Parts (nodes : List ℕ) (i : ℕ) (c : Command) : Type 0 where
   pub body : ℕ
   pub next : ℕ
   pub low : i < most-nodes
-  pub test-ends : EndsAt nodes (suc i) body
+  pub test-ends : Rooted nodes (suc i) body
   pub stored : StoredCommand nodes depth body next c
 
 parts : {nodes : List ℕ} {d i k q : ℕ} {e : Expression} {c : Command} → StoredCommand nodes d i k (Loop q e c) → Parts nodes i c
-parts (loop {d = d} {j = j} {k = k} h a b) = record { depth = d; body = j; next = k; low = h .place-low; test-ends = expression-ends a; stored = b }
+parts (loop {d = d} {j = j} {k = k} h a b) = record { depth = d; body = j; next = k; low = h .place-low; test-ends = expression-root a; stored = b }
 
 again : {nodes : List ℕ} {m : Mode} {w : ℕ} {ws : List ℕ} {C : List Item} {d i k f j l : ℕ} {a c : Command} → ControlAs nodes m (w ∷ ws) (mark loop-mark ∷ C) → StoredCommand nodes d i k a → StoredCommand nodes f j l c →
     ControlAs nodes m (j ∷ i ∷ ws) (command c ∷ command a ∷ C)
@@ -146,7 +146,7 @@ module _ (words : List ℕ) (m : Machine) where
 
           body-is : the-parts .body ≡ body
           body-is =
-              sym (end-is (node-word words m (the-parts .test-ends .word)) (the-parts .test-ends .kind-low))
+              sym (end-is (node-word words m (the-parts .test-ends .word)) (the-parts .test-ends .known))
               ∙ ap (λ i. packed-end (getD words i 0)) (sym place-of) ∙ sym ends
 
           Both : Regions → Type 0

@@ -21,7 +21,8 @@ use Rattle.machine.specs.declared.Machine.{Machine}
 use Rattle.machine.specs.declared.Stepped.{Stepped}
 use Rattle.machine.proofs.state_laws.NodeLaws.{node-word}
 use Rattle.machine.proofs.memory_laws.LookupLaws.{slot-words}
-use Rattle.machine.proofs.state_laws.ItemLaws.{after-node, declaration-root, root-end, lowered, declaration-top, reference-top, abstraction-top}
+use Rattle.reader.specs.StandingLaws.{after-node, declaration-root}
+use Rattle.machine.proofs.state_laws.ItemLaws.{node-end, lowered, declaration-top, reference-top, abstraction-top}
 
 -- The place of a declaration on top of control is a node's.
 pub declaration-low : (words : List ℕ) (m : Machine) (w : ℕ) (c : Declaration) → Applicable words m w (declaration c) → w < most-nodes
@@ -88,7 +89,7 @@ declaration-sequence-steps words m i r after second q puts d₁ d₂ C X E S L n
     let t = declaration-top (regions words m) i (DSeq i d₁ d₂) (ready .models) in
     let a = join-at (t .stored) in
     let u = t .rest in
-    let place = q ∙ root-end words m (declaration-root (a .first)) in
+    let place = q ∙ node-end words m (declaration-root (a .first)) in
     subst (λ g. StepAnswer (judge false g) r words after) (join-effect (ready .applies))
     (puts C X E S L n (declaration d₁) (declaration d₂) (mark dseq-mark) (lowered u)
     (declaration-on (a .first) (declaration-on (subst (λ k. StoredDeclaration (regions words m .nodes) (a .depth) k (a .next) d₂) (sym place) (a .second)) (dseq-on refl (u .control-as)))))

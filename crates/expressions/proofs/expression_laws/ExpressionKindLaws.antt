@@ -9,79 +9,15 @@ use Rattle.rules.specs.paper.Kinds.{operator-number}
 use Rattle.rules.specs.paper.Tree.{Operator, Expression, Num, Boo, Id, DeRef, ValRef, Binary, Not}
 use Rattle.rules.specs.paper.States.{expression}
 use Rattle.reader.specs.Pack.{packed-kind}
-use Rattle.reader.specs.Stored.{kind-is, StoredExpression}
-use Rattle.reader.specs.Stored as Stored
+use Rattle.reader.specs.Stored.{StoredExpression}
+use Rattle.reader.specs.StandingLaws.{expression-root}
+use Rattle.reader.specs.KindTrees.{ExpressionOf, is-number, is-truth, is-id, is-binary, is-negation, is-deref, is-valref, expression-of, number-kind, truth-kind, id-kind, negation-kind, deref-kind, valref-kind}
 use Rattle.machine.specs.Regions.{regions}
 use Rattle.machine.specs.Steps.{Applicable, Steps}
 use Rattle.machine.specs.declared.Machine.{Machine}
 use Rattle.machine.specs.declared.Stepped.{Stepped}
-use Rattle.machine.proofs.state_laws.NodeLaws.{node-word, expression-top}
-use Rattle.expressions.proofs.expression_laws.ExpressionLaws.{operator-above, operator-below}
-
--- The kinds of expressions.
-data Kind (place : ℕ) : ℕ → Expression → Type 0 where
-  is-number : {k : ℕ} → Kind place 1 (Num place k)
-  is-truth : {b : Bool} → Kind place 2 (Boo place b)
-  is-id : {x : ℕ} → Kind place 3 (Id place x)
-  is-binary : {o : Operator} {e₁ e₂ : Expression} → Kind place (operator-number o) (Binary place o e₁ e₂)
-  is-negation : {e : Expression} → Kind place 15 (Not place e)
-  is-deref : {x : ℕ} → Kind place 16 (DeRef place x)
-  is-valref : {x : ℕ} → Kind place 17 (ValRef place x)
-
-module _ {place : ℕ} where
-  number-kind : {n : ℕ} {e : Expression} → Kind place n e → n ≡ 1 → (k : ℕ) × (e ≡ Num place k)
-  number-kind (is-number {k = k}) q = (k, refl)
-  number-kind is-truth q = absurd (omega (arith, q))
-  number-kind is-id q = absurd (omega (arith, q))
-  number-kind (is-binary {o = o}) q = absurd (omega (arith, q, operator-above o))
-  number-kind is-negation q = absurd (omega (arith, q))
-  number-kind is-deref q = absurd (omega (arith, q))
-  number-kind is-valref q = absurd (omega (arith, q))
-
-  truth-kind : {n : ℕ} {e : Expression} → Kind place n e → n ≡ 2 → (b : Bool) × (e ≡ Boo place b)
-  truth-kind is-number q = absurd (omega (arith, q))
-  truth-kind (is-truth {b = b}) q = (b, refl)
-  truth-kind is-id q = absurd (omega (arith, q))
-  truth-kind (is-binary {o = o}) q = absurd (omega (arith, q, operator-above o))
-  truth-kind is-negation q = absurd (omega (arith, q))
-  truth-kind is-deref q = absurd (omega (arith, q))
-  truth-kind is-valref q = absurd (omega (arith, q))
-
-  id-kind : {n : ℕ} {e : Expression} → Kind place n e → n ≡ 3 → (x : ℕ) × (e ≡ Id place x)
-  id-kind is-number q = absurd (omega (arith, q))
-  id-kind is-truth q = absurd (omega (arith, q))
-  id-kind (is-id {x = x}) q = (x, refl)
-  id-kind (is-binary {o = o}) q = absurd (omega (arith, q, operator-above o))
-  id-kind is-negation q = absurd (omega (arith, q))
-  id-kind is-deref q = absurd (omega (arith, q))
-  id-kind is-valref q = absurd (omega (arith, q))
-
-  negation-kind : {n : ℕ} {e : Expression} → Kind place n e → n ≡ 15 → (inner : Expression) × (e ≡ Not place inner)
-  negation-kind is-number q = absurd (omega (arith, q))
-  negation-kind is-truth q = absurd (omega (arith, q))
-  negation-kind is-id q = absurd (omega (arith, q))
-  negation-kind (is-binary {o = o}) q = absurd (omega (arith, q, operator-below o))
-  negation-kind (is-negation {e = e}) q = (e, refl)
-  negation-kind is-deref q = absurd (omega (arith, q))
-  negation-kind is-valref q = absurd (omega (arith, q))
-
-  deref-kind : {n : ℕ} {e : Expression} → Kind place n e → n ≡ 16 → (x : ℕ) × (e ≡ DeRef place x)
-  deref-kind is-number q = absurd (omega (arith, q))
-  deref-kind is-truth q = absurd (omega (arith, q))
-  deref-kind is-id q = absurd (omega (arith, q))
-  deref-kind (is-binary {o = o}) q = absurd (omega (arith, q, operator-below o))
-  deref-kind is-negation q = absurd (omega (arith, q))
-  deref-kind (is-deref {x = x}) q = (x, refl)
-  deref-kind is-valref q = absurd (omega (arith, q))
-
-  valref-kind : {n : ℕ} {e : Expression} → Kind place n e → n ≡ 17 → (x : ℕ) × (e ≡ ValRef place x)
-  valref-kind is-number q = absurd (omega (arith, q))
-  valref-kind is-truth q = absurd (omega (arith, q))
-  valref-kind is-id q = absurd (omega (arith, q))
-  valref-kind (is-binary {o = o}) q = absurd (omega (arith, q, operator-below o))
-  valref-kind is-negation q = absurd (omega (arith, q))
-  valref-kind is-deref q = absurd (omega (arith, q))
-  valref-kind (is-valref {x = x}) q = (x, refl)
+use Rattle.machine.proofs.state_laws.NodeLaws.{expression-top}
+use Rattle.machine.proofs.state_laws.ItemLaws.{node-kind}
 
 -- What the last arm knows: a kind that is none of the others, which is an operator's.
 abbrev pub Others : ℕ → Type 0
@@ -94,7 +30,7 @@ record IsBinary (place which : ℕ) (e : Expression) : Type 0 where
   pub number : which ≡ operator-number operator
   pub is : e ≡ Binary place operator first second
 
-binary-kind : {place n : ℕ} {e : Expression} → Kind place n e → Others n → IsBinary place n e
+binary-kind : {place n : ℕ} {e : Expression} → ExpressionOf place n e → Others n → IsBinary place n e
 binary-kind is-number others = absurd (others .0 .0 .0 .0 .0 .1 refl)
 binary-kind is-truth others = absurd (others .0 .0 .0 .0 .1 refl)
 binary-kind is-id others = absurd (others .0 .0 .0 .1 refl)
@@ -104,22 +40,13 @@ binary-kind is-deref others = absurd (others .0 .1 refl)
 binary-kind is-valref others = absurd (others .1 refl)
 
 module _ (words : List ℕ) (m : Machine) (w which : ℕ) (known : which ≡ packed-kind (getD words w 0)) where
-  of-kind : {n : ℕ} {e : Expression} → packed-kind (getD words w 0) ≡ n → Kind w n e → Kind w which e
-  of-kind {e = e} q k = subst (λ n. Kind w n e) (sym (known ∙ q)) k
-
-  stored-kind : {d j : ℕ} {e : Expression} → StoredExpression (regions words m .nodes) d w j e → Kind w which e
-  stored-kind (Stored.num h) = of-kind (kind-is (node-word words m h) (omega arith)) is-number
-  stored-kind (Stored.boo h) = of-kind (kind-is (node-word words m h) (omega arith)) is-truth
-  stored-kind (Stored.id l h) = of-kind (kind-is (node-word words m h) (omega arith)) is-id
-  stored-kind (Stored.deref l h) = of-kind (kind-is (node-word words m h) (omega arith)) is-deref
-  stored-kind (Stored.valref l h) = of-kind (kind-is (node-word words m h) (omega arith)) is-valref
-  stored-kind (Stored.binary {o = o} h a b) = of-kind (kind-is (node-word words m h) (omega (arith, operator-below o))) is-binary
-  stored-kind (Stored.negation h a) = of-kind (kind-is (node-word words m h) (omega arith)) is-negation
+  stored-kind : {d j : ℕ} {e : Expression} → StoredExpression (regions words m .nodes) d w j e → ExpressionOf w which e
+  stored-kind {e = e} s = subst (λ n. ExpressionOf w n e) (sym (known ∙ node-kind words m (expression-root s))) (expression-of s)
 
   abbrev Some : Type 0
   Some = (e : Expression) × Applicable words m w (expression e)
 
-  applicable-kind : (e : Expression) → Applicable words m w (expression e) → Kind w which e
+  applicable-kind : (e : Expression) → Applicable words m w (expression e) → ExpressionOf w which e
   applicable-kind e a = stored-kind (expression-top (regions words m) w e (a .ready .models) .stored)
 
   moved : (e f : Expression) → e ≡ f → Applicable words m w (expression e) → Applicable words m w (expression f)
@@ -158,7 +85,7 @@ module _ (words : List ℕ) (m : Machine) (w which : ℕ) (known : which ≡ pac
     All = (e : Expression) → Steps words m w (expression e) answer after
 
     -- An expression for which the steps follow from its kind.
-    by-kind : ((e : Expression) → Kind w which e → Steps words m w (expression e) answer after) → All
+    by-kind : ((e : Expression) → ExpressionOf w which e → Steps words m w (expression e) answer after) → All
     by-kind steps e C X E S L n r f ready = steps e (stored-kind (expression-top (regions words m) w e (ready .models) .stored)) C X E S L n r f ready
 
     moved-steps : (e f : Expression) → e ≡ f → Steps words m w (expression f) answer after → Steps words m w (expression e) answer after

@@ -17,6 +17,7 @@ use Rattle.machine.specs.Layout.{mark-base, mark-word}
 use Rattle.reader.specs.Pack.{packed-end, packed-operand}
 use Rattle.reader.specs.Stored.{HasWord, operand-is, end-is, StoredExpression}
 use Rattle.reader.specs.Stored as Stored
+use Rattle.reader.specs.StandingLaws.{expression-low, expression-root}
 use Rattle.integers.specs.WordLaws.{integer-low}
 use Rattle.machine.specs.Regions.{regions}
 use Rattle.machine.specs.Represents.{integer-as, truth-as, value-as, ControlAs, expression-on, operator-on, not-on}
@@ -24,52 +25,7 @@ use Rattle.machine.specs.Steps.{StepAnswer, Applicable, Steps, PutsTwo, PutsThr
 use Rattle.machine.specs.declared.Machine.{Machine}
 use Rattle.machine.specs.declared.Stepped.{Stepped}
 use Rattle.machine.proofs.state_laws.NodeLaws.{node-word, ExpressionTop, expression-top}
-
-pub operator-above : (o : Operator) → 3 < operator-number o
-operator-above (arithmetic Sum) = omega arith
-operator-above (arithmetic Sub) = omega arith
-operator-above (arithmetic Mul) = omega arith
-operator-above (arithmetic Div) = omega arith
-operator-above Eq = omega arith
-operator-above (order Lt) = omega arith
-operator-above (order Le) = omega arith
-operator-above (order Gt) = omega arith
-operator-above (order Ge) = omega arith
-operator-above (logic And) = omega arith
-operator-above (logic Or) = omega arith
-
-pub operator-below : (o : Operator) → operator-number o < 15
-operator-below (arithmetic Sum) = omega arith
-operator-below (arithmetic Sub) = omega arith
-operator-below (arithmetic Mul) = omega arith
-operator-below (arithmetic Div) = omega arith
-operator-below Eq = omega arith
-operator-below (order Lt) = omega arith
-operator-below (order Le) = omega arith
-operator-below (order Gt) = omega arith
-operator-below (order Ge) = omega arith
-operator-below (logic And) = omega arith
-operator-below (logic Or) = omega arith
-
--- ---- Where an expression stands and ends.
-
-pub expression-low : {nodes : List ℕ} {d i j : ℕ} {e : Expression} → StoredExpression nodes d i j e → i < most-nodes
-expression-low (Stored.num h) = h .place-low
-expression-low (Stored.boo h) = h .place-low
-expression-low (Stored.id l h) = h .place-low
-expression-low (Stored.deref l h) = h .place-low
-expression-low (Stored.valref l h) = h .place-low
-expression-low (Stored.binary h a b) = h .place-low
-expression-low (Stored.negation h a) = h .place-low
-
-pub expression-end : (words : List ℕ) (m : Machine) {d i j : ℕ} {e : Expression} → StoredExpression (regions words m .nodes) d i j e → packed-end (getD words i 0) ≡ j
-expression-end words m (Stored.num h) = end-is (node-word words m h) (omega arith)
-expression-end words m (Stored.boo h) = end-is (node-word words m h) (omega arith)
-expression-end words m (Stored.id l h) = end-is (node-word words m h) (omega arith)
-expression-end words m (Stored.deref l h) = end-is (node-word words m h) (omega arith)
-expression-end words m (Stored.valref l h) = end-is (node-word words m h) (omega arith)
-expression-end words m (Stored.binary {o = o} h a b) = end-is (node-word words m h) (omega (arith, operator-below o))
-expression-end words m (Stored.negation h a) = end-is (node-word words m h) (omega arith)
+use Rattle.machine.proofs.state_laws.ItemLaws.{node-end}
 
 -- ---- The node of an expression, by its constructor.
 
@@ -162,7 +118,7 @@ module _ (words : List ℕ) (m : Machine) (w : ℕ) where
         both = operands (top .stored)
 
         is-second : both .middle ≡ second
-        is-second = sym (expression-end words m (both .first)) ∙ ap (λ i. packed-end (getD words i 0)) (next-place w) ∙ sym q
+        is-second = sym (node-end words m (expression-root (both .first))) ∙ ap (λ i. packed-end (getD words i 0)) (next-place w) ∙ sym q
 
         control : ControlAs (regions words m .nodes) (top .lowered .mode) ((w + 1) ∷ second ∷ (mark-base + which) ∷ regions words m .control)
             (expression e₁ ∷ expression e₂ ∷ mark (operator-mark o) ∷ C)

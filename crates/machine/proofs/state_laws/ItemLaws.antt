@@ -5,70 +5,22 @@ use mathlib.Core.Path.{_≡_}
 use mathlib.Core.List.{List, _∷_}
 use native.Mathlib.Omega.{arith}
 use lib.ListN.{length, getD}
-use Rattle.rules.specs.paper.Kinds.{operator-number}
-use Rattle.rules.specs.paper.Tree.{Operator, arithmetic, Eq, order, logic, Sum, Sub, Mul, Div, Lt, Le, Gt, Ge, And, Or, Expression, Formal, Command, Block, Declaration, Ref, Abs}
+use Rattle.rules.specs.paper.Tree.{Expression, Formal, Command, Block, Declaration, Ref, Abs}
 use Rattle.rules.specs.paper.States.{Environment, Store, Entry, Item, command, declaration, reference, abstraction}
-use Rattle.reader.specs.Pack.{packed-end}
-use Rattle.reader.specs.Stored.{HasWord, end-is, StoredExpression, num, boo, id, deref, valref, binary, negation, StoredCommand, assign, loop, cseq, block-of, call, StoredBlock, blk, StoredDeclaration, bind, dseq, StoredBound}
+use Rattle.reader.specs.Pack.{packed-kind, packed-end}
+use Rattle.reader.specs.Stored.{kind-is, end-is, StoredCommand, StoredDeclaration, StoredBound}
+use Rattle.reader.specs.StandingLaws.{Rooted}
 use Rattle.machine.specs.Regions.{Regions, regions, with-control}
 use Rattle.machine.specs.Represents.{SegmentAs, StoreAs, Since, Mode, running, declaring, ControlAs, command-on, declaration-on, reference-on, abstraction-on, ValuesAs, Models}
 use Rattle.machine.specs.declared.Machine.{Machine}
 use Rattle.machine.proofs.state_laws.NodeLaws.{node-word}
 
--- The first child of a node stands after it.
-pub after-node : (i : ℕ) → suc i ≡ i + 1
-after-node i = omega arith
+-- The kind that the reader's word has, and where the next tree stands.
+pub node-kind : (words : List ℕ) (m : Machine) {i j : ℕ} (r : Rooted (regions words m .nodes) i j) → packed-kind (getD words i 0) ≡ r .kind
+node-kind words m r = kind-is (node-word words m (r .word)) (r .known)
 
--- ---- The word of a tree's root.
-
-pub record Rooted (nodes : List ℕ) (place next : ℕ) : Type 0 where
-  pub kind : ℕ
-  pub operand : ℕ
-  pub word : HasWord nodes place kind operand next
-  pub known : kind < 64
-
-rooted : {nodes : List ℕ} {i k w j : ℕ} → HasWord nodes i k w j → k < 64 → Rooted nodes i j
-rooted {k = k} {w = w} h l = record { kind = k; operand = w; word = h; known = l }
-
-operator-kind : (o : Operator) → operator-number o < 64
-operator-kind (arithmetic Sum) = omega arith
-operator-kind (arithmetic Sub) = omega arith
-operator-kind (arithmetic Mul) = omega arith
-operator-kind (arithmetic Div) = omega arith
-operator-kind Eq = omega arith
-operator-kind (order Lt) = omega arith
-operator-kind (order Le) = omega arith
-operator-kind (order Gt) = omega arith
-operator-kind (order Ge) = omega arith
-operator-kind (logic And) = omega arith
-operator-kind (logic Or) = omega arith
-
-pub expression-root : {nodes : List ℕ} {d i j : ℕ} {e : Expression} → StoredExpression nodes d i j e → Rooted nodes i j
-expression-root (num h) = rooted h (omega arith)
-expression-root (boo h) = rooted h (omega arith)
-expression-root (id l h) = rooted h (omega arith)
-expression-root (deref l h) = rooted h (omega arith)
-expression-root (valref l h) = rooted h (omega arith)
-expression-root (binary {o = o} h a b) = rooted h (operator-kind o)
-expression-root (negation h a) = rooted h (omega arith)
-
-block-root : {nodes : List ℕ} {d i j : ℕ} {b : Block} → StoredBlock nodes d i j b → Rooted nodes i j
-block-root (blk h a b) = rooted h (omega arith)
-
-pub command-root : {nodes : List ℕ} {d i j : ℕ} {c : Command} → StoredCommand nodes d i j c → Rooted nodes i j
-command-root (assign l h a) = rooted h (omega arith)
-command-root (loop h a b) = rooted h (omega arith)
-command-root (cseq h a b) = rooted h (omega arith)
-command-root (block-of a) = block-root a
-command-root (call l g h a) = rooted h (omega arith)
-
-pub declaration-root : {nodes : List ℕ} {d i j : ℕ} {c : Declaration} → StoredDeclaration nodes d i j c → Rooted nodes i j
-declaration-root (bind l h a) = rooted h (omega arith)
-declaration-root (dseq h a b) = rooted h (omega arith)
-
--- The end that the reader's word has is where the next tree stands.
-pub root-end : (words : List ℕ) (m : Machine) {i j : ℕ} → Rooted (regions words m .nodes) i j → packed-end (getD words i 0) ≡ j
-root-end words m r = end-is (node-word words m (r .word)) (r .known)
+pub node-end : (words : List ℕ) (m : Machine) {i j : ℕ} → Rooted (regions words m .nodes) i j → packed-end (getD words i 0) ≡ j
+node-end words m r = end-is (node-word words m (r .word)) (r .known)
 
 -- ---- The state under the item, with the mode that the item stands in.
 

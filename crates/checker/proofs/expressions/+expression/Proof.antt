@@ -7,7 +7,7 @@ use denote.Ref.{now}
 use borrow.Author.Needs.{needs}
 use Rattle.rules.specs.paper.Limits.{most-nodes}
 use Rattle.checker.specs.Answers.{ExpressionAt}
-use Rattle.checker.proofs.laws.expressions.ExpressionLaws.{expression-low, code-number, code-truth, name-three, name-high, first-child, first-low, first-fault, first-truth, second-child, second-fault, second-fine}
+use Rattle.checker.proofs.laws.expressions.ExpressionLaws.{code-number, code-truth, name-three, name-high, first-child, first-low, first-fault, first-truth, second-child, second-fault, second-fine}
 use Prim.Native.Nat.{ℕ, _<_}
 use borrow.Fn.Kinds.{In}
 use borrow.Fn.PlainCycle.{Measures, is, falls, and}
@@ -20,6 +20,7 @@ use Rattle.checker.proofs.codes.operation.Reads as operation-reads
 use Rattle.checker.proofs.codes.truth.Reads as truth-reads
 use Rattle.reader.proofs.end.Reads as end-reads
 use Rattle.reader.proofs.kind.Reads as kind-reads
+use Rattle.reader.specs.StandingLaws.{expression-low}
 use Rattle.checker.proofs.expressions.+expression.{statement}
 use Rattle.checker.proofs.expressions.+expression.Tie.{close}
 

@@ -9,6 +9,7 @@ use Rattle.rules.specs.paper.Tree.{Expression}
 use Rattle.rules.specs.paper.Checker.{Scope, Judged, fault, fine, _>>=_, expression-code, expression-codes}
 use Rattle.reader.specs.Pack.{packed-end}
 use Rattle.reader.specs.Stored.{StoredActuals, no-actuals, one-actual}
+use Rattle.reader.specs.StandingLaws.{expression-low, expression-end}
 use Rattle.checker.specs.Rows.{ScopeAt}
 use Rattle.checker.specs.Answers.{answer, ExpressionAt, ExpressionJudgedAt}
 use Rattle.checker.specs.Packing.{packed-onto, AllCodes}
@@ -17,7 +18,6 @@ use Rattle.checker.specs.declared.codes.Answer.{Answer}
 use Rattle.checker.specs.declared.codes.Answer.the-variants.{Is, Fault}
 use Rattle.checker.proofs.laws.codes.AnswerLaws.{same-fine, then-inverse, then-fault, then-code}
 use Rattle.checker.proofs.laws.codes.PackingLaws.{PackedSoFar, none-packed, one-packed}
-use Rattle.checker.proofs.laws.expressions.ExpressionLaws.{expression-low, expression-end}
 use Rattle.checker.proofs.laws.expressions.CodeRangeLaws.{code-low, judged-low}
 
 -- ---- The first of some.

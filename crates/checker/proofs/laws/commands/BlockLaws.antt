@@ -10,15 +10,14 @@ use Rattle.rules.specs.paper.Refusals.{refusal-number}
 use Rattle.rules.specs.paper.Checker.{Scope, Judged, fine, _>>=_, command-ok, block-ok, declaration-gives}
 use Rattle.reader.specs.Pack.{packed-end}
 use Rattle.reader.specs.Stored.{StoredCommand, StoredBlock, blk, StoredDeclaration}
+use Rattle.reader.specs.StandingLaws.{command-low, declaration-low, declaration-on, declaration-end, after-node}
 use Rattle.checker.specs.Rows.{Rows, ScopeAt}
 use Rattle.checker.specs.Answers.{answer, fine-answer}
 use Rattle.checker.specs.Commands.{WritesRowsFrom, CommandAt, BlockAt, DeclarationAt, NamesFrom, names-from, names-fault, CommandJudgedAt, BlockJudgedAt, DeclarationJudgedAt}
 use Rattle.checker.specs.declared.codes.Answer.{Answer}
 use Rattle.checker.specs.declared.codes.Answer.the-variants.{Is, Fault}
 use Rattle.checker.proofs.laws.codes.AnswerLaws.{two-answers, same-is}
-use Rattle.checker.proofs.laws.scope.KeptLaws.{kept-command, kept-scope, scope-with}
-use Rattle.checker.proofs.laws.places.PlaceLaws.{after-node}
-use Rattle.checker.proofs.laws.places.StandingLaws.{command-low, declaration-low, declaration-on, declaration-end, kept-end}
+use Rattle.checker.proofs.laws.scope.KeptLaws.{kept-command, kept-scope, scope-with, kept-end}
 
 -- ---- Names that were declared.
 

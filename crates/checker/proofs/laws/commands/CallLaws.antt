@@ -11,6 +11,7 @@ use Rattle.rules.specs.paper.Tree.{Expression, Formal}
 use Rattle.rules.specs.paper.Checker.{Meaning, function, Scope, Judged, fault, fine, _>>=_, Fine, ok, meaning-of, bound-name, called, same-count, same-codes, expression-codes, command-ok}
 use Rattle.reader.specs.Pack.{packed-operand}
 use Rattle.reader.specs.Stored.{operand-is, StoredFormals}
+use Rattle.reader.specs.StandingLaws.{after-node, operand-name, operand-number}
 use Rattle.checker.specs.Rows.{function-number, meaning-number, MeaningAt, code-at, function-at, ScopeAt}
 use Rattle.checker.specs.Answers.{FoundAs, found-nothing, found-binding, found-register, answer, fine-answer}
 use Rattle.checker.specs.Packing.{packed-codes}
@@ -21,7 +22,6 @@ use Rattle.checker.specs.declared.codes.Answer.{Answer}
 use Rattle.checker.specs.declared.codes.Answer.the-variants.{Is, Fault}
 use Rattle.checker.proofs.laws.commands.ActualLaws.{codes-parted, all-low}
 use Rattle.checker.proofs.laws.codes.AnswerLaws.{nothing-bound, same-number, same-pointer, same-fine, then-fault, then-fine}
-use Rattle.checker.proofs.laws.places.PlaceLaws.{after-node, name-part, number-part}
 
 -- ---- The node's word: the name and the count.
 
@@ -29,14 +29,14 @@ pub call-place : {words : List ℕ} {node x : ℕ} {es : List Expression} → Ca
 call-place a = a .word .place-low
 
 pub call-name : {words : List ℕ} {node x : ℕ} {es : List Expression} (word : ℕ) → word ≡ packed-operand (getD words node 0) → CallAt words node x es → word % names ≡ x
-call-name {x = x} word q a = ap (λ w. w % names) (q ∙ operand-is (a .word) (omega arith)) ∙ name-part x (a .count) (a .name-low)
+call-name {x = x} word q a = ap (λ w. w % names) (q ∙ operand-is (a .word) (omega arith)) ∙ operand-name x (a .count) (a .name-low)
 
 pub call-actuals : {words : List ℕ} {node x : ℕ} {es : List Expression} (word : ℕ) → word ≡ packed-operand (getD words node 0) → CallAt words node x es → ActualsAt words (node + 1) (word / names) es
 call-actuals {words} {node} {x} {es} word q a =
-    subst (λ n. ActualsAt words (node + 1) n es) (sym (ap (λ w. w / names) (q ∙ operand-is (a .word) (omega arith)) ∙ number-part x (a .count) (a .name-low))) (a .actuals)
+    subst (λ n. ActualsAt words (node + 1) n es) (sym (ap (λ w. w / names) (q ∙ operand-is (a .word) (omega arith)) ∙ operand-number x (a .count) (a .name-low))) (a .actuals)
 
 pub call-few : {words : List ℕ} {node x : ℕ} {es : List Expression} (word : ℕ) → word ≡ packed-operand (getD words node 0) → CallAt words node x es → word / names ≤ most-parameters
-call-few {x = x} word q a = subst (λ n. n ≤ most-parameters) (sym (ap (λ w. w / names) (q ∙ operand-is (a .word) (omega arith)) ∙ number-part x (a .count) (a .name-low))) (a .few)
+call-few {x = x} word q a = subst (λ n. n ≤ most-parameters) (sym (ap (λ w. w / names) (q ∙ operand-is (a .word) (omega arith)) ∙ operand-number x (a .count) (a .name-low))) (a .few)
 
 -- ---- Counts.
 

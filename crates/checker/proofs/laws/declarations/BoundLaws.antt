@@ -11,14 +11,13 @@ use Rattle.rules.specs.paper.Tree.{Expression, Formal, Block, Bound, plain, Ref
 use Rattle.rules.specs.paper.Checker.{Meaning, code, function, Scope, Judged, fault, fine, _>>=_, Fine, expression-code, distinct, with-formals, ref-code, block-ok, bound-means}
 use Rattle.reader.specs.Pack.{packed-kind, packed-operand}
 use Rattle.reader.specs.Stored.{HasWord, kind-is, operand-is, StoredExpression, num, boo, id, deref, valref, binary, negation, StoredFormals, no-formals, one-formal, StoredBlock, blk, StoredBound, plain-of, ref, abs}
+use Rattle.reader.specs.StandingLaws.{operator-below, expression-low, after-node}
 use Rattle.checker.specs.Rows.{function-number, meaning-numbers, meaning-number, MeaningAt, code-at, function-at, Rows, no-rows, ScopeAt}
 use Rattle.checker.specs.Answers.{code-answer, fine-answer, meaning-answer, ExpressionAt, ExpressionJudgedAt}
 use Rattle.checker.specs.Commands.{formals-give, FormalsJudgedAt, WritesRowsFrom, FormalsAt, BlockAt, BoundAt, NamesFrom, names-from, names-fault, BlockJudgedAt, BoundJudgedAt}
 use Rattle.checker.specs.declared.codes.Answer.{Answer}
 use Rattle.checker.specs.declared.codes.Answer.the-variants.{Is, Fault}
 use Rattle.checker.proofs.laws.codes.AnswerLaws.{two-answers, same-is, no-fault, same-fine, then-inverse, then-fault, then-fine, then-code}
-use Rattle.checker.proofs.laws.places.PlaceLaws.{after-node}
-use Rattle.checker.proofs.laws.expressions.ExpressionLaws.{operator-below, expression-low}
 use Rattle.checker.proofs.laws.scope.KeptLaws.{kept-lower, kept-then, kept-block, kept-scope, scope-with}
 use Rattle.checker.proofs.laws.declarations.FormalLaws.{named}
 use Rattle.checker.proofs.laws.expressions.CodeRangeLaws.{code-low}

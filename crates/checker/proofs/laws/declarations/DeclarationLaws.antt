@@ -12,15 +12,14 @@ use Rattle.rules.specs.paper.Tree.{Declaration, Bind, DSeq, Bound}
 use Rattle.rules.specs.paper.Checker.{Meaning, Scope, Judged, fault, fine, _>>=_, shares-name, declaration-gives, bound-means}
 use Rattle.reader.specs.Pack.{packed-kind, packed-end, packed-operand}
 use Rattle.reader.specs.Stored.{HasWord, kind-is, operand-is, StoredDeclaration, bind, dseq, StoredBound}
+use Rattle.reader.specs.StandingLaws.{declaration-on, bound-on, after-node}
 use Rattle.checker.specs.Rows.{meaning-numbers, rows-from, rows-end, row-word, meaning-number, MeaningAt, HasRow, Rows, no-rows, one-row, ScopeAt}
 use Rattle.checker.specs.Answers.{meaning-answer}
 use Rattle.checker.specs.Commands.{WritesRowsFrom, BoundAt, DeclarationAt, NamesFrom, names-from, names-fault, DeclarationJudgedAt, BoundJudgedAt}
 use Rattle.checker.specs.declared.codes.Answer.{Answer}
 use Rattle.checker.specs.declared.codes.Answer.the-variants.{Is, Fault}
 use Rattle.checker.proofs.laws.codes.AnswerLaws.{two-answers, same-is}
-use Rattle.checker.proofs.laws.places.PlaceLaws.{after-node}
-use Rattle.checker.proofs.laws.places.StandingLaws.{declaration-on, bound-on}
-use Rattle.checker.proofs.laws.places.StandingLaws as Standing
+use Rattle.reader.specs.StandingLaws as Standing
 use Rattle.checker.proofs.laws.scope.KeptLaws.{kept-lower, kept-then, kept-declaration, kept-meaning, kept-rows, kept-scope, kept-row, row-there, rows-append}
 use Rattle.checker.proofs.laws.declarations.BoundLaws.{bound-low, bound-meaning, meaning-low}
 
@@ -39,8 +38,8 @@ pub record SequenceAt (words : List ℕ) (node next : ℕ) (d : Declaration) : T
   pub second : Declaration
   pub middle : ℕ
   pub same : d ≡ DSeq node first second
-  pub extend-at : DeclarationAt words (node + 1) middle first
-  pub leave-at : DeclarationAt words middle next second
+  pub first-at : DeclarationAt words (node + 1) middle first
+  pub second-at : DeclarationAt words middle next second
   pub on : node + 1 < middle
 
 pub record BindAt (words : List ℕ) (node next : ℕ) (d : Declaration) : Type 0 where
@@ -83,8 +82,8 @@ seen-declaration words node which next d known at = by (at .stored)
           second = d₂;
           middle = j;
           same = refl;
-          extend-at = record { depth = t; stored = subst (λ i. StoredDeclaration words t i j d₁) (after-node node) a };
-          leave-at = record { depth = t; stored = b };
+          first-at = record { depth = t; stored = subst (λ i. StoredDeclaration words t i j d₁) (after-node node) a };
+          second-at = record { depth = t; stored = b };
           on = omega (arith, declaration-on a);
         })
 
@@ -119,7 +118,7 @@ module _ (words : List ℕ) (registers scope tail node which : ℕ) (known : whi
   pub first-declaration : ((d : Declaration) × (next : ℕ) × DeclarationAt words node next d) → (d : Declaration) × (next : ℕ) × DeclarationAt words (node + 1) next d
   first-declaration d =
       let a = sequence-there (d .0) (d .1) (d .2) in
-      (a .first, a .middle, a .extend-at)
+      (a .first, a .middle, a .first-at)
 
   pub first-declaration-low : ((d : Declaration) × (next : ℕ) × DeclarationAt words node next d) → node + 1 < most-nodes
   first-declaration-low d = declaration-low (first-declaration d .2)
@@ -135,18 +134,18 @@ module _ (words : List ℕ) (registers scope tail node which : ℕ) (known : whi
 
     pub sequence-first-fault : (x p : ℕ) → r₁ ≡ Fault x p → DeclarationJudgedAt words words₁ registers scope tail node r₁
     sequence-first-fault x p q =
-        sequence-gives words₁ r₁ (λ d next Γ a s. names-stop (λ Δ₁. declaration-gives Γ (a .second) >>= joined node Δ₁) x p (gives₁ (a .first) (a .middle) Γ (a .extend-at) s) q)
+        sequence-gives words₁ r₁ (λ d next Γ a s. names-stop (λ Δ₁. declaration-gives Γ (a .second) >>= joined node Δ₁) x p (gives₁ (a .first) (a .middle) Γ (a .first-at) s) q)
 
     module _ (middle after : ℕ) (got₁ : r₁ ≡ Is middle) (kept₁ : WritesRowsFrom words words₁ (node + 1)) (ended : after ≡ packed-end (getD words₁ (node + 1) 0)) (low : scope ≤ node) where
       first-given : (d : Declaration) (next : ℕ) (Γ : Scope) (a : SequenceAt words node next d) → ScopeAt words registers scope Γ →
           (Δ : Scope) × (declaration-gives Γ (a .first) ≡ fine Δ) × Rows words₁ middle tail Δ × (middle ≤ a .middle)
-      first-given d next Γ a s = names-given (gives₁ (a .first) (a .middle) Γ (a .extend-at) s) got₁
+      first-given d next Γ a s = names-given (gives₁ (a .first) (a .middle) Γ (a .first-at) s) got₁
 
       after-is : (d : Declaration) (next : ℕ) (a : SequenceAt words node next d) → after ≡ a .middle
-      after-is d next a = ended ∙ declaration-end (kept-declaration kept₁ (a .extend-at))
+      after-is d next a = ended ∙ declaration-end (kept-declaration kept₁ (a .first-at))
 
       second-there : (d : Declaration) (next : ℕ) (a : SequenceAt words node next d) → DeclarationAt words₁ after next (a .second)
-      second-there d next a = subst (λ i. DeclarationAt words₁ i next (a .second)) (sym (after-is d next a)) (kept-declaration kept₁ (a .leave-at))
+      second-there d next a = subst (λ i. DeclarationAt words₁ i next (a .second)) (sym (after-is d next a)) (kept-declaration kept₁ (a .second-at))
 
       pub second-scope : (Γ : Scope) → ScopeAt words registers scope Γ → ScopeAt words₁ registers scope Γ
       second-scope Γ s = kept-scope kept₁ (omega (arith, low)) s

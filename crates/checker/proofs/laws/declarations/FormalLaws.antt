@@ -11,11 +11,11 @@ use Rattle.rules.specs.paper.Tree.{Formal}
 use Rattle.rules.specs.paper.Checker.{code, Named, Scope, fault, has-name, distinct, with-formals}
 use Rattle.reader.specs.Pack.{packed-operand}
 use Rattle.reader.specs.Stored.{HasWord, StoredFormals, no-formals, one-formal, operand-is}
+use Rattle.reader.specs.StandingLaws.{after-node, operand-name, operand-number}
 use Rattle.checker.specs.Rows.{meaning-numbers, rows-from, rows-end, row-word, code-at, Rows, one-row, RowFound}
 use Rattle.checker.specs.Commands.{WritesRowsFrom, FormalsAt, NamesFrom, names-from, names-fault, formals-give, FormalsJudgedAt}
 use Rattle.checker.specs.declared.codes.Answer.{Answer}
 use Rattle.checker.specs.declared.codes.Answer.the-variants.{Is, Fault}
-use Rattle.checker.proofs.laws.places.PlaceLaws.{after-node, name-part, number-part}
 use Rattle.checker.proofs.laws.scope.RowLaws.{row-has, row-has-not}
 use Rattle.checker.proofs.laws.scope.KeptLaws.{kept-nothing, kept-then, kept-rows, kept-formals, kept-row, row-there}
 
@@ -59,10 +59,10 @@ module _ {words : List ℕ} {node count : ℕ} {fs : List Formal} (o : FirstForm
   formal-word = is ∙ operand-is (o .word) (omega arith)
 
   pub formal-name : w % names ≡ o .first .name
-  formal-name = ap (λ v. v % names) formal-word ∙ name-part (o .first .name) (o .first .code) (o .name-low)
+  formal-name = ap (λ v. v % names) formal-word ∙ operand-name (o .first .name) (o .first .code) (o .name-low)
 
   pub formal-code : w / names ≡ o .first .code
-  formal-code = ap (λ v. v / names) formal-word ∙ number-part (o .first .name) (o .first .code) (o .name-low)
+  formal-code = ap (λ v. v / names) formal-word ∙ operand-number (o .first .name) (o .first .code) (o .name-low)
 
 pub formal-node-low : (words : List ℕ) (node count : ℕ) → ((fs : List Formal) × FormalsAt words node count fs) → ¬ (count ≡ 0) → node < most-nodes
 formal-node-low words node count e f = first-formal (e .1) f .word .place-low

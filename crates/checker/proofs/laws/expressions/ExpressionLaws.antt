@@ -7,73 +7,15 @@ use native.Mathlib.Omega.{arith}
 use lib.ListN.{getD}
 use Rattle.rules.specs.paper.Limits.{most-nodes}
 use Rattle.rules.specs.paper.Kinds.{operator-number}
-use Rattle.rules.specs.paper.Tree.{Operator, arithmetic, Sum, Sub, Mul, Div, Eq, order, Lt, Le, Gt, Ge, logic, And, Or, Expression, Num, Boo, Binary, Not}
+use Rattle.rules.specs.paper.Tree.{Operator, Expression, Num, Boo, Binary, Not}
 use Rattle.rules.specs.paper.Checker.{Scope, _>>=_, operator-code, truth-only, expression-code}
 use Rattle.reader.specs.Pack.{packed-kind, packed-end}
-use Rattle.reader.specs.Stored.{kind-is, end-is, StoredExpression, num, boo, id, deref, valref, binary, negation}
+use Rattle.reader.specs.Stored.{kind-is, StoredExpression, num, boo, id, deref, valref, binary, negation}
+use Rattle.reader.specs.StandingLaws.{after-node, operator-above, operator-below, operator-low, expression-low, expression-on, expression-end}
 use Rattle.checker.specs.Answers.{code-answer, NameAt, id-at, deref-at, valref-at, ExpressionAt, ExpressionJudgedAt}
 use Rattle.checker.specs.declared.codes.Answer.{Answer}
 use Rattle.checker.specs.declared.codes.Answer.the-variants.{Is, Fault}
-use Rattle.checker.proofs.laws.places.PlaceLaws.{after-node}
 use Rattle.checker.proofs.laws.codes.AnswerLaws.{then-fault, then-code}
-
-pub operator-above : (o : Operator) → 3 < operator-number o
-operator-above (arithmetic Sum) = omega arith
-operator-above (arithmetic Sub) = omega arith
-operator-above (arithmetic Mul) = omega arith
-operator-above (arithmetic Div) = omega arith
-operator-above Eq = omega arith
-operator-above (order Lt) = omega arith
-operator-above (order Le) = omega arith
-operator-above (order Gt) = omega arith
-operator-above (order Ge) = omega arith
-operator-above (logic And) = omega arith
-operator-above (logic Or) = omega arith
-
-pub operator-below : (o : Operator) → operator-number o < 15
-operator-below (arithmetic Sum) = omega arith
-operator-below (arithmetic Sub) = omega arith
-operator-below (arithmetic Mul) = omega arith
-operator-below (arithmetic Div) = omega arith
-operator-below Eq = omega arith
-operator-below (order Lt) = omega arith
-operator-below (order Le) = omega arith
-operator-below (order Gt) = omega arith
-operator-below (order Ge) = omega arith
-operator-below (logic And) = omega arith
-operator-below (logic Or) = omega arith
-
-operator-kind : (o : Operator) → operator-number o < 64
-operator-kind o = omega (arith, operator-below o)
-
--- ---- Where an expression stands and ends.
-
-pub expression-low : {words : List ℕ} {d i j : ℕ} {e : Expression} → StoredExpression words d i j e → i < most-nodes
-expression-low (num h) = h .place-low
-expression-low (boo h) = h .place-low
-expression-low (id l h) = h .place-low
-expression-low (deref l h) = h .place-low
-expression-low (valref l h) = h .place-low
-expression-low (binary h a b) = h .place-low
-expression-low (negation h a) = h .place-low
-
-pub expression-on : {words : List ℕ} {d i j : ℕ} {e : Expression} → StoredExpression words d i j e → i < j
-expression-on (num h) = omega arith
-expression-on (boo h) = omega arith
-expression-on (id l h) = omega arith
-expression-on (deref l h) = omega arith
-expression-on (valref l h) = omega arith
-expression-on (binary h a b) = omega (arith, expression-on a, expression-on b)
-expression-on (negation h a) = omega (arith, expression-on a)
-
-pub expression-end : {words : List ℕ} {d i j : ℕ} {e : Expression} → StoredExpression words d i j e → packed-end (getD words i 0) ≡ j
-expression-end (num h) = end-is h (omega arith)
-expression-end (boo h) = end-is h (omega arith)
-expression-end (id l h) = end-is h (omega arith)
-expression-end (deref l h) = end-is h (omega arith)
-expression-end (valref l h) = end-is h (omega arith)
-expression-end (binary {o = o} h a b) = end-is h (operator-kind o)
-expression-end (negation h a) = end-is h (omega arith)
 
 -- ---- Which expression it is.
 
@@ -104,7 +46,7 @@ seen words node which e k at = by (at .stored) k
     by (valref l h) k = of-kind k (kind-is h (omega arith)) (seen-name (omega arith) (valref-at l h))
     by {d = suc d} (binary {j = j} {k = m} {o = o} {e₁ = e₁} {e₂ = e₂} h a b) k =
         let end : packed-end (getD words (node + 1) 0) ≡ j = expression-end (child-place a) in
-        of-kind k (kind-is h (operator-kind o))
+        of-kind k (kind-is h (operator-low o))
         (seen-binary (record { depth = d; next = j; stored = child-place a })
         (record { depth = d; next = m; stored = subst (λ i. StoredExpression words d i m e₂) (sym end) b })
         (subst (λ i. node < i) (sym end) (omega (arith, expression-on a))))

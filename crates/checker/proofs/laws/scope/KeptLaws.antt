@@ -8,6 +8,7 @@ use Rattle.rules.specs.paper.Limits.{most-nodes}
 use Rattle.rules.specs.proofs.Basics.{append-assoc}
 use Rattle.rules.specs.paper.Tree.{Formal, Expression, Command, Block, Declaration, Bound}
 use Rattle.rules.specs.paper.Checker.{Meaning, Scope, register-scope}
+use Rattle.reader.specs.Pack.{packed-end}
 use Rattle.reader.specs.Stored.{HasWord}
 use Rattle.reader.specs.StoredLaws.{SameNodes, same-expression, same-actuals, same-formals, same-command, same-block, same-declaration, same-bound}
 use Rattle.checker.specs.Rows.{rows-from, rows-end, MeaningAt, code-at, function-at, HasRow, Rows, no-rows, one-row, ScopeAt}
@@ -120,3 +121,7 @@ rows-append (one-row h q p m r) s = one-row h q p m (rows-append r s)
 pub scope-with : {words : List ℕ} {registers scope from : ℕ} {Γ Δ : Scope} → ScopeAt words registers scope Γ → Rows words from scope Δ → ScopeAt words registers from (Δ ++ Γ)
 scope-with {registers = registers} {Δ = Δ} s r =
     record { own = Δ ++ s .own; rows = rows-append r (s .rows); whole = ap (λ Γ. Δ ++ Γ) (s .whole) ∙ sym (append-assoc Δ (s .own) (register-scope registers)) }
+
+-- A node's end is the same where its word was kept.
+pub kept-end : {words words′ : List ℕ} {node : ℕ} (i : ℕ) → WritesRowsFrom words words′ node → i < most-nodes → packed-end (getD words′ i 0) ≡ packed-end (getD words i 0)
+kept-end i k l = ap packed-end (k .same-below i (omega (arith, l)))

@@ -1,6 +1,7 @@
 -- binary: the second operand stands where the first ends.
 use native.Mathlib.Omega.{arith}
-use Rattle.expressions.proofs.expression_laws.ExpressionLaws.{operator-below, applicable-low, operand-within, binary-steps}
+use Rattle.reader.specs.StandingLaws.{operator-below}
+use Rattle.expressions.proofs.expression_laws.ExpressionLaws.{applicable-low, operand-within, binary-steps}
 use borrow.Author.Needs.{needs}
 use Rattle.expressions.proofs.nodes.binary.Statement.{statement}
 use Rattle.expressions.proofs.nodes.binary.Tie as tie

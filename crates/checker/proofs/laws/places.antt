@@ -1,3 +1,0 @@
--- Where nodes stand and end.
-pub mod PlaceLaws
-pub mod StandingLaws
