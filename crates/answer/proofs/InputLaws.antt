@@ -11,7 +11,7 @@ use Rattle.rules.specs.paper.Refusals.{Length, Size, refusal-number}
 use Rattle.rules.specs.paper.Reader.{size-fits}
 use Rattle.rules.specs.paper.Engine.{Called, refused, refusing}
 use Rattle.answer.specs.Decimal.{ascii, decimal}
-use Rattle.answer.specs.Numbers.{little-endian}
+use Rattle.little_endian.specs.Numbers.{little-endian}
 use Rattle.answer.specs.Program.{line, outcome-text, page, run-input, call-input, program}
 use Rattle.answer.specs.Writing.{ran-text, refusal-page, CountsFit, CountAnswer}
 use Rattle.answer.specs.declared.input.Counted.{Counted}

@@ -12,7 +12,7 @@ use Rattle.integers.specs.WordLaws.{integer-of-word}
 use Rattle.engine.specs.Runs.{ran, run-reply}
 use Rattle.engine.specs.declared.Ran.{Ran}
 use Rattle.answer.specs.Decimal.{ascii, decimal, integer}
-use Rattle.answer.specs.Numbers.{numbers}
+use Rattle.little_endian.specs.Numbers.{numbers}
 use Rattle.answer.specs.Program.{line, outcome-text, register-lines, shows-registers, page, run-input}
 use Rattle.answer.specs.Writing.{PutWithin, ran-text, ran-steps, ran-shows, ran-page}
 use Rattle.answer.proofs.PutLaws.{within-as}

@@ -9,16 +9,16 @@ ghost use lib.ListN.{length, take, drop};
 ghost use Rattle.io.specs.Counts.{Counts};
 ghost use Rattle.rules.specs.paper.Engine.{engine};
 ghost use Rattle.integers.specs.Words.{integers-of};
-ghost use Rattle.answer.specs.Numbers.{numbers};
+ghost use Rattle.little_endian.specs.Numbers.{numbers};
 ghost use Rattle.answer.specs.Program.{page, run-input, program};
 ghost use Rattle.answer.specs.Writing.{PutWithin};
 use crate::input::Counted;
 use crate::input::count_input;
-use crate::input::unpack_values;
-use crate::input::unpack_words;
 use crate::lines::put_page;
 use crate::lines::put_refusal;
 use engine::run;
+use little_endian::unpack_values;
+use little_endian::unpack_words;
 
 // The image and the starting values are taken from the input, the run is made, and its answer is written.
 fn perform(

@@ -10,8 +10,9 @@ use lib.ListN.{length, take, drop, length-append}
 use lib.Seq.{length-take-le, take-at}
 use borrow.Author.Tests.{ltb-false}
 use Rattle.rules.specs.proofs.Basics.{passed-test, and-right}
-use Rattle.engine.specs.Bytes.{numbers, whole, image-count, image-words}
-use Rattle.engine.specs.BytesKept.{numbers-length}
+use Rattle.little_endian.specs.Numbers.{numbers}
+use Rattle.little_endian.specs.NumberLaws.{numbers-length}
+use Rattle.engine.specs.Bytes.{whole, image-count, image-words}
 
 pub image-count-fits : (bytes : ℕ) → (image-count bytes ≤ 4002) × (4 * image-count bytes ≤ bytes)
 unfolding image-count

@@ -11,8 +11,10 @@ use Rattle.rules.specs.paper.Refusals.{refusal-number}
 use Rattle.rules.specs.paper.Refusals as Refusals
 use Rattle.rules.specs.paper.Engine.{engine, refusing, Called}
 use Rattle.integers.specs.Words.{integer-of, integers-of, words-of}
-use Rattle.engine.specs.Bytes.{numbers, bytes-of-words, whole, register-values, register-bytes}
-use Rattle.engine.specs.BytesKept.{AllBytes, values-whole, values-none, bytes-whole, bytes-none, registers-kept}
+use Rattle.little_endian.specs.Numbers.{numbers, bytes-of-words}
+use Rattle.little_endian.specs.NumberLaws.{AllBytes}
+use Rattle.engine.specs.Bytes.{whole, register-values, register-bytes}
+use Rattle.engine.specs.BytesKept.{values-whole, values-none, bytes-whole, bytes-none, registers-kept}
 use Rattle.engine.specs.Runs.{RunReplies}
 use Rattle.engine.specs.declared.RunReply.{RunReply}
 

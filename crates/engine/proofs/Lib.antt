@@ -1,5 +1,4 @@
 mod BytesCounts
-mod BytesLaws
 mod BytesRun
 mod CheckLaws
 mod ClearLaws

@@ -1,32 +1,14 @@
 -- Bytes in place of words: the image's words and the registers' values that some bytes stand for, and the bytes of values. Words are
 -- little-endian of 4 bytes, registers two's complement of 8 bytes, least byte first. `BytesRead` shows what an image of bytes comes to, in the
--- paper's order, and `BytesKept` that values and bytes are one another's inverse.
-use Prim.Native.Nat.{ℕ, zero, suc, _+_, _*_, _/_, _%_}
+-- paper's order, and `BytesKept` that registers that keep their values keep their bytes.
+use Prim.Native.Nat.{ℕ, _/_, _%_}
 use mathlib.Core.Bool.{Bool, cond, _&&_}
-use mathlib.Core.List.{List, [], _∷_, _++_}
+use mathlib.Core.List.{List}
 use lib.Dec.{eqb, leb, ltb}
 use lib.IntN.{ℤ, pos}
-use lib.ListN.{length, take, drop, replicate}
+use lib.ListN.{length, replicate}
 use Rattle.integers.specs.Words.{integers-of, words-of}
-
--- The number that bytes hold, least byte first.
-unfoldable pub little-endian : List ℕ → ℕ
-little-endian [] = 0
-little-endian (b ∷ bs) = b + 256 * little-endian bs
-
--- The first numbers of some bytes, each of this many bytes.
-unfoldable pub numbers : (size count : ℕ) → List ℕ → List ℕ
-numbers size zero bytes = []
-numbers size (suc count) bytes = little-endian (take size bytes) ∷ numbers size count (drop size bytes)
-
--- And back: the bytes of a number, and of numbers one after the other.
-unfoldable pub bytes-of : (size : ℕ) → ℕ → List ℕ
-bytes-of zero number = []
-bytes-of (suc size) number = number % 256 ∷ bytes-of size (number / 256)
-
-unfoldable pub bytes-of-words : List ℕ → List ℕ
-bytes-of-words [] = []
-bytes-of-words (w ∷ ws) = bytes-of 8 w ++ bytes-of-words ws
+use Rattle.little_endian.specs.Numbers.{numbers, bytes-of-words}
 
 -- Whether this many bytes are a whole count of numbers of a size, and the count is at most another.
 abbrev pub whole : (size most bytes : ℕ) → Bool

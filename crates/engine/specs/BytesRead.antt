@@ -20,8 +20,10 @@ use Rattle.rules.specs.paper.Engine.{check-image, passed, run-checked, refusing
 use Rattle.rules.specs.proofs.checking.ImageExact.{check-exact}
 use Rattle.integers.specs.Words.{integers-of}
 use Rattle.integers.specs.WordLaws.{integers-length}
-use Rattle.engine.specs.Bytes.{little-endian, numbers, whole, image-count, image-words, register-values}
-use Rattle.engine.specs.BytesKept.{numbers-length, count-whole, values-whole, values-none}
+use Rattle.little_endian.specs.Numbers.{little-endian, numbers}
+use Rattle.little_endian.specs.NumberLaws.{numbers-length}
+use Rattle.engine.specs.Bytes.{whole, image-count, image-words, register-values}
+use Rattle.engine.specs.BytesKept.{count-whole, values-whole, values-none}
 
 -- A whole count, told by the count.
 is-whole : (size most bytes count : ℕ) → 0 < size → bytes ≡ size * count → count ≤ most → whole size most bytes ≡ true

@@ -1,42 +1,21 @@
 // The engine's calls on bytes, for a host that has its image and its registers as they came in: little-endian words of 4 bytes, and values in
 // two's complement of 8 bytes, least byte first.
 ghost use mathlib.Core.Path.{_≡_};
-ghost use Prim.Native.Nat.{_+_, _*_, _≤_};
-ghost use lib.ListN.{length, take, drop};
-ghost use lib.Seq.{sets};
+ghost use Prim.Native.Nat.{_*_, _≤_};
+ghost use lib.ListN.{length, take};
 ghost use Rattle.rules.specs.paper.Engine.{checker, engine};
 ghost use Rattle.integers.specs.Words.{integers-of, words-of};
 ghost use Rattle.engine.specs.Answers.{Replies};
 ghost use Rattle.engine.specs.Runs.{RunReplies};
-ghost use Rattle.engine.specs.Bytes.{little-endian, numbers, bytes-of, bytes-of-words, image-count, image-words, register-values, register-bytes};
+ghost use Rattle.little_endian.specs.Numbers.{numbers, bytes-of-words};
+ghost use Rattle.engine.specs.Bytes.{image-count, image-words, register-values, register-bytes};
 use crate::CheckReply;
 use crate::RunReply;
 use crate::pi_check;
 use crate::pi_run;
-
-// The word of the four bytes at a place.
-fn word_at(bytes: &[u8], at: usize) -> u32
-    requires { ⌜ at + 4 ≤ length (now bytes) ⌝ }
-    ensures { λ r. ⌜ r ≡ little-endian (take 4 (drop at (now (bytes .entry)))) ⌝ }
-{
-    let first = bytes[at] as u32;
-    let second = bytes[at + 1] as u32;
-    let third = bytes[at + 2] as u32;
-    let fourth = bytes[at + 3] as u32;
-    first + 256 * (second + 256 * (third + 256 * fourth))
-}
-
-// The words of the bytes, as many as there is room for.
-fn unpack_words(bytes: &[u8], words: &mut [u32])
-    requires { ⌜ 4 * length (now words) ≤ length (now bytes) ⌝ }
-    ensures { λ r. ⌜ now (words .exit) ≡ numbers 4 (length (now (words .entry))) (now (bytes .entry)) ⌝ }
-{
-    let mut i = 0;
-    while i < words.len() {
-        words[i] = word_at(bytes, 4 * i);
-        i = i + 1;
-    }
-}
+use little_endian::pack_values;
+use little_endian::unpack_values;
+use little_endian::unpack_words;
 
 // How many words of an image of this many bytes are handed on.
 fn image_count(bytes: usize) -> usize
@@ -76,54 +55,6 @@ pub extern "C" fn pi_check_bytes(image: &[u8], work: &mut [u64]) -> CheckReply
     pi_check(&words[..count], work)
 }
 
-// The value of the eight bytes at a place, as a word.
-fn value_at(bytes: &[u8], at: usize) -> u64
-    requires { ⌜ at + 8 ≤ length (now bytes) ⌝ }
-    ensures { λ r. ⌜ r ≡ little-endian (take 8 (drop at (now (bytes .entry)))) ⌝ }
-{
-    let low = word_at(bytes, at) as u64;
-    let high = word_at(bytes, at + 4) as u64;
-    low + 4294967296 * high
-}
-
-// The values of the bytes, as many as there is room for.
-fn unpack_values(bytes: &[u8], values: &mut [u64])
-    requires { ⌜ 8 * length (now values) ≤ length (now bytes) ⌝ }
-    ensures { λ r. ⌜ now (values .exit) ≡ numbers 8 (length (now (values .entry))) (now (bytes .entry)) ⌝ }
-{
-    let mut i = 0;
-    while i < values.len() {
-        values[i] = value_at(bytes, 8 * i);
-        i = i + 1;
-    }
-}
-
-// A value's eight bytes are written at a place.
-fn put_value(bytes: &mut [u8], at: usize, value: u64)
-    requires { ⌜ at + 8 ≤ length (now bytes) ⌝ }
-    ensures { λ r. ⌜ now (bytes .exit) ≡ sets (now (bytes .entry)) at (bytes-of 8 value) ⌝ }
-{
-    let mut rest = value;
-    let mut i = 0;
-    while i < 8 {
-        bytes[at + i] = (rest % 256) as u8;
-        rest = rest / 256;
-        i = i + 1;
-    }
-}
-
-// The bytes become those of the values.
-fn pack_values(values: &[u64], bytes: &mut [u8])
-    requires { ⌜ length (now bytes) ≡ 8 * length (now values) ⌝ }
-    ensures { λ r. ⌜ now (bytes .exit) ≡ bytes-of-words (now (values .entry)) ⌝ }
-{
-    let mut i = 0;
-    while i < values.len() {
-        put_value(bytes, 8 * i, values[i]);
-        i = i + 1;
-    }
-}
-
 // `pi_run` on registers of bytes, as many as there is room for.
 fn run_values(
     image: &[u32],
@@ -137,7 +68,7 @@ fn run_values(
     ensures { λ r. ⌜ now (registers .exit) ≡ bytes-of-words (words-of (engine (now (image .entry)) (integers-of (numbers 8 (length (now (values .entry))) (now (registers .entry)))) budget (now (work .entry)) .registers)) ⌝ }
     ensures { λ r. ⌜ now (work .exit) ≡ engine (now (image .entry)) (integers-of (numbers 8 (length (now (values .entry))) (now (registers .entry)))) budget (now (work .entry)) .work ⌝ }
 {
-    unpack_values(registers, values);
+    unpack_values(registers, 0, values);
     let reply = pi_run(image, values, budget, work);
     pack_values(values, registers);
     reply

@@ -5,8 +5,8 @@ use Rattle.answer.proofs.perform.Statement.{statement}
 use Rattle.answer.proofs.perform.Tie as tie
 use Rattle.answer.proofs.perform.Reads as reads
 use Rattle.answer.proofs.perform.Lts as lts
-use Rattle.answer.proofs.input.unpack_values.Reads as unpack-values-reads
-use Rattle.answer.proofs.input.unpack_words.Reads as unpack-words-reads
+use Rattle.little_endian.proofs.unpack_values.Reads as unpack-values-reads
+use Rattle.little_endian.proofs.unpack_words.Reads as unpack-words-reads
 use Rattle.answer.proofs.lines.put_page.Reads as put-page-reads
 use Rattle.engine.proofs.run.Reads as run-reads
 

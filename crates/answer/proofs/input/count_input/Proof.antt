@@ -6,7 +6,7 @@ use Rattle.answer.proofs.input.count_input.Statement.{statement}
 use Rattle.answer.proofs.input.count_input.Tie as tie
 use Rattle.answer.proofs.input.count_input.Reads as reads
 use Rattle.answer.proofs.input.count_input.Lts as lts
-use Rattle.answer.proofs.input.word_at.Reads as word-at-reads
+use Rattle.little_endian.proofs.word_at.Reads as word-at-reads
 
 returns : tie.Need-returns
 returns c = too-short (now (c .before .before .args .input)) (c .if1 .taken)

@@ -6,8 +6,8 @@ use Rattle.engine.proofs.bytes.run_values.Statement.{statement}
 use Rattle.engine.proofs.bytes.run_values.Tie as tie
 use Rattle.engine.proofs.bytes.run_values.Reads as reads
 use Rattle.engine.proofs.bytes.run_values.Lts as lts
-use Rattle.engine.proofs.bytes.pack_values.Reads as pack-values-reads
-use Rattle.engine.proofs.bytes.unpack_values.Reads as unpack-values-reads
+use Rattle.little_endian.proofs.pack_values.Reads as pack-values-reads
+use Rattle.little_endian.proofs.unpack_values.Reads as unpack-values-reads
 use Rattle.engine.proofs.pi_run.Reads as pi-run-reads
 
 unpack-values-requires : tie.Need-unpack-values-requires

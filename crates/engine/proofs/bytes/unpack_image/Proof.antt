@@ -13,7 +13,7 @@ use Rattle.engine.proofs.bytes.unpack_image.Tie as tie
 use Rattle.engine.proofs.bytes.unpack_image.Reads as reads
 use Rattle.engine.proofs.bytes.unpack_image.Lts as lts
 use Rattle.engine.proofs.bytes.image_count.Reads as image-count-reads
-use Rattle.engine.proofs.bytes.unpack_words.Reads as unpack-words-reads
+use Rattle.little_endian.proofs.unpack_words.Reads as unpack-words-reads
 
 room : (bytes count words : ℕ) → count ≡ image-count bytes → 4002 ≤ words → count ≤ words
 room bytes count words counted h = omega (arith, counted, h, image-count-fits bytes .0)

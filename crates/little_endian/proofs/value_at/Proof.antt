@@ -2,13 +2,13 @@
 use Prim.Native.Nat.{ℕ, _+_, _*_, _<_}
 use native.Mathlib.Omega.{arith}
 use denote.Ref.{now}
-use Rattle.engine.proofs.BytesLaws.{eight-bytes}
+use Rattle.little_endian.proofs.LoopLaws.{eight-bytes}
 use borrow.Author.Needs.{needs}
-use Rattle.engine.proofs.bytes.value_at.Statement.{statement}
-use Rattle.engine.proofs.bytes.value_at.Tie as tie
-use Rattle.engine.proofs.bytes.value_at.Reads as reads
-use Rattle.engine.proofs.bytes.value_at.Lts as lts
-use Rattle.engine.proofs.bytes.word_at.Reads as word-at-reads
+use Rattle.little_endian.proofs.value_at.Statement.{statement}
+use Rattle.little_endian.proofs.value_at.Tie as tie
+use Rattle.little_endian.proofs.value_at.Reads as reads
+use Rattle.little_endian.proofs.value_at.Lts as lts
+use Rattle.little_endian.proofs.word_at.Reads as word-at-reads
 
 word-at-requires : tie.Need-word-at-requires
 word-at-requires c κs = search needs

@@ -6,12 +6,12 @@ use native.Mathlib.Nat.{add-zero, mod-lt}
 use denote.Ref.{now}
 use lib.ListN.{length, length-set}
 use lib.Seq.{sets}
-use Rattle.engine.specs.Bytes.{bytes-of}
-use Rattle.engine.proofs.BytesLaws.{put-next, put-ends}
-use Rattle.engine.proofs.bytes.put_value.Statement.{statement}
-use Rattle.engine.proofs.bytes.put_value.Tie as tie
-use Rattle.engine.proofs.bytes.put_value.Reads as reads
-use Rattle.engine.proofs.bytes.put_value.Lts as lts
+use Rattle.little_endian.specs.Numbers.{bytes-of}
+use Rattle.little_endian.proofs.LoopLaws.{put-next, put-ends}
+use Rattle.little_endian.proofs.put_value.Statement.{statement}
+use Rattle.little_endian.proofs.put_value.Tie as tie
+use Rattle.little_endian.proofs.put_value.Reads as reads
+use Rattle.little_endian.proofs.put_value.Lts as lts
 
 abbrev Inv-loop : tie.InvT-loop
 Inv-loop bytes₀ at value rest₀ i₀ bytes rest i =

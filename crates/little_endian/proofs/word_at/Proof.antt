@@ -3,12 +3,12 @@ use Prim.Native.Nat.{ℕ, _+_, _*_, _<_}
 use native.Mathlib.Omega.{arith}
 use denote.Ref.{now}
 use lib.ListN.{length, getD}
-use Rattle.engine.proofs.BytesLaws.{four-bytes}
+use Rattle.little_endian.proofs.LoopLaws.{four-bytes}
 use borrow.Author.Needs.{needs}
-use Rattle.engine.proofs.bytes.word_at.Statement.{statement}
-use Rattle.engine.proofs.bytes.word_at.Tie as tie
-use Rattle.engine.proofs.bytes.word_at.Reads as reads
-use Rattle.engine.proofs.bytes.word_at.Lts as lts
+use Rattle.little_endian.proofs.word_at.Statement.{statement}
+use Rattle.little_endian.proofs.word_at.Tie as tie
+use Rattle.little_endian.proofs.word_at.Reads as reads
+use Rattle.little_endian.proofs.word_at.Lts as lts
 
 shared-slice-read-first : tie.Need-shared-slice-read-first
 shared-slice-read-first c = search needs

@@ -5,13 +5,13 @@ use native.Mathlib.Omega.{arith}
 use denote.Ref.{now}
 use lib.ListN.{length, drop}
 use lib.Seq.{sets}
-use Rattle.engine.specs.Bytes.{bytes-of-words}
-use Rattle.engine.proofs.BytesLaws.{pack-starts, pack-next, pack-ends}
-use Rattle.engine.proofs.bytes.pack_values.Statement.{statement}
-use Rattle.engine.proofs.bytes.pack_values.Tie as tie
-use Rattle.engine.proofs.bytes.pack_values.Reads as reads
-use Rattle.engine.proofs.bytes.pack_values.Lts as lts
-use Rattle.engine.proofs.bytes.put_value.Reads as put-value-reads
+use Rattle.little_endian.specs.Numbers.{bytes-of-words}
+use Rattle.little_endian.proofs.LoopLaws.{pack-starts, pack-next, pack-ends}
+use Rattle.little_endian.proofs.pack_values.Statement.{statement}
+use Rattle.little_endian.proofs.pack_values.Tie as tie
+use Rattle.little_endian.proofs.pack_values.Reads as reads
+use Rattle.little_endian.proofs.pack_values.Lts as lts
+use Rattle.little_endian.proofs.put_value.Reads as put-value-reads
 
 abbrev Inv-loop : tie.InvT-loop
 Inv-loop values bytes₀ i₀ bytes i =

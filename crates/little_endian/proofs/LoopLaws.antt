@@ -6,8 +6,8 @@ use native.Mathlib.Omega.{arith}
 use native.Mathlib.Nat.{add-zero, add-suc, suc-add, sub-zero, mul-zero, mul-suc}
 use lib.ListN.{length, getD, take, drop, set, drop-of-length-le, length-append, length-drop}
 use lib.Seq.{sets, sets-eq, getD-drop, drop-drop, drop-cons}
-use Rattle.engine.specs.Bytes.{little-endian, numbers, bytes-of, bytes-of-words}
-use Rattle.engine.specs.BytesKept.{numbers-length}
+use Rattle.little_endian.specs.Numbers.{little-endian, numbers, bytes-of, bytes-of-words}
+use Rattle.little_endian.specs.NumberLaws.{numbers-length}
 
 -- ---- One number.
 
