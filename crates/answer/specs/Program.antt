@@ -44,6 +44,10 @@ page c =
     line (outcome-text (c .reply .answer)) ++ line (ascii "steps " ++ decimal (c .reply .steps)) ++
     cond (shows-registers (c .reply .answer)) (register-lines 0 (c .registers)) []
 
+-- The byte count of an input: 4 bytes for each of the image's 2 + 2n words, 8 for each of the r starting values.
+abbrev pub input-bytes : (n r : ℕ) → ℕ
+input-bytes n r = 8 + 8 * n + 8 * r
+
 -- The engine on the image's 2 + 2n words and the r starting values behind it, 8 bytes each.
 unfoldable pub run-input : (n r : ℕ) → List ℕ → Called
 run-input n r input =
@@ -54,7 +58,7 @@ unfoldable pub call-input : List ℕ → Called
 call-input input =
     let n = little-endian (take 4 input) in
     let r = little-endian (take 4 (drop 4 input)) in
-    let fitting = cond (eqb (length input) (8 + 8 * n + 8 * r)) (run-input n r input) (refusing Length 0 [] []) in
+    let fitting = cond (eqb (length input) (input-bytes n r)) (run-input n r input) (refusing Length 0 [] []) in
     let sized = cond (size-fits n r) fitting (refusing Size 0 [] []) in
     cond (ltb (length input) 8) (refusing Length 0 [] []) sized
 

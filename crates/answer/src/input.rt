@@ -1,6 +1,7 @@
 // What an input is: its counts of nodes and of registers, judged by its byte count.
 ghost use Rattle.answer.specs.Writing.{CountAnswer};
 use little_endian::word_at;
+use reader::size_fits;
 
 // The counts of nodes and of registers that the byte count fits, or the refusal.
 pub(crate) enum Counted {
@@ -17,13 +18,7 @@ pub(crate) fn count_input(input: &[u8]) -> Counted
     }
     let nodes = word_at(input, 0) as usize;
     let count = word_at(input, 4) as usize;
-    if nodes == 0 {
-        return Counted::Refused(2);
-    }
-    if 2000 < nodes {
-        return Counted::Refused(2);
-    }
-    if 16 < count {
+    if !size_fits(nodes, count) {
         return Counted::Refused(2);
     }
     if input.len() != 8 + 8 * nodes + 8 * count {

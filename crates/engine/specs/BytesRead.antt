@@ -7,17 +7,17 @@ use mathlib.Core.Bool.{Bool, true, false, cond, _&&_}
 use mathlib.Core.List.{List, [], _∷_}
 use native.Mathlib.Omega.{arith}
 use native.Mathlib.Nat.{mul-mod-right, div-eq-of-eq-mul-right}
-use lib.Dec.{leb, ltb, leb→le, ltb→lt}
+use lib.Dec.{leb}
 use lib.ListN.{length, take, drop}
 use borrow.Author.Tests.{le-ltb, lt-ltb, le-leb, eq-eqb, ne-eqb}
-use Rattle.rules.specs.proofs.Basics.{passed-test, and-left, and-right}
 use Rattle.rules.specs.paper.Refusals as Refusals
-use Rattle.rules.specs.paper.Limits.{most-nodes, most-registers}
+use Rattle.rules.specs.paper.Limits.{most-registers}
 use Rattle.rules.specs.paper.Tree.{Root}
 use Rattle.rules.specs.paper.Checker.{Passed}
 use Rattle.rules.specs.paper.Reader.{read, bad, size-fits}
 use Rattle.rules.specs.paper.Engine.{check-image, passed, run-checked, refusing}
 use Rattle.rules.specs.proofs.checking.ImageExact.{check-exact}
+use Rattle.reader.specs.SizeLaws.{some-nodes, few-nodes}
 use Rattle.integers.specs.Words.{integers-of}
 use Rattle.integers.specs.WordLaws.{integers-length}
 use Rattle.little_endian.specs.Numbers.{little-endian, numbers}
@@ -80,12 +80,6 @@ headed bytes h = by (whole 4 4002 (length bytes)) refl
           words = image-words-are bytes 2 (count-handed (length bytes) false h p) ∙ two-words 2 0 bytes refl;
           fits = λ n positive e. absurd (omega (arith, positive, e, numbers-length 4 0 (drop 4 (drop 4 bytes))));
         }
-
-some-nodes : (n r : ℕ) → size-fits n r ≡ true → 0 < n
-some-nodes n r q = ltb→lt 0 n (and-left (ltb 0 n) (leb n most-nodes) (and-left (ltb 0 n && leb n most-nodes) (leb r most-registers) (passed-test q)))
-
-few-nodes : (n r : ℕ) → size-fits n r ≡ true → n ≤ 2000
-few-nodes n r q = leb→le n most-nodes (and-right (ltb 0 n) (leb n most-nodes) (and-left (ltb 0 n && leb n most-nodes) (leb r most-registers) (passed-test q)))
 
 -- n or r out of range: 2.
 pub size-refused : (bytes : List ℕ) → 8 ≤ length bytes → size-fits (nodes-said bytes) (registers-said bytes) ≡ false → read (image-words bytes) ≡ bad Refusals.Size 0

@@ -6,3 +6,4 @@ pub mod Answers
 pub mod Stored
 pub mod StoredLaws
 pub mod KindRows
+pub mod SizeLaws
