@@ -9,8 +9,8 @@ use lib.Seq.{length-take-le}
 use Rattle.rules.specs.paper.Engine.{number, truth-of, cell, nothing, Answer, outcome, refused, Called, engine}
 use Rattle.integers.specs.Words.{integers-of, words-of}
 use Rattle.integers.specs.WordLaws.{integer-of-word}
-use Rattle.engine.specs.Runs.{ran, run-reply}
-use Rattle.engine.specs.declared.Ran.{Ran}
+use Rattle.calls.specs.Runs.{ran, run-reply}
+use Rattle.calls.specs.declared.Ran.{Ran}
 use Rattle.answer.specs.Decimal.{ascii, decimal, integer}
 use Rattle.little_endian.specs.Numbers.{numbers}
 use Rattle.answer.specs.Program.{line, outcome-text, register-lines, shows-registers, page, run-input}

@@ -8,8 +8,8 @@ use lib.IntN.{ℤ}
 use lib.ListN.{length, take}
 use Rattle.rules.specs.paper.Limits.{most-nodes, most-registers}
 use Rattle.integers.specs.Words.{integer-of}
-use Rattle.engine.specs.declared.Ran.{Ran}
-use Rattle.engine.specs.declared.Ran.the-variants.{Number, Truth, Location, Nothing, Refused}
+use Rattle.calls.specs.declared.Ran.{Ran}
+use Rattle.calls.specs.declared.Ran.the-variants.{Number, Truth, Location, Nothing, Refused}
 use Rattle.answer.specs.Decimal.{ascii, decimal, integer}
 use Rattle.answer.specs.Program.{line, register-lines, page, input-bytes, run-input, program}
 use Rattle.answer.specs.declared.input.Counted.{Counted}

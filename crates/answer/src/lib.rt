@@ -16,7 +16,7 @@ use crate::input::Counted;
 use crate::input::count_input;
 use crate::lines::put_page;
 use crate::lines::put_refusal;
-use engine::run;
+use calls::run;
 use little_endian::unpack_values;
 use little_endian::unpack_words;
 

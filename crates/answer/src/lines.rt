@@ -10,7 +10,7 @@ ghost use Rattle.answer.specs.Writing.{PutWithin, ran-text, ran-steps, r
 use crate::text::put;
 use crate::text::put_integer;
 use crate::text::put_number;
-use engine::Ran;
+use calls::Ran;
 
 // `number V`, `truth 0` or `truth 1`, `cell V`, `none`, `refused N at P`.
 fn put_outcome(output: &mut [u8], answer: Ran) -> usize

@@ -15,7 +15,7 @@ use Rattle.little_endian.specs.Numbers.{numbers, bytes-of-words}
 use Rattle.little_endian.specs.NumberLaws.{AllBytes}
 use Rattle.engine.specs.Bytes.{whole, register-values, register-bytes}
 use Rattle.engine.specs.BytesKept.{values-whole, values-none, bytes-whole, bytes-none, registers-kept}
-use Rattle.engine.specs.Runs.{RunReplies}
+use Rattle.engine.specs.Replies.{RunReplies}
 use Rattle.engine.specs.declared.RunReply.{RunReply}
 
 -- What a call on bytes leaves.

@@ -1,9 +1,4 @@
 mod BytesCounts
 mod BytesRun
-mod CheckLaws
-mod ClearLaws
-mod ExamineLaws
-mod ExecuteLaws
-mod OrderLaws
-mod PerformLaws
-mod ReplyLaws
+mod CheckNumbers
+mod RunNumbers

@@ -1,7 +1,4 @@
-pub mod Answers
 pub mod Bytes
 pub mod BytesKept
 pub mod BytesRead
-pub mod Delivered
-pub mod Examined
-pub mod Runs
+pub mod Replies

@@ -8,7 +8,7 @@ use Rattle.answer.proofs.perform.Lts as lts
 use Rattle.little_endian.proofs.unpack_values.Reads as unpack-values-reads
 use Rattle.little_endian.proofs.unpack_words.Reads as unpack-words-reads
 use Rattle.answer.proofs.lines.put_page.Reads as put-page-reads
-use Rattle.engine.proofs.run.Reads as run-reads
+use Rattle.calls.proofs.run.Reads as run-reads
 
 unpack-words-requires : tie.Need-unpack-words-requires
 unpack-words-requires c κs = search needs

@@ -1,12 +1,12 @@
 -- The answer of `run` in five numbers.
-use Rattle.engine.proofs.ReplyLaws.{replied}
-use Rattle.engine.specs.declared.Ran.the-variants.{Number, Truth, Location, Nothing, Refused}
+use Rattle.engine.proofs.RunNumbers.{replied}
+use Rattle.calls.specs.declared.Ran.the-variants.{Number, Truth, Location, Nothing, Refused}
 use borrow.Author.Needs.{needs}
 use Rattle.engine.proofs.pi_run.Statement.{statement}
 use Rattle.engine.proofs.pi_run.Tie as tie
 use Rattle.engine.proofs.pi_run.Reads as reads
 use Rattle.engine.proofs.pi_run.Lts as lts
-use Rattle.engine.proofs.run.Reads as run-reads
+use Rattle.calls.proofs.run.Reads as run-reads
 
 run-requires : tie.Need-run-requires
 run-requires c κs = search needs

@@ -1,0 +1,6 @@
+mod CheckLaws
+mod ClearLaws
+mod ExamineLaws
+mod ExecuteLaws
+mod OrderLaws
+mod PerformLaws

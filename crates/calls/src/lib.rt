@@ -1,0 +1,109 @@
+// The engine's two calls: the checker alone, and the run.
+mod perform;
+
+ghost use mathlib.Core.Path.{_≡_};
+ghost use Prim.Native.Nat.{_<_, _≤_};
+ghost use lib.ListN.{length};
+ghost use Rattle.rules.specs.paper.Engine.{checker, cleared, check-image, engine};
+ghost use Rattle.integers.specs.Words.{integers-of, words-of};
+ghost use Rattle.calls.specs.Answers.{check-reply};
+ghost use Rattle.calls.specs.Examined.{ExamineAnswer};
+ghost use Rattle.calls.specs.Runs.{run-reply};
+use crate::perform::run_image;
+use checker::Verdict;
+use checker::root;
+use reader::Shape;
+use reader::read_image;
+
+// What a check answers: the root's code, a command, or a refusal with its place.
+pub enum Checked {
+    Code(usize),
+    Command,
+    Refused(u64, usize),
+}
+
+// What a run answers: the word of the number, truth or location that is left, or nothing, with the steps; or a refusal with its place and
+// the steps made.
+pub enum Ran {
+    Number(u64, u64),
+    Truth(u64, u64),
+    Location(u64, u64),
+    Nothing(u64),
+    Refused(u64, usize, u64),
+}
+
+// The first 8,192 work words become 0.
+fn clear(work: &mut [u64])
+    requires { ⌜ 8192 ≤ length (now work) ⌝ }
+    ensures { λ r. ⌜ now (work .exit) ≡ cleared (now (work .entry)) ⌝ }
+{
+    let mut i = 0;
+    while i < 8192 {
+        work[i] = 0;
+        i = i + 1;
+    }
+}
+
+// What an image is found to be: its root's code or a command, with its count of registers; or a refusal with its place.
+pub(crate) enum Examined {
+    Code(usize, usize),
+    Command(usize),
+    Refused(u64, usize),
+}
+
+// The image is read and checked; its tree stands in the work words then, and the rest of the first 8,192 of them is spoilt.
+pub(crate) fn examine(image: &[u32], work: &mut [u64]) -> Examined
+    requires { ⌜ 8192 ≤ length (now work) ⌝ }
+    ensures { λ r. ⌜ ExamineAnswer (check-image (now (image .entry))) r (now (work .entry)) (now (work .exit)) ⌝ }
+{
+    let shape = read_image(work, image);
+    match shape {
+        Shape::Image(nodes, registers) => {
+            let verdict = root(work, registers);
+            match verdict {
+                Verdict::Code(code) => Examined::Code(code, registers),
+                Verdict::Command => Examined::Command(registers),
+                Verdict::Fault(number, place) => Examined::Refused(number, place),
+            }
+        }
+        Shape::Refused(number, place) => Examined::Refused(number, place),
+    }
+}
+
+// By `check-exact` (rules, ImageExact.antt) an image passes here exactly when it meets the paper's shape, scope and type rules.
+// The checker alone: any image words, any work words. Under 8,192 work words nothing is touched; every other call leaves the first
+// 8,192 of them 0 and the rest as they were.
+pub fn check(image: &[u32], work: &mut [u64]) -> Checked
+    ensures { λ r. ⌜ r ≡ check-reply (checker (now (image .entry)) (now (work .entry)) .answer) ⌝ }
+    ensures { λ r. ⌜ now (work .exit) ≡ checker (now (image .entry)) (now (work .entry)) .work ⌝ }
+{
+    if work.len() < 8192 {
+        return Checked::Refused(22, 0);
+    }
+    let examined = examine(image, work);
+    clear(work);
+    match examined {
+        Examined::Code(code, registers) => Checked::Code(code),
+        Examined::Command(registers) => Checked::Command,
+        Examined::Refused(number, place) => Checked::Refused(number, place),
+    }
+}
+
+// The run: any image words, any registers, any budget, any work words. Under 8,192 work words (22) or with a budget above 1,000,000 (21)
+// nothing is touched; every other call leaves the first 8,192 work words 0 and the rest as they were. The registers are words in two's
+// complement. A run that is refused before its first step keeps them; any other leaves in them what its last state has.
+pub fn run(image: &[u32], registers: &mut [u64], budget: u64, work: &mut [u64]) -> Ran
+    ensures { λ r. ⌜ r ≡ run-reply (engine (now (image .entry)) (integers-of (now (registers .entry))) budget (now (work .entry)) .reply) ⌝ }
+    ensures { λ r. ⌜ now (registers .exit) ≡ words-of (engine (now (image .entry)) (integers-of (now (registers .entry))) budget (now (work .entry)) .registers) ⌝ }
+    ensures { λ r. ⌜ now (work .exit) ≡ engine (now (image .entry)) (integers-of (now (registers .entry))) budget (now (work .entry)) .work ⌝ }
+{
+    if work.len() < 8192 {
+        return Ran::Refused(22, 0, 0);
+    }
+    if 1000000 < budget {
+        return Ran::Refused(21, 0, 0);
+    }
+    let answer = run_image(image, registers, budget, work);
+    clear(work);
+    answer
+}
