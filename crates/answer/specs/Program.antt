@@ -48,7 +48,11 @@ page c =
 abbrev pub input-bytes : (n r : ℕ) → ℕ
 input-bytes n r = 8 + 8 * n + 8 * r
 
--- The engine on the image's 2 + 2n words and the r starting values behind it, 8 bytes each.
+-- The engine on so many words of an input and so many values behind them, 8 bytes each.
+abbrev pub run-numbers : (words values : ℕ) (input work : List ℕ) → Called
+run-numbers words values input work = engine (numbers 4 words input) (integers-of (numbers 8 values (drop (4 * words) input))) most-budget work
+
+-- The engine on the image's 2 + 2n words and the r starting values behind it.
 unfoldable pub run-input : (n r : ℕ) → List ℕ → Called
 run-input n r input =
     engine (numbers 4 (2 + 2 * n) input) (integers-of (numbers 8 r (drop (8 + 8 * n) input))) most-budget (replicate work-words 0)

@@ -5,12 +5,9 @@ mod text;
 
 ghost use mathlib.Core.Path.{_≡_};
 ghost use Prim.Native.Nat.{_+_, _*_, _≤_};
-ghost use lib.ListN.{length, take, drop};
+ghost use lib.ListN.{length, take};
 ghost use Rattle.io.specs.Counts.{Counts};
-ghost use Rattle.rules.specs.paper.Engine.{engine};
-ghost use Rattle.integers.specs.Words.{integers-of};
-ghost use Rattle.little_endian.specs.Numbers.{numbers};
-ghost use Rattle.answer.specs.Program.{page, run-input, program};
+ghost use Rattle.answer.specs.Program.{page, input-bytes, run-numbers, run-input, program};
 ghost use Rattle.answer.specs.Writing.{PutWithin};
 use crate::input::Counted;
 use crate::input::count_input;
@@ -21,7 +18,7 @@ use little_endian::unpack_values;
 use little_endian::unpack_words;
 
 // The image and the starting values are taken from the input, the run is made, and its answer is written.
-fn perform(
+fn answer_input(
     input: &[u8],
     image: &mut [u32],
     registers: &mut [u64],
@@ -31,7 +28,7 @@ fn perform(
     requires { ⌜ 4 * length (now image) + 8 * length (now registers) ≤ length (now input) ⌝ }
     requires { ⌜ length (now registers) ≤ 16 ⌝ }
     requires { ⌜ 1024 ≤ length (now output) ⌝ }
-    ensures { λ r. ⌜ PutWithin 1024 (now (output .entry)) 0 (page (engine (numbers 4 (length (now (image .entry))) (now (input .entry))) (integers-of (numbers 8 (length (now (registers .entry))) (drop (4 * length (now (image .entry))) (now (input .entry))))) 1000000 (now (work .entry)))) r (now (output .exit)) ⌝ }
+    ensures { λ r. ⌜ PutWithin 1024 (now (output .entry)) 0 (page (run-numbers (length (now (image .entry))) (length (now (registers .entry))) (now (input .entry)) (now (work .entry)))) r (now (output .exit)) ⌝ }
 {
     unpack_words(input, image);
     unpack_values(input, 4 * image.len(), registers);
@@ -43,7 +40,7 @@ fn perform(
 fn answer_counted(input: &[u8], nodes: usize, count: usize, output: &mut [u8]) -> usize
     requires { ⌜ nodes ≤ 2000 ⌝ }
     requires { ⌜ count ≤ 16 ⌝ }
-    requires { ⌜ length (now input) ≡ 8 + 8 * nodes + 8 * count ⌝ }
+    requires { ⌜ length (now input) ≡ input-bytes nodes count ⌝ }
     requires { ⌜ 1024 ≤ length (now output) ⌝ }
     ensures { λ r. ⌜ PutWithin 1024 (now (output .entry)) 0 (page (run-input nodes count (now (input .entry)))) r (now (output .exit)) ⌝ }
 {
@@ -51,7 +48,7 @@ fn answer_counted(input: &[u8], nodes: usize, count: usize, output: &mut [u8]) -
     let mut registers = [0u64; 16];
     let mut work = [0u64; 8192];
     let words = 2 + 2 * nodes;
-    perform(
+    answer_input(
         input,
         &mut image[..words],
         &mut registers[..count],

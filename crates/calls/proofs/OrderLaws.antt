@@ -20,7 +20,7 @@ use Rattle.integers.specs.WordLaws.{integers-length, words-back}
 use Rattle.reader.specs.Stored.{RootAt}
 use Rattle.reader.specs.Put.{KeptBeyond}
 use Rattle.calls.specs.Examined.{ExamineAnswer}
-use Rattle.calls.specs.Runs.{run-reply, Performed, RunOf}
+use Rattle.calls.specs.Runs.{run-reply, run-call, RanAs, Performed, RunOf, run-of-image}
 use Rattle.calls.specs.declared.Examined.{Examined}
 use Rattle.calls.specs.declared.Examined.the-variants as Examine
 use Rattle.calls.specs.declared.Ran.{Ran}
@@ -115,7 +115,7 @@ module _ (image registers : List ℕ) (n : ℕ) (a : Passed) (budget : ℕ) (bef
   counted q = found .passes ∙ ap (λ k. passed k (found .tree) a) (sym q)
 
   pub run-performed : (r : Ran) (last after : List ℕ) → length registers ≡ n → Performed (RunOf registers (found .tree) budget) r last middle after →
-      Performed (run-checked (check-image image) (integers-of registers) budget []) r last before after
+      Performed (run-of-image image registers budget) r last before after
   run-performed r last after q done =
       subst (λ k. Performed (run-checked k (integers-of registers) budget []) r last before after) (sym (counted q))
       (subst (λ c. Performed c r last before after) (sym same)
@@ -168,40 +168,35 @@ module _ (zs : List ℤ) (budget : ℕ) (ws vs : List ℕ) where
 
 -- ---- 22 and 21: nothing is touched.
 
--- What a call of the engine leaves, in the code's words.
-abbrev pub Leaves : (image registers : List ℕ) (budget : ℕ) (work : List ℕ) → Ran → (last-registers last-work : List ℕ) → Type 0
-Leaves image registers budget work r last-registers last-work =
-    (r ≡ run-reply (engine image (integers-of registers) budget work .reply)) ×
-    ((last-registers ≡ words-of (engine image (integers-of registers) budget work .registers)) × (last-work ≡ engine image (integers-of registers) budget work .work))
-
 module _ (image registers : List ℕ) (budget : ℕ) (work : List ℕ) (low : (i : ℕ) → i < length registers → getD registers i 0 < 18446744073709551616) where
-  leaves-of : (c : Called) (r : Ran) (last-registers last-work : List ℕ) → engine image (integers-of registers) budget work ≡ c → r ≡ run-reply (c .reply) → last-registers ≡ words-of (c .registers) → last-work ≡ c .work →
-      Leaves image registers budget work r last-registers last-work
-  leaves-of c r last-registers last-work e p q s = (p ∙ sym (ap (λ k. run-reply (k .reply)) e), (q ∙ sym (ap (λ k. words-of (k .registers)) e), s ∙ sym (ap (λ k. k .work) e)))
+  as-called : (c : Called) (r : Ran) (last-registers last-work : List ℕ) → run-call image registers budget work ≡ c → r ≡ run-reply (c .reply) → last-registers ≡ words-of (c .registers) → last-work ≡ c .work →
+      RanAs (run-call image registers budget work) r last-registers last-work
+  as-called c r last-registers last-work e p q s =
+      record { answer-is = p ∙ sym (ap (λ k. run-reply (k .reply)) e); registers-are = q ∙ sym (ap (λ k. words-of (k .registers)) e); work-is = s ∙ sym (ap (λ k. k .work) e) }
 
-  pub work-refused : length work < 8192 → Leaves image registers budget work (Refused 22 0 0) registers work
+  pub work-refused : length work < 8192 → RanAs (run-call image registers budget work) (Refused 22 0 0) registers work
   unfolding refusal-number
-  work-refused h = leaves-of (refusing Refusals.Work 0 (integers-of registers) work) (Refused 22 0 0) registers work little refl (sym (words-back registers low)) refl
+  work-refused h = as-called (refusing Refusals.Work 0 (integers-of registers) work) (Refused 22 0 0) registers work little refl (sym (words-back registers low)) refl
     where
-      little : engine image (integers-of registers) budget work ≡ refusing Refusals.Work 0 (integers-of registers) work
+      little : run-call image registers budget work ≡ refusing Refusals.Work 0 (integers-of registers) work
       little = unfold engine in (rw (lt-ltb (length work) 8192 h))
 
-  pub budget-refused : 8192 ≤ length work → 1000000 < budget → Leaves image registers budget work (Refused 21 0 0) registers work
+  pub budget-refused : 8192 ≤ length work → 1000000 < budget → RanAs (run-call image registers budget work) (Refused 21 0 0) registers work
   unfolding refusal-number
-  budget-refused room h = leaves-of (refusing Refusals.Budget 0 (integers-of registers) work) (Refused 21 0 0) registers work much refl (sym (words-back registers low)) refl
+  budget-refused room h = as-called (refusing Refusals.Budget 0 (integers-of registers) work) (Refused 21 0 0) registers work much refl (sym (words-back registers low)) refl
     where
-      much : engine image (integers-of registers) budget work ≡ refusing Refusals.Budget 0 (integers-of registers) work
+      much : run-call image registers budget work ≡ refusing Refusals.Budget 0 (integers-of registers) work
       much = unfold engine in (rw (le-ltb (length work) 8192 room, lt-leb budget 1000000 h))
 
   -- ---- Every other call: what was performed, and the first 8,192 work words 0.
 
   pub performed : 8192 ≤ length work → budget ≤ 1000000 → (r : Ran) (last after cleared-after : List ℕ) →
-      Performed (run-checked (check-image image) (integers-of registers) budget []) r last work after → cleared-after ≡ cleared after → Leaves image registers budget work r last cleared-after
+      Performed (run-of-image image registers budget) r last work after → cleared-after ≡ cleared after → RanAs (run-call image registers budget work) r last cleared-after
   performed room few r last after cleared-after done q =
-      leaves-of (run-checked (check-image image) (integers-of registers) budget (cleared work)) r last cleared-after body
+      as-called (run-checked (check-image image) (integers-of registers) budget (cleared work)) r last cleared-after body
       (done .reply-is ∙ ap run-reply (reply-same (integers-of registers) budget [] (cleared work) (check-image image)))
       (done .registers-are ∙ ap words-of (registers-same (integers-of registers) budget [] (cleared work) (check-image image)))
       (q ∙ cleared-same work after (done .beyond) ∙ sym (work-same (integers-of registers) budget (cleared work) [] (check-image image)))
     where
-      body : engine image (integers-of registers) budget work ≡ run-checked (check-image image) (integers-of registers) budget (cleared work)
+      body : run-call image registers budget work ≡ run-checked (check-image image) (integers-of registers) budget (cleared work)
       body = unfold engine in (rw (le-ltb (length work) 8192 room, le-leb budget 1000000 few))

@@ -16,7 +16,7 @@ use Rattle.rules.specs.claims.History.{History, Reach}
 use Rattle.rules.specs.claims.Claim.{StateClaim, StepWithheld, AllInRange}
 use Rattle.rules.specs.claims.Ends.{FinalValues}
 use Rattle.integers.specs.Words.{integers-of, words-of}
-use Rattle.calls.specs.Runs.{ran, run-reply}
+use Rattle.calls.specs.Runs.{ran, run-reply, run-call}
 use Rattle.calls.specs.declared.Ran.{Ran}
 
 -- The answer that a state with these steps made comes to: control is empty, and what is left is the outcome; or the step is withheld
@@ -59,7 +59,7 @@ abbrev pub RunsAreWhole : Type 0
 RunsAreWhole =
     (image registers : List ℕ) (budget : ℕ) (work : List ℕ) (answer : Ran) (last : List ℕ) →
     -- the contract of `run`
-    answer ≡ run-reply (engine image (integers-of registers) budget work .reply) → last ≡ words-of (engine image (integers-of registers) budget work .registers) →
+    answer ≡ run-reply (run-call image registers budget work .reply) → last ≡ words-of (run-call image registers budget work .registers) →
     -- a passed image, one starting value per register, a permitted budget, enough work words
     (t : Root) (a : Passed) → check-image image ≡ passed (length registers) t a → ((i : ℕ) → i < length registers → getD registers i 0 < 18446744073709551616) →
     budget ≤ most-budget → work-words ≤ length work → RunIsWhole a registers t budget answer last

@@ -14,6 +14,7 @@ use Rattle.rules.specs.proofs.running.WholeRun.{whole-run}
 use Rattle.rules.specs.proofs.running.RunEnds.{run-ends}
 use Rattle.integers.specs.Words.{integers-of, words-of}
 use Rattle.integers.specs.WordLaws.{integer-in-range, integers-length}
+use Rattle.calls.specs.Runs.{run-call}
 use Rattle.calls.specs.Claim.{at-its-end, withheld-there, Delivered, EngineDelivers, RunsAreWhole}
 
 -- Words hold integers of the range.
@@ -39,11 +40,11 @@ pub run-is-whole : RunsAreWhole
 run-is-whole image registers budget work answer last p q t a passes low few room =
     let d = delivered image (length registers) t a passes (integers-of registers) (integers-length registers) (all-in-range registers low) budget few work room in
     record {
-      steps = engine image (integers-of registers) budget work .reply .steps;
+      steps = run-call image registers budget work .reply .steps;
       state-at-end = d .last;
       history = d .history;
       reached = d .reached;
-      what = engine image (integers-of registers) budget work .reply .answer;
+      what = run-call image registers budget work .reply .answer;
       answered = d .answered;
       answer-is = p;
       registers-are = q ∙ ap words-of (d .registers-are);

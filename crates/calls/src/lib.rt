@@ -4,11 +4,10 @@ mod perform;
 ghost use mathlib.Core.Path.{_≡_};
 ghost use Prim.Native.Nat.{_<_, _≤_};
 ghost use lib.ListN.{length};
-ghost use Rattle.rules.specs.paper.Engine.{checker, cleared, check-image, engine};
-ghost use Rattle.integers.specs.Words.{integers-of, words-of};
+ghost use Rattle.rules.specs.paper.Engine.{checker, cleared, check-image};
 ghost use Rattle.calls.specs.Answers.{check-reply};
 ghost use Rattle.calls.specs.Examined.{ExamineAnswer};
-ghost use Rattle.calls.specs.Runs.{run-reply};
+ghost use Rattle.calls.specs.Runs.{run-call, RanAs};
 use crate::perform::run_image;
 use checker::Verdict;
 use checker::root;
@@ -93,9 +92,7 @@ pub fn check(image: &[u32], work: &mut [u64]) -> Checked
 // nothing is touched; every other call leaves the first 8,192 work words 0 and the rest as they were. The registers are words in two's
 // complement. A run that is refused before its first step keeps them; any other leaves in them what its last state has.
 pub fn run(image: &[u32], registers: &mut [u64], budget: u64, work: &mut [u64]) -> Ran
-    ensures { λ r. ⌜ r ≡ run-reply (engine (now (image .entry)) (integers-of (now (registers .entry))) budget (now (work .entry)) .reply) ⌝ }
-    ensures { λ r. ⌜ now (registers .exit) ≡ words-of (engine (now (image .entry)) (integers-of (now (registers .entry))) budget (now (work .entry)) .registers) ⌝ }
-    ensures { λ r. ⌜ now (work .exit) ≡ engine (now (image .entry)) (integers-of (now (registers .entry))) budget (now (work .entry)) .work ⌝ }
+    ensures { λ r. ⌜ RanAs (run-call (now (image .entry)) (now (registers .entry)) budget (now (work .entry))) r (now (registers .exit)) (now (work .exit)) ⌝ }
 {
     if work.len() < 8192 {
         return Ran::Refused(22, 0, 0);

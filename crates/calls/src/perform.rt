@@ -1,16 +1,11 @@
 // The run of an image: its tree is run on the automaton over the registers.
 ghost use mathlib.Core.Path.{_≡_};
-ghost use mathlib.Core.List.{List, []};
-ghost use Prim.Native.Nat.{ℕ, _≤_};
+ghost use Prim.Native.Nat.{_≤_};
 ghost use lib.ListN.{length};
-ghost use Rattle.rules.specs.paper.Tree.{Root};
-ghost use Rattle.rules.specs.paper.Checker.{Passed, expression-of-code, a-command};
+ghost use Rattle.rules.specs.paper.Checker.{expression-of-code, a-command};
 ghost use Rattle.rules.specs.paper.States.{Value};
-ghost use Rattle.rules.specs.paper.Run.{run};
-ghost use Rattle.rules.specs.paper.Engine.{check-image, passed, start, run-checked, outcome, outcome-of-value};
-ghost use Rattle.integers.specs.Words.{integers-of};
-ghost use Rattle.reader.specs.Stored.{RootAt};
-ghost use Rattle.calls.specs.Runs.{ran, ExecuteAnswer, Performed, RunOf, LeftAs};
+ghost use Rattle.rules.specs.paper.Engine.{outcome, outcome-of-value};
+ghost use Rattle.calls.specs.Runs.{ran, TreeStands, TreeStandsAs, ExecutesTree, RunsTreeAs, Performed, run-of-image, LeftAs};
 use crate::Examined;
 use crate::Ran;
 use crate::examine;
@@ -23,8 +18,8 @@ use automaton::start::start;
 // The tree that stands in the work words is run from the registers, which take what it leaves in them.
 fn execute(registers: &mut [u64], budget: u64, work: &mut [u64]) -> Ending
     requires { ⌜ 8192 ≤ length (now work) ⌝ }
-    requires { ⌜ ((image : List ℕ) × (t : Root) × (a : Passed) × (check-image image ≡ passed (length (now registers)) t a) × RootAt (now work) t) ⌝ }
-    ensures { λ r. ⌜ ((image : List ℕ) (t : Root) (a : Passed) → check-image image ≡ passed (length (now (registers .entry))) t a → RootAt (now (work .entry)) t → ExecuteAnswer (run budget 0 (start (length (now (registers .entry))) t (integers-of (now (registers .entry))))) (length (now (registers .entry))) r (now (registers .exit)) (now (work .entry)) (now (work .exit))) ⌝ }
+    requires { ⌜ TreeStands (length (now registers)) (now work) ⌝ }
+    ensures { λ r. ⌜ ExecutesTree (now (registers .entry)) budget r (now (registers .exit)) (now (work .entry)) (now (work .exit)) ⌝ }
 {
     let first = start(work, registers);
     let ending = automaton::run(work, first, budget);
@@ -50,8 +45,8 @@ fn result(work: &[u64], last: Machine, code: usize, steps: u64) -> Ran
 // An expression of this code.
 fn run_expression(registers: &mut [u64], budget: u64, work: &mut [u64], code: usize) -> Ran
     requires { ⌜ 8192 ≤ length (now work) ⌝ }
-    requires { ⌜ ((image : List ℕ) × (t : Root) × (check-image image ≡ passed (length (now registers)) t (expression-of-code code)) × RootAt (now work) t) ⌝ }
-    ensures { λ r. ⌜ ((image : List ℕ) (t : Root) → check-image image ≡ passed (length (now (registers .entry))) t (expression-of-code code) → RootAt (now (work .entry)) t → Performed (RunOf (now (registers .entry)) t budget) r (now (registers .exit)) (now (work .entry)) (now (work .exit))) ⌝ }
+    requires { ⌜ TreeStandsAs (length (now registers)) (expression-of-code code) (now work) ⌝ }
+    ensures { λ r. ⌜ RunsTreeAs (expression-of-code code) (now (registers .entry)) budget r (now (registers .exit)) (now (work .entry)) (now (work .exit)) ⌝ }
 {
     let ending = execute(registers, budget, work);
     match ending {
@@ -63,8 +58,8 @@ fn run_expression(registers: &mut [u64], budget: u64, work: &mut [u64], code: us
 // A command.
 fn run_command(registers: &mut [u64], budget: u64, work: &mut [u64]) -> Ran
     requires { ⌜ 8192 ≤ length (now work) ⌝ }
-    requires { ⌜ ((image : List ℕ) × (t : Root) × (check-image image ≡ passed (length (now registers)) t a-command) × RootAt (now work) t) ⌝ }
-    ensures { λ r. ⌜ ((image : List ℕ) (t : Root) → check-image image ≡ passed (length (now (registers .entry))) t a-command → RootAt (now (work .entry)) t → Performed (RunOf (now (registers .entry)) t budget) r (now (registers .exit)) (now (work .entry)) (now (work .exit))) ⌝ }
+    requires { ⌜ TreeStandsAs (length (now registers)) a-command (now work) ⌝ }
+    ensures { λ r. ⌜ RunsTreeAs a-command (now (registers .entry)) budget r (now (registers .exit)) (now (work .entry)) (now (work .exit)) ⌝ }
 {
     let ending = execute(registers, budget, work);
     match ending {
@@ -76,7 +71,7 @@ fn run_command(registers: &mut [u64], budget: u64, work: &mut [u64]) -> Ran
 // The image, then the count of registers, then the run. The first 8,192 work words are spoilt.
 pub(crate) fn run_image(image: &[u32], registers: &mut [u64], budget: u64, work: &mut [u64]) -> Ran
     requires { ⌜ 8192 ≤ length (now work) ⌝ }
-    ensures { λ r. ⌜ Performed (run-checked (check-image (now (image .entry))) (integers-of (now (registers .entry))) budget []) r (now (registers .exit)) (now (work .entry)) (now (work .exit)) ⌝ }
+    ensures { λ r. ⌜ Performed (run-of-image (now (image .entry)) (now (registers .entry)) budget) r (now (registers .exit)) (now (work .entry)) (now (work .exit)) ⌝ }
 {
     let examined = examine(image, work);
     match examined {

@@ -12,7 +12,7 @@ use borrow.Author.Tests.{ltb-false}
 use Rattle.rules.specs.proofs.Basics.{passed-test, and-right}
 use Rattle.little_endian.specs.Numbers.{numbers}
 use Rattle.little_endian.specs.NumberLaws.{numbers-length}
-use Rattle.engine.specs.Bytes.{whole, image-count, image-words}
+use Rattle.engine.specs.Bytes.{whole, image-count, image-of-bytes}
 
 pub image-count-fits : (bytes : ℕ) → (image-count bytes ≤ 4002) × (4 * image-count bytes ≤ bytes)
 unfolding image-count
@@ -25,8 +25,8 @@ image-count-fits bytes = by (ltb bytes 8) (whole 4 4002 bytes) refl refl
 
 -- The words that were unpacked stand first: they are the image's.
 pub unpacked : (bytes words new : List ℕ) (count : ℕ) → count ≡ image-count (length bytes) → count ≤ length words → new ≡ numbers 4 (length (take count words)) bytes →
-    (count ≤ length (new ++ drop count words)) × (take count (new ++ drop count words) ≡ image-words bytes)
-unfolding image-words
+    (count ≤ length (new ++ drop count words)) × (take count (new ++ drop count words) ≡ image-of-bytes bytes)
+unfolding image-of-bytes
 unpacked bytes words new count counted room q =
     let long = ap length q ∙ numbers-length 4 (length (take count words)) bytes ∙ length-take-le count words room in (
       omega (arith, long, length-append new (drop count words)),

@@ -1,9 +1,11 @@
 -- A run's answer in five numbers.
 use Prim.Native.Nat.{ℕ}
 use mathlib.Core.Path.{_≡_, refl, sym, _∙_, subst}
-use Rattle.rules.specs.paper.Engine.{number, truth-of, cell, nothing, Answer, outcome, refused, Reply}
-use Rattle.calls.specs.Runs.{ran, run-reply}
-use Rattle.engine.specs.Replies.{RunReplies}
+use mathlib.Core.List.{List}
+use Rattle.rules.specs.paper.Engine.{number, truth-of, cell, nothing, Answer, outcome, refused, Reply, Called}
+use Rattle.integers.specs.Words.{words-of}
+use Rattle.calls.specs.Runs.{ran, run-reply, RanAs}
+use Rattle.engine.specs.Replies.{RunReplies, RunCalled}
 use Rattle.calls.specs.declared.Ran.{Ran}
 use Rattle.calls.specs.declared.Ran.the-variants.{Number, Truth, Location, Nothing, Refused}
 use Rattle.engine.specs.declared.RunReply.{RunReply}
@@ -22,5 +24,9 @@ replies r (outcome (cell l)) q = record { refusal-is = refl; outcome-is = refl; 
 replies r (outcome nothing) q = record { refusal-is = refl; outcome-is = refl; value-is = refl; place-is = refl; steps-are = refl }
 replies r (refused x p) q = record { refusal-is = refl; outcome-is = refl; value-is = refl; place-is = refl; steps-are = refl }
 
-pub replied : (r : Reply) (answer wanted : Ran) → answer ≡ run-reply r → answer ≡ wanted → RunReplies r (in-numbers wanted)
+replied : (r : Reply) (answer wanted : Ran) → answer ≡ run-reply r → answer ≡ wanted → RunReplies r (in-numbers wanted)
 replied r answer wanted p q = subst (λ k. RunReplies r (in-numbers k)) (sym p ∙ q) (replies r (r .answer) refl)
+
+-- So for a C host.
+pub called : {c : Called} {answer : Ran} {registers work : List ℕ} (wanted : Ran) → RanAs c answer registers work → answer ≡ wanted → RunCalled words-of c (in-numbers wanted) registers work
+called {c} {answer} wanted p q = record { reply-is = replied (c .reply) answer wanted (p .answer-is) q; registers-are = p .registers-are; work-is = p .work-is }

@@ -7,6 +7,7 @@ use mathlib.Core.List.{List}
 use lib.Dec.{eqb, leb, ltb}
 use lib.IntN.{ℤ, pos}
 use lib.ListN.{length, replicate}
+use Rattle.rules.specs.paper.Engine.{Called, engine}
 use Rattle.integers.specs.Words.{integers-of, words-of}
 use Rattle.little_endian.specs.Numbers.{numbers, bytes-of-words}
 
@@ -21,8 +22,8 @@ whole size most bytes = eqb (bytes % size) 0 && leb (bytes / size) most
 unfoldable pub image-count : (bytes : ℕ) → ℕ
 image-count bytes = cond (ltb bytes 8) 0 (cond (whole 4 4002 bytes) (bytes / 4) 2)
 
-unfoldable pub image-words : List ℕ → List ℕ
-image-words bytes = numbers 4 (image-count (length bytes)) bytes
+unfoldable pub image-of-bytes : List ℕ → List ℕ
+image-of-bytes bytes = numbers 4 (image-count (length bytes)) bytes
 
 -- ---- The registers.
 
@@ -34,3 +35,16 @@ register-values bytes = cond (whole 8 16 (length bytes)) (integers-of (numbers 8
 -- What the bytes become where the values become others: bytes that are no registers stay as they are.
 unfoldable pub register-bytes : (before : List ℕ) → List ℤ → List ℕ
 register-bytes before values = cond (whole 8 16 (length before)) (bytes-of-words (words-of values)) before
+
+-- ---- The calls.
+
+-- The values' bytes, where there is room for them all.
+abbrev pub value-bytes : List ℤ → List ℕ
+value-bytes values = bytes-of-words (words-of values)
+
+-- The engine's call on registers of bytes, and on an image and registers of bytes.
+abbrev pub run-call-registers : (image registers : List ℕ) (budget : ℕ) (work : List ℕ) → Called
+run-call-registers image registers budget work = engine image (register-values registers) budget work
+
+abbrev pub run-call-bytes : (image registers : List ℕ) (budget : ℕ) (work : List ℕ) → Called
+run-call-bytes image registers budget work = run-call-registers (image-of-bytes image) registers budget work

@@ -1,9 +1,11 @@
 -- The answers of a check and of a run to a C host: the paper's numbers and values, each in a field of its own.
 use Prim.Native.Nat.{ℕ}
 use mathlib.Core.Path.{_≡_}
+use mathlib.Core.List.{List}
+use lib.IntN.{ℤ}
 use Rattle.rules.specs.paper.Refusals.{refusal-number}
 use Rattle.rules.specs.claims.Listing.{truth-word}
-use Rattle.rules.specs.paper.Engine.{CheckAnswer, root-code, root-command, not-passed, number, truth-of, cell, nothing, Answer, outcome, refused, Reply}
+use Rattle.rules.specs.paper.Engine.{CheckAnswer, root-code, root-command, not-passed, number, truth-of, cell, nothing, Answer, outcome, refused, Reply, Called}
 use Rattle.integers.specs.Words.{word-of}
 use Rattle.engine.specs.declared.CheckReply.{CheckReply}
 use Rattle.engine.specs.declared.RunReply.{RunReply}
@@ -63,3 +65,9 @@ pub record RunReplies (r : Reply) (reply : RunReply) : Type 0 where
   pub value-is : reply .value ≡ run-value (r .answer)
   pub place-is : reply .place ≡ run-place (r .answer)
   pub steps-are : reply .steps ≡ r .steps
+
+-- What a run answers to a C host and leaves: the call's reply, its registers laid out as words or bytes, and its work words.
+pub record RunCalled (layout : List ℤ → List ℕ) (c : Called) (reply : RunReply) (registers work : List ℕ) : Type 0 where
+  pub reply-is : RunReplies (c .reply) reply
+  pub registers-are : registers ≡ layout (c .registers)
+  pub work-is : work ≡ c .work

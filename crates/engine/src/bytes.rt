@@ -3,11 +3,11 @@
 ghost use mathlib.Core.Path.{_≡_};
 ghost use Prim.Native.Nat.{_*_, _≤_};
 ghost use lib.ListN.{length, take};
-ghost use Rattle.rules.specs.paper.Engine.{checker, engine};
-ghost use Rattle.integers.specs.Words.{integers-of, words-of};
-ghost use Rattle.engine.specs.Replies.{Replies, RunReplies};
-ghost use Rattle.little_endian.specs.Numbers.{numbers, bytes-of-words};
-ghost use Rattle.engine.specs.Bytes.{image-count, image-words, register-values, register-bytes};
+ghost use Rattle.rules.specs.paper.Engine.{checker};
+ghost use Rattle.engine.specs.Replies.{Replies, RunCalled};
+ghost use Rattle.little_endian.specs.Numbers.{numbers};
+ghost use Rattle.calls.specs.Runs.{run-call};
+ghost use Rattle.engine.specs.Bytes.{image-count, image-of-bytes, register-bytes, value-bytes, run-call-registers, run-call-bytes};
 use crate::CheckReply;
 use crate::RunReply;
 use crate::pi_check;
@@ -36,7 +36,7 @@ fn image_count(bytes: usize) -> usize
 fn unpack_image(image: &[u8], words: &mut [u32]) -> usize
     requires { ⌜ 4002 ≤ length (now words) ⌝ }
     ensures { λ r. ⌜ r ≤ length (now (words .exit)) ⌝ }
-    ensures { λ r. ⌜ take r (now (words .exit)) ≡ image-words (now (image .entry)) ⌝ }
+    ensures { λ r. ⌜ take r (now (words .exit)) ≡ image-of-bytes (now (image .entry)) ⌝ }
 {
     let count = image_count(image.len());
     unpack_words(image, &mut words[..count]);
@@ -46,8 +46,8 @@ fn unpack_image(image: &[u8], words: &mut [u32]) -> usize
 // `pi_check` on an image of bytes. Its words are laid out on the stack, which takes 16 KB.
 #[no_mangle]
 pub extern "C" fn pi_check_bytes(image: &[u8], work: &mut [u64]) -> CheckReply
-    ensures { λ r. ⌜ Replies (checker (image-words (now (image .entry))) (now (work .entry)) .answer) r ⌝ }
-    ensures { λ r. ⌜ now (work .exit) ≡ checker (image-words (now (image .entry))) (now (work .entry)) .work ⌝ }
+    ensures { λ r. ⌜ Replies (checker (image-of-bytes (now (image .entry))) (now (work .entry)) .answer) r ⌝ }
+    ensures { λ r. ⌜ now (work .exit) ≡ checker (image-of-bytes (now (image .entry))) (now (work .entry)) .work ⌝ }
 {
     let mut words = [0u32; 4002];
     let count = unpack_image(image, &mut words);
@@ -63,9 +63,7 @@ fn run_values(
     work: &mut [u64],
 ) -> RunReply
     requires { ⌜ length (now registers) ≡ 8 * length (now values) ⌝ }
-    ensures { λ r. ⌜ RunReplies (engine (now (image .entry)) (integers-of (numbers 8 (length (now (values .entry))) (now (registers .entry)))) budget (now (work .entry)) .reply) r ⌝ }
-    ensures { λ r. ⌜ now (registers .exit) ≡ bytes-of-words (words-of (engine (now (image .entry)) (integers-of (numbers 8 (length (now (values .entry))) (now (registers .entry)))) budget (now (work .entry)) .registers)) ⌝ }
-    ensures { λ r. ⌜ now (work .exit) ≡ engine (now (image .entry)) (integers-of (numbers 8 (length (now (values .entry))) (now (registers .entry)))) budget (now (work .entry)) .work ⌝ }
+    ensures { λ r. ⌜ RunCalled value-bytes (run-call (now (image .entry)) (numbers 8 (length (now (values .entry))) (now (registers .entry))) budget (now (work .entry))) r (now (registers .exit)) (now (work .exit)) ⌝ }
 {
     unpack_values(registers, 0, values);
     let reply = pi_run(image, values, budget, work);
@@ -76,9 +74,7 @@ fn run_values(
 // `pi_run` on registers of any bytes. Bytes that are no registers of any image stay as they are, and 17 values stand for them, which no image
 // has either.
 fn run_registers(image: &[u32], registers: &mut [u8], budget: u64, work: &mut [u64]) -> RunReply
-    ensures { λ r. ⌜ RunReplies (engine (now (image .entry)) (register-values (now (registers .entry))) budget (now (work .entry)) .reply) r ⌝ }
-    ensures { λ r. ⌜ now (registers .exit) ≡ register-bytes (now (registers .entry)) (engine (now (image .entry)) (register-values (now (registers .entry))) budget (now (work .entry)) .registers) ⌝ }
-    ensures { λ r. ⌜ now (work .exit) ≡ engine (now (image .entry)) (register-values (now (registers .entry))) budget (now (work .entry)) .work ⌝ }
+    ensures { λ r. ⌜ RunCalled (register-bytes (now (registers .entry))) (run-call-registers (now (image .entry)) (now (registers .entry)) budget (now (work .entry))) r (now (registers .exit)) (now (work .exit)) ⌝ }
 {
     let mut values = [0u64; 17];
     if registers.len() % 8 != 0 {
@@ -100,9 +96,7 @@ pub extern "C" fn pi_run_bytes(
     budget: u64,
     work: &mut [u64],
 ) -> RunReply
-    ensures { λ r. ⌜ RunReplies (engine (image-words (now (image .entry))) (register-values (now (registers .entry))) budget (now (work .entry)) .reply) r ⌝ }
-    ensures { λ r. ⌜ now (registers .exit) ≡ register-bytes (now (registers .entry)) (engine (image-words (now (image .entry))) (register-values (now (registers .entry))) budget (now (work .entry)) .registers) ⌝ }
-    ensures { λ r. ⌜ now (work .exit) ≡ engine (image-words (now (image .entry))) (register-values (now (registers .entry))) budget (now (work .entry)) .work ⌝ }
+    ensures { λ r. ⌜ RunCalled (register-bytes (now (registers .entry))) (run-call-bytes (now (image .entry)) (now (registers .entry)) budget (now (work .entry))) r (now (registers .exit)) (now (work .exit)) ⌝ }
 {
     if work.len() < 8192 {
         return RunReply {

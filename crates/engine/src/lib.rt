@@ -2,9 +2,10 @@
 pub mod bytes;
 
 ghost use mathlib.Core.Path.{_≡_};
-ghost use Rattle.rules.specs.paper.Engine.{checker, engine};
-ghost use Rattle.integers.specs.Words.{integers-of, words-of};
-ghost use Rattle.engine.specs.Replies.{Replies, RunReplies};
+ghost use Rattle.rules.specs.paper.Engine.{checker};
+ghost use Rattle.integers.specs.Words.{words-of};
+ghost use Rattle.calls.specs.Runs.{run-call};
+ghost use Rattle.engine.specs.Replies.{Replies, RunCalled};
 use calls::Checked;
 use calls::Ran;
 use calls::check;
@@ -63,9 +64,7 @@ pub extern "C" fn pi_run(
     budget: u64,
     work: &mut [u64],
 ) -> RunReply
-    ensures { λ r. ⌜ RunReplies (engine (now (image .entry)) (integers-of (now (registers .entry))) budget (now (work .entry)) .reply) r ⌝ }
-    ensures { λ r. ⌜ now (registers .exit) ≡ words-of (engine (now (image .entry)) (integers-of (now (registers .entry))) budget (now (work .entry)) .registers) ⌝ }
-    ensures { λ r. ⌜ now (work .exit) ≡ engine (now (image .entry)) (integers-of (now (registers .entry))) budget (now (work .entry)) .work ⌝ }
+    ensures { λ r. ⌜ RunCalled words-of (run-call (now (image .entry)) (now (registers .entry)) budget (now (work .entry))) r (now (registers .exit)) (now (work .exit)) ⌝ }
 {
     let answer = run(image, registers, budget, work);
     match answer {

@@ -12,6 +12,7 @@ ghost use Rattle.reader.specs.Answers.{nodes-at, Readable, Outcome, Shap
 
 // The paper's limits of an image: how many nodes and how many registers it has at most.
 pub const MOST_NODES: usize = 2000;
+
 pub const MOST_REGISTERS: usize = 16;
 
 // What reading a node and its descendants comes to: the first node after them, or a refusal with its place.

@@ -31,7 +31,7 @@ returns : tie.Need-returns
 returns c =
     let start = c .before .before .before .before .before .before .before .before .before .before in
     let answered = c .before .before .before .pi-run .ensures in
-    no-registers (now (start .args .image)) (now (start .args .registers)) (start .args .budget) (now (start .args .work)) _ _ (odd-bytes _ (c .before .before .before .before .before .before .if1 .taken)) (answered .0) (answered .1 .1)
+    no-registers (now (start .args .image)) (now (start .args .registers)) (start .args .budget) (now (start .args .work)) _ _ _ (odd-bytes _ (c .before .before .before .before .before .before .if1 .taken)) answered
 
 slice-aggregate-pi-run-2 : tie.Need-slice-aggregate-pi-run-2
 slice-aggregate-pi-run-2 c = search needs
@@ -46,7 +46,7 @@ returns-2 : tie.Need-returns-2
 returns-2 c =
     let start = c .before .before .before .before .before .before .before .before .before .before .before in
     let answered = c .before .before .before .pi-run2 .ensures in
-    no-registers (now (start .args .image)) (now (start .args .registers)) (start .args .budget) (now (start .args .work)) _ _ (many-bytes _ (c .before .before .before .before .before .before .before .if1 .left) (c .before .before .before .before .before .before .if2 .taken)) (answered .0) (answered .1 .1)
+    no-registers (now (start .args .image)) (now (start .args .registers)) (start .args .budget) (now (start .args .work)) _ _ _ (many-bytes _ (c .before .before .before .before .before .before .before .if1 .left) (c .before .before .before .before .before .before .if2 .taken)) answered
 
 array-borrow-prefix-values : tie.Need-array-borrow-prefix-values
 array-borrow-prefix-values c = search needs
@@ -70,7 +70,7 @@ returns-3 c =
     let start = c .before .before .before .before .before .before .before .before .before .before .before .before .before .before in
     let bytes = length (now (start .args .registers)) in
     let answered = c .before .before .before .before .before .run-values .ensures in
-    some-registers (now (start .args .image)) (now (start .args .registers)) (start .args .budget) (now (start .args .work)) _ _ _ _ (some-bytes bytes (c .before .before .before .before .before .before .before .before .before .before .if1 .left) (c .before .before .before .before .before .before .before .before .before .if2 .left)) (few-values (bytes / 8) (c .before .before .before .before .before .before .before .before .before .if2 .left)) (answered .0) (answered .1 .0) (answered .1 .1)
+    some-registers (now (start .args .image)) (now (start .args .registers)) (start .args .budget) (now (start .args .work)) _ _ _ _ (some-bytes bytes (c .before .before .before .before .before .before .before .before .before .before .if1 .left) (c .before .before .before .before .before .before .before .before .before .if2 .left)) (few-values (bytes / 8) (c .before .before .before .before .before .before .before .before .before .if2 .left)) answered
 
 pub run-registers-spec : {M : Type 1} → statement M
 run-registers-spec =

@@ -32,7 +32,7 @@ returns : tie.Need-returns
 returns c =
     let start = c .before .before .before .before .before .before .before .before .before .before .before .before .before .before .before .before .before .before .before .before .before in
     let answered = c .before .before .before .before .before .before .before .before .before .pi-run .ensures in
-    values-run (now (start .args .image)) (now (start .args .registers)) (start .args .budget) (now (start .args .work)) _ _ _ _ _ _ (c .before .before .before .before .before .before .before .before .before .before .before .before .before .before .unpack-values .ensures) (answered .0) (answered .1 .0) (answered .1 .1) (c .before .before .pack-values .ensures)
+    values-run (now (start .args .image)) (now (start .args .registers)) (start .args .budget) (now (start .args .work)) _ _ _ _ _ _ (c .before .before .before .before .before .before .before .before .before .before .before .before .before .before .unpack-values .ensures) answered (c .before .before .pack-values .ensures)
 
 pub run-values-spec : {M : Type 1} → statement M
 run-values-spec =

@@ -1,10 +1,10 @@
--- perform: the numbers of the input, the run and the page.
+-- answer_input: the numbers of the input, the run and the page.
 use Rattle.answer.proofs.PageLaws.{performed}
 use borrow.Author.Needs.{needs}
-use Rattle.answer.proofs.perform.Statement.{statement}
-use Rattle.answer.proofs.perform.Tie as tie
-use Rattle.answer.proofs.perform.Reads as reads
-use Rattle.answer.proofs.perform.Lts as lts
+use Rattle.answer.proofs.answer_input.Statement.{statement}
+use Rattle.answer.proofs.answer_input.Tie as tie
+use Rattle.answer.proofs.answer_input.Reads as reads
+use Rattle.answer.proofs.answer_input.Lts as lts
 use Rattle.little_endian.proofs.unpack_values.Reads as unpack-values-reads
 use Rattle.little_endian.proofs.unpack_words.Reads as unpack-words-reads
 use Rattle.answer.proofs.lines.put_page.Reads as put-page-reads
@@ -39,11 +39,11 @@ same-length-4 c = search needs
 
 returns : tie.Need-returns
 returns c =
-    performed _ _ _ _ _ _ _ _ _ _ _ (c .before .before .before .before .before .before .before .before .before .before .before .before .before .before .before .before .before .before .before .unpack-words .ensures) (c .before .before .before .before .before .before .before .before .before .before .before .before .before .before .before .before .before .before .before .unpack-words .kept .1 .0) (c .before .before .before .before .before .before .before .before .before .before .before .before .before .before .before .unpack-values .ensures) (λ i h. c .before .before .before .before .before .before .before .before .before .before .before .before .before .slice-known6 .given i .fits)
-    (c .before .before .before .before .before .before .before .before .before .run .ensures .0) (c .before .before .before .before .before .before .before .before .before .run .ensures .1 .0) (c .before .before .put-page .ensures)
+    performed _ _ _ _ _ _ _ _ _ _ _ _ (c .before .before .before .before .before .before .before .before .before .before .before .before .before .before .before .before .before .before .before .unpack-words .ensures) (c .before .before .before .before .before .before .before .before .before .before .before .before .before .before .before .before .before .before .before .unpack-words .kept .1 .0) (c .before .before .before .before .before .before .before .before .before .before .before .before .before .before .before .unpack-values .ensures) (λ i h. c .before .before .before .before .before .before .before .before .before .before .before .before .before .slice-known6 .given i .fits)
+    (c .before .before .before .before .before .before .before .before .before .run .ensures) (c .before .before .put-page .ensures)
 
-pub perform-spec : {M : Type 1} → statement M
-perform-spec =
+pub answer-input-spec : {M : Type 1} → statement M
+answer-input-spec =
     tie.close
     (tie.spec
     unpack-words-requires
