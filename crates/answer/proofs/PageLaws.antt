@@ -6,7 +6,9 @@ use mathlib.Core.List.{List, [], _++_}
 use native.Mathlib.Omega.{arith}
 use lib.ListN.{length, take, drop, getD, replicate, length-replicate}
 use lib.Seq.{length-take-le}
-use Rattle.rules.specs.paper.Limits.{most-budget, work-words}
+use Rattle.calls.specs.Sizes.{most-image-words}
+use Rattle.answer.specs.Sizes.{page-bytes}
+use Rattle.rules.specs.paper.Limits.{most-budget, work-words, most-nodes, most-registers}
 use Rattle.rules.specs.paper.Engine.{number, truth-of, cell, nothing, Answer, outcome, refused, Called, engine}
 use Rattle.integers.specs.Words.{integers-of, words-of}
 use Rattle.integers.specs.WordLaws.{integer-of-word}
@@ -57,9 +59,9 @@ same-page c ranged =
 pub performed : (input work before after : List ℕ) (n m : ℕ) (r : Ran) (words values last-registers last-work : List ℕ) (last : ℕ) → words ≡ numbers 4 n input → length words ≡ n →
     values ≡ numbers 8 m (drop (4 * length words) input) → ((i : ℕ) → i < length values → getD values i 0 < 18446744073709551616) →
     RanAs (run-call words values most-budget work) r last-registers last-work →
-    PutWithin 1024 before 0 (ran-page r (integers-of last-registers)) last after → PutWithin 1024 before 0 (page (run-numbers n m input work)) last after
+    PutWithin page-bytes before 0 (ran-page r (integers-of last-registers)) last after → PutWithin page-bytes before 0 (page (run-numbers n m input work)) last after
 performed input work before after n m r words values last-registers last-work last w-is w-count v-is low done p =
-    within-as 1024
+    within-as page-bytes
     (ap (λ a. ran-page a (integers-of last-registers)) (done .answer-is)
     ∙ ap (λ l. ran-page (run-reply (run-call words values most-budget work .reply)) (integers-of l)) (done .registers-are)
     ∙ same-page (run-call words values most-budget work) (engine-ranged words (integers-of values) (all-in-range values low) most-budget work)
@@ -70,30 +72,30 @@ performed input work before after n m r words values last-registers last-work la
 -- ---- The room for a run.
 
 abbrev image-room : List ℕ
-image-room = replicate 4002 0
+image-room = replicate most-image-words 0
 
 abbrev register-room : List ℕ
-register-room = replicate 16 0
+register-room = replicate most-registers 0
 
-image-fits : (nodes : ℕ) → nodes ≤ 2000 → length (take (2 + 2 * nodes) image-room) ≡ 2 + 2 * nodes
-image-fits nodes few = length-take-le (2 + 2 * nodes) image-room (omega (arith, few, length-replicate {A = ℕ} 4002 0))
+image-fits : (nodes : ℕ) → nodes ≤ most-nodes → length (take (2 + 2 * nodes) image-room) ≡ 2 + 2 * nodes
+image-fits nodes few = length-take-le (2 + 2 * nodes) image-room (omega (arith, few, length-replicate {A = ℕ} most-image-words 0))
 
-registers-fit : (count : ℕ) → count ≤ 16 → length (take count register-room) ≡ count
-registers-fit count few = length-take-le count register-room (omega (arith, few, length-replicate {A = ℕ} 16 0))
+registers-fit : (count : ℕ) → count ≤ most-registers → length (take count register-room) ≡ count
+registers-fit count few = length-take-le count register-room (omega (arith, few, length-replicate {A = ℕ} most-registers 0))
 
-pub room : (input output : List ℕ) (nodes count : ℕ) → nodes ≤ 2000 → count ≤ 16 → length input ≡ input-bytes nodes count → 1024 ≤ length output →
-    (4 * length (take (2 + 2 * nodes) image-room) + 8 * length (take count register-room) ≤ length input) × ((length (take count register-room) ≤ 16) × (1024 ≤ length output))
+pub room : (input output : List ℕ) (nodes count : ℕ) → nodes ≤ most-nodes → count ≤ most-registers → length input ≡ input-bytes nodes count → page-bytes ≤ length output →
+    (4 * length (take (2 + 2 * nodes) image-room) + 8 * length (take count register-room) ≤ length input) × ((length (take count register-room) ≤ most-registers) × (page-bytes ≤ length output))
 room input output nodes count few-nodes few-registers bytes enough =
     let words = image-fits nodes few-nodes in
     let values = registers-fit count few-registers in
     (omega (arith, words, values, bytes), (omega (arith, values, few-registers), enough))
 
-pub counted-page : (input before after : List ℕ) (nodes count last : ℕ) → nodes ≤ 2000 → count ≤ 16 →
-    PutWithin 1024 before 0 (page (run-numbers (length (take (2 + 2 * nodes) image-room)) (length (take count register-room)) input (replicate work-words 0))) last after →
-    PutWithin 1024 before 0 (page (run-input nodes count input)) last after
+pub counted-page : (input before after : List ℕ) (nodes count last : ℕ) → nodes ≤ most-nodes → count ≤ most-registers →
+    PutWithin page-bytes before 0 (page (run-numbers (length (take (2 + 2 * nodes) image-room)) (length (take count register-room)) input (replicate work-words 0))) last after →
+    PutWithin page-bytes before 0 (page (run-input nodes count input)) last after
 unfolding run-input
 counted-page input before after nodes count last few-nodes few-registers p =
-    within-as 1024
+    within-as page-bytes
     (ap (λ k. called k (length (take count register-room)) (4 * k)) (image-fits nodes few-nodes)
     ∙ ap (λ k. called (2 + 2 * nodes) k (4 * (2 + 2 * nodes))) (registers-fit count few-registers)
     ∙ ap (called (2 + 2 * nodes) count) (eight nodes))

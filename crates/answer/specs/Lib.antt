@@ -1,4 +1,5 @@
 pub mod Cases
 pub mod Decimal
 pub mod Program
+pub mod Sizes
 pub mod Writing

@@ -33,10 +33,13 @@ unfoldable pub register-lines : (first : ℕ) → List ℤ → List ℕ
 register-lines i [] = []
 register-lines i (z ∷ zs) = line (register-text i z) ++ register-lines (suc i) zs
 
--- Refusals 1 to 22 show no registers.
+-- Refusals before the run, 1 to 22, show no registers.
+abbrev pub last-before-run : ℕ
+last-before-run = 22
+
 abbrev pub shows-registers : Answer → Bool
 shows-registers (outcome o) = true
-shows-registers (refused x p) = ltb 22 (refusal-number x)
+shows-registers (refused x p) = ltb last-before-run (refusal-number x)
 
 -- The outcome, the steps and the registers, a line each.
 unfoldable pub page : Called → List ℕ

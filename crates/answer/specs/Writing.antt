@@ -11,7 +11,7 @@ use Rattle.integers.specs.Words.{integer-of}
 use Rattle.calls.specs.declared.Ran.{Ran}
 use Rattle.calls.specs.declared.Ran.the-variants.{Number, Truth, Location, Nothing, Refused}
 use Rattle.answer.specs.Decimal.{ascii, decimal, integer}
-use Rattle.answer.specs.Program.{line, register-lines, page, input-bytes, run-input, program}
+use Rattle.answer.specs.Program.{line, register-lines, last-before-run, page, input-bytes, run-input, program}
 use Rattle.answer.specs.declared.input.Counted.{Counted}
 use Rattle.answer.specs.declared.input.Counted.the-variants as Count
 
@@ -44,7 +44,7 @@ ran-shows (Number w k) = true
 ran-shows (Truth w k) = true
 ran-shows (Location w k) = true
 ran-shows (Nothing k) = true
-ran-shows (Refused x p k) = ltb 22 x
+ran-shows (Refused x p k) = ltb last-before-run x
 
 unfoldable pub ran-page : Ran → List ℤ → List ℕ
 ran-page r zs = line (ran-text r) ++ line (ascii "steps " ++ decimal (ran-steps r)) ++ cond (ran-shows r) (register-lines 0 zs) []

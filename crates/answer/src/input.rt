@@ -1,5 +1,7 @@
 // What an input is: its counts of nodes and of registers, judged by its byte count.
 ghost use Rattle.answer.specs.Writing.{CountAnswer};
+use calls::refusals::REFUSED_LENGTH;
+use calls::refusals::REFUSED_SIZE;
 use little_endian::word_at;
 use reader::size_fits;
 
@@ -14,15 +16,15 @@ pub(crate) fn count_input(input: &[u8]) -> Counted
     ensures { λ r. ⌜ CountAnswer (now (input .entry)) r ⌝ }
 {
     if input.len() < 8 {
-        return Counted::Refused(1);
+        return Counted::Refused(REFUSED_LENGTH);
     }
     let nodes = word_at(input, 0) as usize;
     let count = word_at(input, 4) as usize;
     if !size_fits(nodes, count) {
-        return Counted::Refused(2);
+        return Counted::Refused(REFUSED_SIZE);
     }
     if input.len() != 8 + 8 * nodes + 8 * count {
-        return Counted::Refused(1);
+        return Counted::Refused(REFUSED_LENGTH);
     }
     Counted::Fits(nodes, count)
 }

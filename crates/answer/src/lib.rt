@@ -6,6 +6,8 @@ mod text;
 ghost use mathlib.Core.Path.{_≡_};
 ghost use Prim.Native.Nat.{_+_, _*_, _≤_};
 ghost use lib.ListN.{length, take};
+ghost use Rattle.rules.specs.paper.Limits.{most-nodes, most-registers};
+ghost use Rattle.answer.specs.Sizes.{page-bytes};
 ghost use Rattle.io.specs.Counts.{Counts};
 ghost use Rattle.answer.specs.Program.{page, input-bytes, run-numbers, run-input, program};
 ghost use Rattle.answer.specs.Writing.{PutWithin};
@@ -13,9 +15,20 @@ use crate::input::Counted;
 use crate::input::count_input;
 use crate::lines::put_page;
 use crate::lines::put_refusal;
+use calls::MOST_BUDGET;
+use calls::MOST_IMAGE_WORDS;
+use calls::WORK_WORDS;
 use calls::run;
 use little_endian::unpack_values;
 use little_endian::unpack_words;
+use reader::MOST_NODES;
+use reader::MOST_REGISTERS;
+
+// The largest input: an image of the most nodes, 8 bytes for n and r and 8 a node, and 8 bytes for each of the most registers.
+pub const MOST_INPUT_BYTES: usize = 8 + 8 * MOST_NODES + 8 * MOST_REGISTERS;
+
+// The room for an answer. The longest has 912 bytes: an outcome of 52, the steps of 28, and 16 registers of 52.
+pub const PAGE_BYTES: usize = 1024;
 
 // The image and the starting values are taken from the input, the run is made, and its answer is written.
 fn answer_input(
@@ -26,27 +39,27 @@ fn answer_input(
     output: &mut [u8],
 ) -> usize
     requires { ⌜ 4 * length (now image) + 8 * length (now registers) ≤ length (now input) ⌝ }
-    requires { ⌜ length (now registers) ≤ 16 ⌝ }
-    requires { ⌜ 1024 ≤ length (now output) ⌝ }
-    ensures { λ r. ⌜ PutWithin 1024 (now (output .entry)) 0 (page (run-numbers (length (now (image .entry))) (length (now (registers .entry))) (now (input .entry)) (now (work .entry)))) r (now (output .exit)) ⌝ }
+    requires { ⌜ length (now registers) ≤ most-registers ⌝ }
+    requires { ⌜ page-bytes ≤ length (now output) ⌝ }
+    ensures { λ r. ⌜ PutWithin page-bytes (now (output .entry)) 0 (page (run-numbers (length (now (image .entry))) (length (now (registers .entry))) (now (input .entry)) (now (work .entry)))) r (now (output .exit)) ⌝ }
 {
     unpack_words(input, image);
     unpack_values(input, 4 * image.len(), registers);
-    let answer = run(image, registers, 1000000, work);
+    let answer = run(image, registers, MOST_BUDGET, work);
     put_page(output, answer, registers)
 }
 
 // An input of the right byte count. The room for the image, the registers and the work words, 80 KB, is on the stack.
 fn answer_counted(input: &[u8], nodes: usize, count: usize, output: &mut [u8]) -> usize
-    requires { ⌜ nodes ≤ 2000 ⌝ }
-    requires { ⌜ count ≤ 16 ⌝ }
+    requires { ⌜ nodes ≤ most-nodes ⌝ }
+    requires { ⌜ count ≤ most-registers ⌝ }
     requires { ⌜ length (now input) ≡ input-bytes nodes count ⌝ }
-    requires { ⌜ 1024 ≤ length (now output) ⌝ }
-    ensures { λ r. ⌜ PutWithin 1024 (now (output .entry)) 0 (page (run-input nodes count (now (input .entry)))) r (now (output .exit)) ⌝ }
+    requires { ⌜ page-bytes ≤ length (now output) ⌝ }
+    ensures { λ r. ⌜ PutWithin page-bytes (now (output .entry)) 0 (page (run-input nodes count (now (input .entry)))) r (now (output .exit)) ⌝ }
 {
-    let mut image = [0u32; 4002];
-    let mut registers = [0u64; 16];
-    let mut work = [0u64; 8192];
+    let mut image = [0u32; MOST_IMAGE_WORDS];
+    let mut registers = [0u64; MOST_REGISTERS];
+    let mut work = [0u64; WORK_WORDS];
     let words = 2 + 2 * nodes;
     answer_input(
         input,
@@ -58,7 +71,7 @@ fn answer_counted(input: &[u8], nodes: usize, count: usize, output: &mut [u8]) -
 }
 
 // The program: any input. The answer is the first bytes of the output, as many as are returned.
-pub fn answer(input: &[u8], output: &mut [u8; 1024]) -> usize
+pub fn answer(input: &[u8], output: &mut [u8; PAGE_BYTES]) -> usize
     ensures { λ r. ⌜ Counts r (now (output .exit)) ⌝ }
     ensures { λ r. ⌜ take r (now (output .exit)) ≡ program (now (input .entry)) ⌝ }
 {

@@ -8,7 +8,7 @@ use borrow.Author.Tests.{le-ltb, lt-ltb, le-leb, lt-leb, eq-eqb, ne-eqb}
 use lib.Dec.{T, eqb, leb, ltb}
 use lib.IntN.{ℤ}
 use lib.ListN.{length, getD}
-use Rattle.rules.specs.paper.Limits.{work-words}
+use Rattle.rules.specs.paper.Limits.{work-words, most-budget}
 use Rattle.rules.specs.paper.Refusals.{Refusal, refusal-number}
 use Rattle.rules.specs.paper.Refusals as Refusals
 use Rattle.rules.specs.paper.Tree.{Root}
@@ -174,23 +174,23 @@ module _ (image registers : List ℕ) (budget : ℕ) (work : List ℕ) (low : (i
   as-called c r last-registers last-work e p q s =
       record { answer-is = p ∙ sym (ap (λ k. run-reply (k .reply)) e); registers-are = q ∙ sym (ap (λ k. words-of (k .registers)) e); work-is = s ∙ sym (ap (λ k. k .work) e) }
 
-  pub work-refused : length work < 8192 → RanAs (run-call image registers budget work) (Refused 22 0 0) registers work
+  pub work-refused : length work < work-words → RanAs (run-call image registers budget work) (Refused 22 0 0) registers work
   unfolding refusal-number
   work-refused h = as-called (refusing Refusals.Work 0 (integers-of registers) work) (Refused 22 0 0) registers work little refl (sym (words-back registers low)) refl
     where
       little : run-call image registers budget work ≡ refusing Refusals.Work 0 (integers-of registers) work
-      little = unfold engine in (rw (lt-ltb (length work) 8192 h))
+      little = unfold engine in (rw (lt-ltb (length work) work-words h))
 
-  pub budget-refused : 8192 ≤ length work → 1000000 < budget → RanAs (run-call image registers budget work) (Refused 21 0 0) registers work
+  pub budget-refused : work-words ≤ length work → most-budget < budget → RanAs (run-call image registers budget work) (Refused 21 0 0) registers work
   unfolding refusal-number
   budget-refused room h = as-called (refusing Refusals.Budget 0 (integers-of registers) work) (Refused 21 0 0) registers work much refl (sym (words-back registers low)) refl
     where
       much : run-call image registers budget work ≡ refusing Refusals.Budget 0 (integers-of registers) work
-      much = unfold engine in (rw (le-ltb (length work) 8192 room, lt-leb budget 1000000 h))
+      much = unfold engine in (rw (le-ltb (length work) work-words room, lt-leb budget most-budget h))
 
   -- ---- Every other call: what was performed, and the first 8,192 work words 0.
 
-  pub performed : 8192 ≤ length work → budget ≤ 1000000 → (r : Ran) (last after cleared-after : List ℕ) →
+  pub performed : work-words ≤ length work → budget ≤ most-budget → (r : Ran) (last after cleared-after : List ℕ) →
       Performed (run-of-image image registers budget) r last work after → cleared-after ≡ cleared after → RanAs (run-call image registers budget work) r last cleared-after
   performed room few r last after cleared-after done q =
       as-called (run-checked (check-image image) (integers-of registers) budget (cleared work)) r last cleared-after body
@@ -199,4 +199,4 @@ module _ (image registers : List ℕ) (budget : ℕ) (work : List ℕ) (low : (i
       (q ∙ cleared-same work after (done .beyond) ∙ sym (work-same (integers-of registers) budget (cleared work) [] (check-image image)))
     where
       body : run-call image registers budget work ≡ run-checked (check-image image) (integers-of registers) budget (cleared work)
-      body = unfold engine in (rw (le-ltb (length work) 8192 room, le-leb budget 1000000 few))
+      body = unfold engine in (rw (le-ltb (length work) work-words room, le-leb budget most-budget few))

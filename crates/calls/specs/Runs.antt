@@ -70,7 +70,7 @@ ExecutesTree registers budget answer last before after =
     (image : List ℕ) (t : Root) (a : Passed) → check-image image ≡ passed (length registers) t a → RootAt before t →
     ExecuteAnswer (run budget 0 (start (length registers) t (integers-of registers))) (length registers) answer last before after
 
--- A call's reply and registers, with the words from 8,192 on as they were.
+-- A call's reply and registers, with the words behind the first 8,192 as they were.
 pub record Performed (c : Called) (r : Ran) (registers before after : List ℕ) : Type 0 where
   pub reply-is : r ≡ run-reply (c .reply)
   pub registers-are : registers ≡ words-of (c .registers)

@@ -1,5 +1,6 @@
 // The engine's two calls: the checker alone, and the run.
 mod perform;
+pub mod refusals;
 
 ghost use mathlib.Core.Path.{_≡_};
 ghost use Prim.Native.Nat.{_<_, _≤_};
@@ -9,10 +10,22 @@ ghost use Rattle.calls.specs.Answers.{check-reply};
 ghost use Rattle.calls.specs.Examined.{ExamineAnswer};
 ghost use Rattle.calls.specs.Runs.{run-call, RanAs};
 use crate::perform::run_image;
+use crate::refusals::REFUSED_BUDGET;
+use crate::refusals::REFUSED_WORK;
 use checker::Verdict;
 use checker::root;
+use reader::MOST_NODES;
 use reader::Shape;
 use reader::read_image;
+
+// How many work words a caller lends at least.
+pub const WORK_WORDS: usize = 8192;
+
+// How many steps a caller may permit at most.
+pub const MOST_BUDGET: u64 = 1000000;
+
+// How many words the largest image has: n, r, and a kind and an operand for each node.
+pub const MOST_IMAGE_WORDS: usize = 2 + 2 * MOST_NODES;
 
 // What a check answers: the root's code, a command, or a refusal with its place.
 pub enum Checked {
@@ -94,11 +107,11 @@ pub fn check(image: &[u32], work: &mut [u64]) -> Checked
 pub fn run(image: &[u32], registers: &mut [u64], budget: u64, work: &mut [u64]) -> Ran
     ensures { λ r. ⌜ RanAs (run-call (now (image .entry)) (now (registers .entry)) budget (now (work .entry))) r (now (registers .exit)) (now (work .exit)) ⌝ }
 {
-    if work.len() < 8192 {
-        return Ran::Refused(22, 0, 0);
+    if work.len() < WORK_WORDS {
+        return Ran::Refused(REFUSED_WORK, 0, 0);
     }
-    if 1000000 < budget {
-        return Ran::Refused(21, 0, 0);
+    if MOST_BUDGET < budget {
+        return Ran::Refused(REFUSED_BUDGET, 0, 0);
     }
     let answer = run_image(image, registers, budget, work);
     clear(work);

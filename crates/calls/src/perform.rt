@@ -2,6 +2,7 @@
 ghost use mathlib.Core.Path.{_≡_};
 ghost use Prim.Native.Nat.{_≤_};
 ghost use lib.ListN.{length};
+ghost use Rattle.rules.specs.paper.Limits.{work-words};
 ghost use Rattle.rules.specs.paper.Checker.{expression-of-code, a-command};
 ghost use Rattle.rules.specs.paper.States.{Value};
 ghost use Rattle.rules.specs.paper.Engine.{outcome, outcome-of-value};
@@ -17,7 +18,7 @@ use automaton::start::start;
 
 // The tree that stands in the work words is run from the registers, which take what it leaves in them.
 fn execute(registers: &mut [u64], budget: u64, work: &mut [u64]) -> Ending
-    requires { ⌜ 8192 ≤ length (now work) ⌝ }
+    requires { ⌜ work-words ≤ length (now work) ⌝ }
     requires { ⌜ TreeStands (length (now registers)) (now work) ⌝ }
     ensures { λ r. ⌜ ExecutesTree (now (registers .entry)) budget r (now (registers .exit)) (now (work .entry)) (now (work .exit)) ⌝ }
 {
@@ -44,7 +45,7 @@ fn result(work: &[u64], last: Machine, code: usize, steps: u64) -> Ran
 
 // An expression of this code.
 fn run_expression(registers: &mut [u64], budget: u64, work: &mut [u64], code: usize) -> Ran
-    requires { ⌜ 8192 ≤ length (now work) ⌝ }
+    requires { ⌜ work-words ≤ length (now work) ⌝ }
     requires { ⌜ TreeStandsAs (length (now registers)) (expression-of-code code) (now work) ⌝ }
     ensures { λ r. ⌜ RunsTreeAs (expression-of-code code) (now (registers .entry)) budget r (now (registers .exit)) (now (work .entry)) (now (work .exit)) ⌝ }
 {
@@ -57,7 +58,7 @@ fn run_expression(registers: &mut [u64], budget: u64, work: &mut [u64], code: us
 
 // A command.
 fn run_command(registers: &mut [u64], budget: u64, work: &mut [u64]) -> Ran
-    requires { ⌜ 8192 ≤ length (now work) ⌝ }
+    requires { ⌜ work-words ≤ length (now work) ⌝ }
     requires { ⌜ TreeStandsAs (length (now registers)) a-command (now work) ⌝ }
     ensures { λ r. ⌜ RunsTreeAs a-command (now (registers .entry)) budget r (now (registers .exit)) (now (work .entry)) (now (work .exit)) ⌝ }
 {
@@ -70,7 +71,7 @@ fn run_command(registers: &mut [u64], budget: u64, work: &mut [u64]) -> Ran
 
 // The image, then the count of registers, then the run. The first 8,192 work words are spoilt.
 pub(crate) fn run_image(image: &[u32], registers: &mut [u64], budget: u64, work: &mut [u64]) -> Ran
-    requires { ⌜ 8192 ≤ length (now work) ⌝ }
+    requires { ⌜ work-words ≤ length (now work) ⌝ }
     ensures { λ r. ⌜ Performed (run-of-image (now (image .entry)) (now (registers .entry)) budget) r (now (registers .exit)) (now (work .entry)) (now (work .exit)) ⌝ }
 {
     let examined = examine(image, work);

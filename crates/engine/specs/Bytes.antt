@@ -1,12 +1,14 @@
 -- Bytes in place of words: the image's words and the registers' values that some bytes stand for, and the bytes of values. Words are
 -- little-endian of 4 bytes, registers two's complement of 8 bytes, least byte first. `BytesRead` shows what an image of bytes comes to, in the
 -- paper's order, and `BytesKept` that registers that keep their values keep their bytes.
-use Prim.Native.Nat.{ℕ, _/_, _%_}
+use Prim.Native.Nat.{ℕ, _+_, _/_, _%_}
 use mathlib.Core.Bool.{Bool, cond, _&&_}
 use mathlib.Core.List.{List}
 use lib.Dec.{eqb, leb, ltb}
 use lib.IntN.{ℤ, pos}
 use lib.ListN.{length, replicate}
+use Rattle.calls.specs.Sizes.{most-image-words}
+use Rattle.rules.specs.paper.Limits.{most-registers}
 use Rattle.rules.specs.paper.Engine.{Called, engine}
 use Rattle.integers.specs.Words.{integers-of, words-of}
 use Rattle.little_endian.specs.Numbers.{numbers, bytes-of-words}
@@ -20,21 +22,25 @@ whole size most bytes = eqb (bytes % size) 0 && leb (bytes / size) most
 -- All words of the bytes, where they are a whole count of words and at most 2 + 2 × 2,000. Other bytes are no image of any n, so that n and r
 -- alone are judged like them; fewer than 8 bytes have not even these.
 unfoldable pub image-count : (bytes : ℕ) → ℕ
-image-count bytes = cond (ltb bytes 8) 0 (cond (whole 4 4002 bytes) (bytes / 4) 2)
+image-count bytes = cond (ltb bytes 8) 0 (cond (whole 4 most-image-words bytes) (bytes / 4) 2)
 
 unfoldable pub image-of-bytes : List ℕ → List ℕ
 image-of-bytes bytes = numbers 4 (image-count (length bytes)) bytes
 
 -- ---- The registers.
 
+-- A count of registers that no image has.
+abbrev pub too-many-registers : ℕ
+too-many-registers = 1 + most-registers
+
 -- The values of the bytes, where they are a whole count of values and at most 16. Other bytes are no registers of any image; 17 values are not
 -- either, and stand for them.
 unfoldable pub register-values : List ℕ → List ℤ
-register-values bytes = cond (whole 8 16 (length bytes)) (integers-of (numbers 8 (length bytes / 8) bytes)) (replicate 17 (pos 0))
+register-values bytes = cond (whole 8 most-registers (length bytes)) (integers-of (numbers 8 (length bytes / 8) bytes)) (replicate too-many-registers (pos 0))
 
 -- What the bytes become where the values become others: bytes that are no registers stay as they are.
 unfoldable pub register-bytes : (before : List ℕ) → List ℤ → List ℕ
-register-bytes before values = cond (whole 8 16 (length before)) (bytes-of-words (words-of values)) before
+register-bytes before values = cond (whole 8 most-registers (length before)) (bytes-of-words (words-of values)) before
 
 -- ---- The calls.
 

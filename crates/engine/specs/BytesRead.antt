@@ -10,6 +10,7 @@ use native.Mathlib.Nat.{mul-mod-right, div-eq-of-eq-mul-right}
 use lib.Dec.{leb}
 use lib.ListN.{length, take, drop}
 use borrow.Author.Tests.{le-ltb, lt-ltb, le-leb, eq-eqb, ne-eqb}
+use Rattle.calls.specs.Sizes.{most-image-words}
 use Rattle.rules.specs.paper.Refusals as Refusals
 use Rattle.rules.specs.paper.Limits.{most-registers}
 use Rattle.rules.specs.paper.Tree.{Root}
@@ -55,20 +56,20 @@ two-words : (count k : ℕ) (bytes : List ℕ) → count ≡ suc (suc k) → num
 unfolding numbers
 two-words count k bytes q = ap (λ c. numbers 4 c bytes) q
 
-count-handed : (bytes : ℕ) (all : Bool) → 8 ≤ bytes → whole 4 4002 bytes ≡ all → image-count bytes ≡ cond all (bytes / 4) 2
+count-handed : (bytes : ℕ) (all : Bool) → 8 ≤ bytes → whole 4 most-image-words bytes ≡ all → image-count bytes ≡ cond all (bytes / 4) 2
 unfolding image-count
-count-handed bytes all h p = ap (λ few. cond few 0 (cond (whole 4 4002 bytes) (bytes / 4) 2)) (le-ltb bytes 8 h) ∙ ap (λ a. cond a (bytes / 4) 2) p
+count-handed bytes all h p = ap (λ few. cond few 0 (cond (whole 4 most-image-words bytes) (bytes / 4) 2)) (le-ltb bytes 8 h) ∙ ap (λ a. cond a (bytes / 4) 2) p
 
 image-of-bytes-is : (bytes : List ℕ) (count : ℕ) → image-count (length bytes) ≡ count → image-of-bytes bytes ≡ numbers 4 count bytes
 unfolding image-of-bytes
 image-of-bytes-is bytes count q = ap (λ k. numbers 4 k bytes) q
 
 headed : (bytes : List ℕ) → 8 ≤ length bytes → Headed bytes
-headed bytes h = by (whole 4 4002 (length bytes)) refl
+headed bytes h = by (whole 4 most-image-words (length bytes)) refl
   where
-    by : (all : Bool) → whole 4 4002 (length bytes) ≡ all → Headed bytes
+    by : (all : Bool) → whole 4 most-image-words (length bytes) ≡ all → Headed bytes
     by true p =
-        let same = count-whole 4 4002 (length bytes) p in
+        let same = count-whole 4 most-image-words (length bytes) p in
         record {
           rest = numbers 4 (length bytes / 4 - 2) (drop 4 (drop 4 bytes));
           words = image-of-bytes-is bytes (length bytes / 4) (count-handed (length bytes) true h p) ∙ two-words (length bytes / 4) (length bytes / 4 - 2) bytes (omega (arith, same, h));
@@ -98,7 +99,7 @@ length-refused bytes h q other =
 pub whole-image : (bytes : List ℕ) → size-fits (nodes-said bytes) (registers-said bytes) ≡ true → length bytes ≡ 8 + 8 * nodes-said bytes → image-of-bytes bytes ≡ numbers 4 (2 + 2 * nodes-said bytes) bytes
 whole-image bytes q same =
     image-of-bytes-is bytes (2 + 2 * nodes-said bytes)
-    (count-handed (length bytes) true (omega (arith, same)) (is-whole 4 4002 (length bytes) (2 + 2 * nodes-said bytes) (omega arith) (omega (arith, same)) (omega (arith, few-nodes (nodes-said bytes) (registers-said bytes) q)))
+    (count-handed (length bytes) true (omega (arith, same)) (is-whole 4 most-image-words (length bytes) (2 + 2 * nodes-said bytes) (omega arith) (omega (arith, same)) (omega (arith, few-nodes (nodes-said bytes) (registers-said bytes) q)))
     ∙ div-eq-of-eq-mul-right (omega arith) (omega (arith, same)))
 
 -- ---- The registers.
@@ -106,16 +107,16 @@ whole-image bytes q same =
 -- 8 r bytes: exactly the r values are handed on.
 pub whole-registers : (bytes : List ℕ) (r : ℕ) → r ≤ most-registers → length bytes ≡ 8 * r → register-values bytes ≡ integers-of (numbers 8 r bytes)
 whole-registers bytes r h same =
-    values-whole bytes (is-whole 8 16 (length bytes) r (omega arith) same h) ∙ ap (λ k. integers-of (numbers 8 k bytes)) (div-eq-of-eq-mul-right (omega arith) same)
+    values-whole bytes (is-whole 8 most-registers (length bytes) r (omega arith) same h) ∙ ap (λ k. integers-of (numbers 8 k bytes)) (div-eq-of-eq-mul-right (omega arith) same)
 
 -- Any other length: not as many values as an image has registers.
 pub other-count : (bytes : List ℕ) (r : ℕ) → r ≤ most-registers → (length bytes ≡ 8 * r → ⊥) → length (register-values bytes) ≡ r → ⊥
-other-count bytes r h other e = by (whole 8 16 (length bytes)) refl
+other-count bytes r h other e = by (whole 8 most-registers (length bytes)) refl
   where
-    by : (all : Bool) → whole 8 16 (length bytes) ≡ all → ⊥
+    by : (all : Bool) → whole 8 most-registers (length bytes) ≡ all → ⊥
     by true p =
         let counted = sym (ap length (values-whole bytes p) ∙ integers-length (numbers 8 (length bytes / 8) bytes) ∙ numbers-length 8 (length bytes / 8) bytes) in
-        other (omega (arith, counted, e, count-whole 8 16 (length bytes) p))
+        other (omega (arith, counted, e, count-whole 8 most-registers (length bytes) p))
     by false p = omega (arith, sym e ∙ ap length (values-none bytes p), h)
 
 -- So it is 20 where the image passes.

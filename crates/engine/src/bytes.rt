@@ -3,6 +3,7 @@
 ghost use mathlib.Core.Path.{_≡_};
 ghost use Prim.Native.Nat.{_*_, _≤_};
 ghost use lib.ListN.{length, take};
+ghost use Rattle.calls.specs.Sizes.{most-image-words};
 ghost use Rattle.rules.specs.paper.Engine.{checker};
 ghost use Rattle.engine.specs.Replies.{Replies, RunCalled};
 ghost use Rattle.little_endian.specs.Numbers.{numbers};
@@ -12,9 +13,18 @@ use crate::CheckReply;
 use crate::RunReply;
 use crate::pi_check;
 use crate::pi_run;
+use calls::MOST_BUDGET;
+use calls::MOST_IMAGE_WORDS;
+use calls::WORK_WORDS;
+use calls::refusals::REFUSED_BUDGET;
+use calls::refusals::REFUSED_WORK;
 use little_endian::pack_values;
 use little_endian::unpack_values;
 use little_endian::unpack_words;
+use reader::MOST_REGISTERS;
+
+// A count of registers that no image has.
+const TOO_MANY_REGISTERS: usize = MOST_REGISTERS + 1;
 
 // How many words of an image of this many bytes are handed on.
 fn image_count(bytes: usize) -> usize
@@ -26,7 +36,7 @@ fn image_count(bytes: usize) -> usize
     if bytes % 4 != 0 {
         return 2;
     }
-    if 4002 < bytes / 4 {
+    if MOST_IMAGE_WORDS < bytes / 4 {
         return 2;
     }
     bytes / 4
@@ -34,7 +44,7 @@ fn image_count(bytes: usize) -> usize
 
 // The words that are handed on stand first then; the answer is their count.
 fn unpack_image(image: &[u8], words: &mut [u32]) -> usize
-    requires { ⌜ 4002 ≤ length (now words) ⌝ }
+    requires { ⌜ most-image-words ≤ length (now words) ⌝ }
     ensures { λ r. ⌜ r ≤ length (now (words .exit)) ⌝ }
     ensures { λ r. ⌜ take r (now (words .exit)) ≡ image-of-bytes (now (image .entry)) ⌝ }
 {
@@ -49,7 +59,7 @@ pub extern "C" fn pi_check_bytes(image: &[u8], work: &mut [u64]) -> CheckReply
     ensures { λ r. ⌜ Replies (checker (image-of-bytes (now (image .entry))) (now (work .entry)) .answer) r ⌝ }
     ensures { λ r. ⌜ now (work .exit) ≡ checker (image-of-bytes (now (image .entry))) (now (work .entry)) .work ⌝ }
 {
-    let mut words = [0u32; 4002];
+    let mut words = [0u32; MOST_IMAGE_WORDS];
     let count = unpack_image(image, &mut words);
     pi_check(&words[..count], work)
 }
@@ -76,12 +86,12 @@ fn run_values(
 fn run_registers(image: &[u32], registers: &mut [u8], budget: u64, work: &mut [u64]) -> RunReply
     ensures { λ r. ⌜ RunCalled (register-bytes (now (registers .entry))) (run-call-registers (now (image .entry)) (now (registers .entry)) budget (now (work .entry))) r (now (registers .exit)) (now (work .exit)) ⌝ }
 {
-    let mut values = [0u64; 17];
+    let mut values = [0u64; TOO_MANY_REGISTERS];
     if registers.len() % 8 != 0 {
         return pi_run(image, &mut values, budget, work);
     }
     let count = registers.len() / 8;
-    if 16 < count {
+    if MOST_REGISTERS < count {
         return pi_run(image, &mut values, budget, work);
     }
     run_values(image, registers, &mut values[..count], budget, work)
@@ -98,25 +108,25 @@ pub extern "C" fn pi_run_bytes(
 ) -> RunReply
     ensures { λ r. ⌜ RunCalled (register-bytes (now (registers .entry))) (run-call-bytes (now (image .entry)) (now (registers .entry)) budget (now (work .entry))) r (now (registers .exit)) (now (work .exit)) ⌝ }
 {
-    if work.len() < 8192 {
+    if work.len() < WORK_WORDS {
         return RunReply {
-            refusal: 22,
+            refusal: REFUSED_WORK,
             outcome: 0,
             value: 0,
             place: 0,
             steps: 0,
         };
     }
-    if 1000000 < budget {
+    if MOST_BUDGET < budget {
         return RunReply {
-            refusal: 21,
+            refusal: REFUSED_BUDGET,
             outcome: 0,
             value: 0,
             place: 0,
             steps: 0,
         };
     }
-    let mut words = [0u32; 4002];
+    let mut words = [0u32; MOST_IMAGE_WORDS];
     let count = unpack_image(image, &mut words);
     run_registers(&words[..count], registers, budget, work)
 }

@@ -5,6 +5,8 @@ use native.Mathlib.Omega.{arith}
 use denote.Ref.{now}
 use lib.ListN.{length, take, replicate}
 use lib.Seq.{length-take-le}
+use Rattle.engine.specs.Bytes.{too-many-registers}
+use Rattle.rules.specs.paper.Limits.{most-registers}
 use Rattle.engine.specs.BytesKept.{count-whole}
 use Rattle.engine.proofs.BytesRun.{odd-bytes, many-bytes, some-bytes, no-registers, some-registers}
 use borrow.Author.Needs.{needs}
@@ -15,8 +17,8 @@ use Rattle.engine.proofs.bytes.run_registers.Lts as lts
 use Rattle.engine.proofs.bytes.run_values.Reads as run-values-reads
 use Rattle.engine.proofs.pi_run.Reads as pi-run-reads
 
-few-values : (count : ℕ) → count ≤ 16 → length {A = ℕ} (take count (replicate 17 0)) ≡ count
-few-values count h = length-take-le {A = ℕ} count (replicate 17 0) (omega (arith, h))
+few-values : (count : ℕ) → count ≤ most-registers → length {A = ℕ} (take count (replicate too-many-registers 0)) ≡ count
+few-values count h = length-take-le {A = ℕ} count (replicate too-many-registers 0) (omega (arith, h))
 
 slice-aggregate-pi-run : tie.Need-slice-aggregate-pi-run
 slice-aggregate-pi-run c = search needs
@@ -57,7 +59,7 @@ slice-aggregate-run-values c = sym (few-values (length (now (c .before .before .
 run-values-requires : tie.Need-run-values-requires
 run-values-requires c κs =
     let bytes = length (now (c .before .before .before .before .before .before .before .before .args .registers)) in
-    omega (arith, few-values (bytes / 8) (c .before .before .before .if2 .left), count-whole 8 16 bytes (some-bytes bytes (c .before .before .before .before .if1 .left) (c .before .before .before .if2 .left)))
+    omega (arith, few-values (bytes / 8) (c .before .before .before .if2 .left), count-whole 8 most-registers bytes (some-bytes bytes (c .before .before .before .before .if1 .left) (c .before .before .before .if2 .left)))
 
 same-length-3 : tie.Need-same-length-3
 same-length-3 c = search needs
