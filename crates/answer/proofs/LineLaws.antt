@@ -8,7 +8,8 @@ use native.Mathlib.Nat.{add-zero, zero-add}
 use lib.IntN.{ℤ}
 use lib.ListN.{length, take, getD}
 use lib.Seq.{take-suc, take-length, length-take-le}
-use Rattle.answer.specs.Sizes.{outcome-bytes, number-bytes, integer-bytes, steps-bytes, register-line-bytes, register-lines-bytes, page-bytes}
+use Rattle.rules.specs.paper.Limits.{most-registers}
+use Rattle.answer.specs.Sizes.{outcome-bytes, steps-bytes, register-line-bytes, register-lines-bytes, page-bytes}
 use Rattle.integers.specs.Words.{integer-of, integers-of}
 use Rattle.integers.specs.WordLaws.{integers-length}
 use Rattle.calls.specs.declared.Ran.{Ran}
@@ -21,43 +22,41 @@ use Rattle.answer.proofs.PutLaws.{within, within-then, within-as}
 -- ---- The outcome.
 
 module _ (before after : List ℕ) (answer : Ran) (last : ℕ) where
-  pub number-text : (middle : List ℕ) (next w k : ℕ) → answer ≡ Number w k → Put before 0 (ascii "number ") next middle → PutWithin integer-bytes middle next (integer (integer-of w)) last after →
-      PutWithin outcome-bytes before 0 (ran-text answer) last after
+  pub number-text : (w k : ℕ) → answer ≡ Number w k → PutWithin 28 before 0 (ascii "number " ++ integer (integer-of w)) last after → PutWithin outcome-bytes before 0 (ran-text answer) last after
   unfolding ran-text
-  number-text middle next w k e p q = within-as outcome-bytes (sym (ap ran-text e)) (omega arith) (within-then (within 7 p (omega arith)) q)
+  number-text w k e p = within-as outcome-bytes (sym (ap ran-text e)) (omega arith) p
 
-  pub truth-text : (middle : List ℕ) (next w k : ℕ) → answer ≡ Truth w k → Put before 0 (ascii "truth ") next middle → PutWithin number-bytes middle next (decimal w) last after →
-      PutWithin outcome-bytes before 0 (ran-text answer) last after
+  pub truth-text : (w k : ℕ) → answer ≡ Truth w k → PutWithin 26 before 0 (ascii "truth " ++ decimal w) last after → PutWithin outcome-bytes before 0 (ran-text answer) last after
   unfolding ran-text
-  truth-text middle next w k e p q = within-as outcome-bytes (sym (ap ran-text e)) (omega arith) (within-then (within 6 p (omega arith)) q)
+  truth-text w k e p = within-as outcome-bytes (sym (ap ran-text e)) (omega arith) p
 
-  pub cell-text : (middle : List ℕ) (next w k : ℕ) → answer ≡ Location w k → Put before 0 (ascii "cell ") next middle → PutWithin number-bytes middle next (decimal w) last after →
-      PutWithin outcome-bytes before 0 (ran-text answer) last after
+  pub cell-text : (w k : ℕ) → answer ≡ Location w k → PutWithin 25 before 0 (ascii "cell " ++ decimal w) last after → PutWithin outcome-bytes before 0 (ran-text answer) last after
   unfolding ran-text
-  cell-text middle next w k e p q = within-as outcome-bytes (sym (ap ran-text e)) (omega arith) (within-then (within 5 p (omega arith)) q)
+  cell-text w k e p = within-as outcome-bytes (sym (ap ran-text e)) (omega arith) p
 
   pub none-text : (k : ℕ) → answer ≡ Nothing k → Put before 0 (ascii "none") last after → PutWithin outcome-bytes before 0 (ran-text answer) last after
   unfolding ran-text
   none-text k e p = within-as outcome-bytes (sym (ap ran-text e)) (omega arith) (within 4 p (omega arith))
 
-  pub refused-text : (second third fourth : List ℕ) (a b d x p k : ℕ) → answer ≡ Refused x p k → Put before 0 (ascii "refused ") a second → PutWithin number-bytes second a (decimal x) b third →
-      Put third b (ascii " at ") d fourth → PutWithin number-bytes fourth d (decimal p) last after → PutWithin outcome-bytes before 0 (ran-text answer) last after
+  pub refused-text : (middle : List ℕ) (next x p k : ℕ) → answer ≡ Refused x p k → PutWithin 28 before 0 (ascii "refused " ++ decimal x) next middle →
+      PutWithin 24 middle next (ascii " at " ++ decimal p) last after → PutWithin outcome-bytes before 0 (ran-text answer) last after
   unfolding ran-text
-  refused-text second third fourth a b d x p k e f g h i =
-      within-as outcome-bytes (sym (ap ran-text e)) (omega arith) (within-then (within-then (within-then (within 8 f (omega arith)) g) (within 4 h (omega arith))) i)
+  refused-text middle next x p k e f g =
+      within-as outcome-bytes (sym (append-assoc (ascii "refused " ++ decimal x) (ascii " at ") (decimal p)) ∙ sym (ap ran-text e)) (omega arith) (within-then f g)
 
 -- ---- The steps, and a register.
 
-pub steps-lines : (before middle later after : List ℕ) (at a b last n : ℕ) → Put before at (ascii "\nsteps ") a middle → PutWithin number-bytes middle a (decimal n) b later → Put later b (ascii "\n") last after →
+pub steps-lines : (before middle after : List ℕ) (at next last n : ℕ) → PutWithin 27 before at (ascii "\nsteps " ++ decimal n) next middle → Put middle next (ascii "\n") last after →
     PutWithin steps-bytes before at (ascii "\n" ++ line (ascii "steps " ++ decimal n)) last after
-steps-lines before middle later after at a b last n p q r = within-then (within-then (within 7 p (omega arith)) q) (within 1 r (omega arith))
+steps-lines before middle after at next last n p q = within-then p (within 1 q (omega arith))
 
-pub register-line : (before second third fourth fifth after : List ℕ) (at a b d e last i w : ℕ) → Put before at (ascii "register ") a second → PutWithin number-bytes second a (decimal i) b third →
-    Put third b (ascii " ") d fourth → PutWithin integer-bytes fourth d (integer (integer-of w)) e fifth → Put fifth e (ascii "\n") last after →
+pub register-line : (before second third after : List ℕ) (at a b last i w : ℕ) → PutWithin 29 before at (ascii "register " ++ decimal i) a second →
+    PutWithin 22 second a (ascii " " ++ integer (integer-of w)) b third → Put third b (ascii "\n") last after →
     PutWithin register-line-bytes before at (line (register-text i (integer-of w))) last after
 unfolding register-text
-register-line before second third fourth fifth after at a b d e last i w p q r s t =
-    within-then (within-then (within-then (within-then (within 9 p (omega arith)) q) (within 1 r (omega arith))) s) (within 1 t (omega arith))
+register-line before second third after at a b last i w p q r =
+    within-as register-line-bytes (ap line (sym (append-assoc (ascii "register " ++ decimal i) (ascii " ") (integer (integer-of w))))) (omega arith)
+    (within-then (within-then p q) (within 1 r (omega arith)))
 
 -- ---- The registers, one by one.
 
@@ -111,7 +110,7 @@ lined-next before registers middle after at i next last l h p q =
       same-length = q ∙ l .same-length;
     }
 
-pub lined-all : (before registers after : List ℕ) (at i next : ℕ) → length registers ≤ 16 → Lined before at registers i next after → length registers ≤ i →
+pub lined-all : (before registers after : List ℕ) (at i next : ℕ) → length registers ≤ most-registers → Lined before at registers i next after → length registers ≤ i →
     PutWithin register-lines-bytes before at (register-lines 0 (integers-of registers)) next after
 lined-all before registers after at i next few l h =
     within-as register-lines-bytes (ap (λ l. register-lines 0 (integers-of l)) (ap (λ k. take k registers) (same i (length registers) (l .some) h) ∙ take-length registers)) (omega (arith, few, l .some)) (l .put)

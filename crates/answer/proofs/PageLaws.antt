@@ -55,19 +55,24 @@ same-page c ranged =
     ∙ ap (λ ys. line (outcome-text (c .reply .answer)) ++ line (ascii "steps " ++ decimal (c .reply .steps)) ++ cond (shows-registers (c .reply .answer)) (register-lines 0 ys) [])
     (integers-back (c .registers) (ranged .registers))
 
--- What is written after a run is the page of the engine's call on the numbers in the input.
-pub performed : (input work before after : List ℕ) (n m : ℕ) (r : Ran) (words values last-registers last-work : List ℕ) (last : ℕ) → words ≡ numbers 4 n input → length words ≡ n →
-    values ≡ numbers 8 m (drop (4 * length words) input) → ((i : ℕ) → i < length values → getD values i 0 < 18446744073709551616) →
-    RanAs (run-call words values most-budget work) r last-registers last-work →
-    PutWithin page-bytes before 0 (ran-page r (integers-of last-registers)) last after → PutWithin page-bytes before 0 (page (run-numbers n m input work)) last after
-performed input work before after n m r words values last-registers last-work last w-is w-count v-is low done p =
+-- What is written after a run is the page of the engine's call.
+pub ran-put : (before after image registers work last-registers last-work : List ℕ) (r : Ran) (last : ℕ) → ((i : ℕ) → i < length registers → getD registers i 0 < 18446744073709551616) →
+    RanAs (run-call image registers most-budget work) r last-registers last-work → PutWithin page-bytes before 0 (ran-page r (integers-of last-registers)) last after →
+    PutWithin page-bytes before 0 (page (run-call image registers most-budget work)) last after
+ran-put before after image registers work last-registers last-work r last low done p =
     within-as page-bytes
     (ap (λ a. ran-page a (integers-of last-registers)) (done .answer-is)
-    ∙ ap (λ l. ran-page (run-reply (run-call words values most-budget work .reply)) (integers-of l)) (done .registers-are)
-    ∙ same-page (run-call words values most-budget work) (engine-ranged words (integers-of values) (all-in-range values low) most-budget work)
-    ∙ ap (λ l. page (run-call words l most-budget work)) (v-is ∙ ap (λ k. numbers 8 m (drop (4 * k) input)) w-count)
-    ∙ ap (λ l. page (run-call l (numbers 8 m (drop (4 * n) input)) most-budget work)) w-is)
+    ∙ ap (λ l. ran-page (run-reply (run-call image registers most-budget work .reply)) (integers-of l)) (done .registers-are)
+    ∙ same-page (run-call image registers most-budget work) (engine-ranged image (integers-of registers) (all-in-range registers low) most-budget work))
     (omega arith) p
+
+-- The image and the registers are the numbers in the input.
+pub input-put : (input work before after image registers : List ℕ) (words values last : ℕ) → image ≡ numbers 4 words input → registers ≡ numbers 8 values (drop (4 * words) input) →
+    PutWithin page-bytes before 0 (page (run-call image registers most-budget work)) last after → PutWithin page-bytes before 0 (page (run-numbers words values input work)) last after
+input-put input work before after image registers words values last p q put =
+    within-as page-bytes
+    (ap (λ l. page (run-call l registers most-budget work)) p ∙ ap (λ l. page (run-call (numbers 4 words input) l most-budget work)) q)
+    (omega arith) put
 
 -- ---- The room for a run.
 

@@ -5,10 +5,12 @@ mod text;
 
 ghost use mathlib.Core.Path.{_≡_};
 ghost use Prim.Native.Nat.{_+_, _*_, _≤_};
-ghost use lib.ListN.{length, take};
-ghost use Rattle.rules.specs.paper.Limits.{most-nodes, most-registers};
+ghost use lib.ListN.{length, take, drop};
+ghost use Rattle.rules.specs.paper.Limits.{most-nodes, most-registers, most-budget};
 ghost use Rattle.answer.specs.Sizes.{page-bytes};
 ghost use Rattle.io.specs.Counts.{Counts};
+ghost use Rattle.little_endian.specs.Numbers.{numbers};
+ghost use Rattle.calls.specs.Runs.{run-call};
 ghost use Rattle.answer.specs.Program.{page, input-bytes, run-numbers, run-input, program};
 ghost use Rattle.answer.specs.Writing.{PutWithin};
 use crate::input::Counted;
@@ -30,7 +32,27 @@ pub const MOST_INPUT_BYTES: usize = 8 + 8 * MOST_NODES + 8 * MOST_REGISTERS;
 // The room for an answer. The longest has 912 bytes: an outcome of 52, the steps of 28, and 16 registers of 52.
 pub const PAGE_BYTES: usize = 1024;
 
-// The image and the starting values are taken from the input, the run is made, and its answer is written.
+// The image and the starting values of an input.
+fn unpack_input(input: &[u8], image: &mut [u32], registers: &mut [u64])
+    requires { ⌜ 4 * length (now image) + 8 * length (now registers) ≤ length (now input) ⌝ }
+    ensures { λ r. ⌜ now (image .exit) ≡ numbers 4 (length (now (image .entry))) (now (input .entry)) ⌝ }
+    ensures { λ r. ⌜ now (registers .exit) ≡ numbers 8 (length (now (registers .entry))) (drop (4 * length (now (image .entry))) (now (input .entry))) ⌝ }
+{
+    unpack_words(input, image);
+    unpack_values(input, 4 * image.len(), registers);
+}
+
+// The run is made, and its answer is written.
+fn answer_run(image: &[u32], registers: &mut [u64], work: &mut [u64], output: &mut [u8]) -> usize
+    requires { ⌜ length (now registers) ≤ most-registers ⌝ }
+    requires { ⌜ page-bytes ≤ length (now output) ⌝ }
+    ensures { λ r. ⌜ PutWithin page-bytes (now (output .entry)) 0 (page (run-call (now (image .entry)) (now (registers .entry)) most-budget (now (work .entry)))) r (now (output .exit)) ⌝ }
+{
+    let answer = run(image, registers, MOST_BUDGET, work);
+    put_page(output, answer, registers)
+}
+
+// The image and the starting values are taken from the input and run.
 fn answer_input(
     input: &[u8],
     image: &mut [u32],
@@ -43,10 +65,8 @@ fn answer_input(
     requires { ⌜ page-bytes ≤ length (now output) ⌝ }
     ensures { λ r. ⌜ PutWithin page-bytes (now (output .entry)) 0 (page (run-numbers (length (now (image .entry))) (length (now (registers .entry))) (now (input .entry)) (now (work .entry)))) r (now (output .exit)) ⌝ }
 {
-    unpack_words(input, image);
-    unpack_values(input, 4 * image.len(), registers);
-    let answer = run(image, registers, MOST_BUDGET, work);
-    put_page(output, answer, registers)
+    unpack_input(input, image, registers);
+    answer_run(image, registers, work, output)
 }
 
 // An input of the right byte count. The room for the image, the registers and the work words, 80 KB, is on the stack.

@@ -10,8 +10,8 @@ ghost use Rattle.answer.specs.Decimal.{ascii, decimal};
 ghost use Rattle.answer.specs.Program.{line, register-text, register-lines};
 ghost use Rattle.answer.specs.Writing.{PutWithin, ran-text, ran-steps, ran-shows, ran-page, refusal-page};
 use crate::text::put;
-use crate::text::put_integer;
-use crate::text::put_number;
+use crate::text::put_labelled;
+use crate::text::put_labelled_integer;
 use calls::Ran;
 use calls::refusals::REFUSED_WORK;
 
@@ -21,24 +21,13 @@ fn put_outcome(output: &mut [u8], answer: Ran) -> usize
     ensures { λ r. ⌜ PutWithin outcome-bytes (now (output .entry)) 0 (ran-text answer) r (now (output .exit)) ⌝ }
 {
     match answer {
-        Ran::Number(word, steps) => {
-            let at = put(output, 0, b"number ");
-            put_integer(output, at, word)
-        }
-        Ran::Truth(word, steps) => {
-            let at = put(output, 0, b"truth ");
-            put_number(output, at, word)
-        }
-        Ran::Location(word, steps) => {
-            let at = put(output, 0, b"cell ");
-            put_number(output, at, word)
-        }
+        Ran::Number(word, steps) => put_labelled_integer(output, 0, b"number ", word),
+        Ran::Truth(word, steps) => put_labelled(output, 0, b"truth ", word),
+        Ran::Location(word, steps) => put_labelled(output, 0, b"cell ", word),
         Ran::Nothing(steps) => put(output, 0, b"none"),
         Ran::Refused(number, place, steps) => {
-            let at = put(output, 0, b"refused ");
-            let behind = put_number(output, at, number);
-            let next = put(output, behind, b" at ");
-            put_number(output, next, place as u64)
+            let next = put_labelled(output, 0, b"refused ", number);
+            put_labelled(output, next, b" at ", place as u64)
         }
     }
 }
@@ -48,8 +37,7 @@ fn put_steps(output: &mut [u8], at: usize, steps: u64) -> usize
     requires { ⌜ at + steps-bytes ≤ length (now output) ⌝ }
     ensures { λ r. ⌜ PutWithin steps-bytes (now (output .entry)) at (ascii "\n" ++ line (ascii "steps " ++ decimal steps)) r (now (output .exit)) ⌝ }
 {
-    let first = put(output, at, b"\nsteps ");
-    let next = put_number(output, first, steps);
+    let next = put_labelled(output, at, b"\nsteps ", steps);
     put(output, next, b"\n")
 }
 
@@ -58,10 +46,8 @@ fn put_register(output: &mut [u8], at: usize, i: usize, word: u64) -> usize
     requires { ⌜ at + register-line-bytes ≤ length (now output) ⌝ }
     ensures { λ r. ⌜ PutWithin register-line-bytes (now (output .entry)) at (line (register-text i (integer-of word))) r (now (output .exit)) ⌝ }
 {
-    let first = put(output, at, b"register ");
-    let behind = put_number(output, first, i as u64);
-    let second = put(output, behind, b" ");
-    let next = put_integer(output, second, word);
+    let behind = put_labelled(output, at, b"register ", i as u64);
+    let next = put_labelled_integer(output, behind, b" ", word);
     put(output, next, b"\n")
 }
 

@@ -1,4 +1,5 @@
 // Texts and numbers, put into an output one after the other.
+ghost use mathlib.Core.List.{_++_};
 ghost use Prim.Native.Nat.{_+_, _≤_};
 ghost use lib.ListN.{length};
 ghost use Rattle.answer.specs.Sizes.{number-bytes, integer-bytes};
@@ -45,4 +46,22 @@ pub(crate) fn put_integer(output: &mut [u8], at: usize, word: u64) -> usize
     }
     let next = put(output, at, b"-");
     put_number(output, next, u64::MAX - word + 1)
+}
+
+// A text, and a number behind it.
+pub(crate) fn put_labelled(output: &mut [u8], at: usize, label: &[u8], number: u64) -> usize
+    requires { ⌜ at + length (now label) + number-bytes ≤ length (now output) ⌝ }
+    ensures { λ r. ⌜ PutWithin (length (now (label .entry)) + number-bytes) (now (output .entry)) at (now (label .entry) ++ decimal number) r (now (output .exit)) ⌝ }
+{
+    let next = put(output, at, label);
+    put_number(output, next, number)
+}
+
+// A text, and the integer that a word holds behind it.
+pub(crate) fn put_labelled_integer(output: &mut [u8], at: usize, label: &[u8], word: u64) -> usize
+    requires { ⌜ at + length (now label) + integer-bytes ≤ length (now output) ⌝ }
+    ensures { λ r. ⌜ PutWithin (length (now (label .entry)) + integer-bytes) (now (output .entry)) at (now (label .entry) ++ integer (integer-of word)) r (now (output .exit)) ⌝ }
+{
+    let next = put(output, at, label);
+    put_integer(output, next, word)
 }

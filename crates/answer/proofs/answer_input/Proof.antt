@@ -1,29 +1,18 @@
--- answer_input: the numbers of the input, the run and the page.
-use Rattle.answer.proofs.PageLaws.{performed}
+-- answer_input: the numbers of the input, and the run on them.
+use Rattle.answer.proofs.PageLaws.{input-put}
 use borrow.Author.Needs.{needs}
 use Rattle.answer.proofs.answer_input.Statement.{statement}
 use Rattle.answer.proofs.answer_input.Tie as tie
 use Rattle.answer.proofs.answer_input.Reads as reads
 use Rattle.answer.proofs.answer_input.Lts as lts
-use Rattle.little_endian.proofs.unpack_values.Reads as unpack-values-reads
-use Rattle.little_endian.proofs.unpack_words.Reads as unpack-words-reads
-use Rattle.answer.proofs.lines.put_page.Reads as put-page-reads
-use Rattle.calls.proofs.run.Reads as run-reads
+use Rattle.answer.proofs.answer_run.Reads as answer-run-reads
+use Rattle.answer.proofs.unpack_input.Reads as unpack-input-reads
 
-unpack-words-requires : tie.Need-unpack-words-requires
-unpack-words-requires c κs = search needs
+unpack-input-requires : tie.Need-unpack-input-requires
+unpack-input-requires c κs = search needs
 
-mul-unpack-values : tie.Need-mul-unpack-values
-mul-unpack-values c = search needs
-
-unpack-values-requires : tie.Need-unpack-values-requires
-unpack-values-requires c κs = search needs
-
-run-requires : tie.Need-run-requires
-run-requires c κs = search needs
-
-put-page-requires : tie.Need-put-page-requires
-put-page-requires c κs = search needs
+answer-run-requires : tie.Need-answer-run-requires
+answer-run-requires c κs = search needs
 
 same-length : tie.Need-same-length
 same-length c = search needs
@@ -39,18 +28,15 @@ same-length-4 c = search needs
 
 returns : tie.Need-returns
 returns c =
-    performed _ _ _ _ _ _ _ _ _ _ _ _ (c .before .before .before .before .before .before .before .before .before .before .before .before .before .before .before .before .before .before .before .unpack-words .ensures) (c .before .before .before .before .before .before .before .before .before .before .before .before .before .before .before .before .before .before .before .unpack-words .kept .1 .0) (c .before .before .before .before .before .before .before .before .before .before .before .before .before .before .before .unpack-values .ensures) (λ i h. c .before .before .before .before .before .before .before .before .before .before .before .before .before .slice-known6 .given i .fits)
-    (c .before .before .before .before .before .before .before .before .before .run .ensures) (c .before .before .put-page .ensures)
+    let numbers-are = c .before .before .before .before .before .before .before .before .before .before .before .before .before .before .before .unpack-input .ensures in
+    input-put _ _ _ _ _ _ _ _ _ (numbers-are .0) (numbers-are .1) (c .before .before .before .before .before .before .answer-run .ensures)
 
 pub answer-input-spec : {M : Type 1} → statement M
 answer-input-spec =
     tie.close
     (tie.spec
-    unpack-words-requires
-    mul-unpack-values
-    unpack-values-requires
-    run-requires
-    put-page-requires
+    unpack-input-requires
+    answer-run-requires
     same-length
     same-length-2
     same-length-3

@@ -54,27 +54,27 @@ cast-fourth c =
 mul-result : tie.Need-mul-result
 mul-result c =
     let start = c .before .before .before .before in let known = c .before .before .before .shared-slice-known .given in
-    record { fits = omega (arith, known (start .args .at + 3) .fits) }
+    record { fits = omega (arith, known (start .args .at) .fits, known (start .args .at + 1) .fits, known (start .args .at + 2) .fits, known (start .args .at + 3) .fits) }
 
 add-result : tie.Need-add-result
 add-result c =
     let start = c .before .before .before .before in let known = c .before .before .before .shared-slice-known .given in
-    record { fits = omega (arith, known (start .args .at + 2) .fits, known (start .args .at + 3) .fits) }
+    record { fits = omega (arith, known (start .args .at) .fits, known (start .args .at + 1) .fits, known (start .args .at + 2) .fits, known (start .args .at + 3) .fits) }
 
 mul-result-2 : tie.Need-mul-result-2
 mul-result-2 c =
     let start = c .before .before .before .before in let known = c .before .before .before .shared-slice-known .given in
-    record { fits = omega (arith, known (start .args .at + 2) .fits, known (start .args .at + 3) .fits) }
+    record { fits = omega (arith, known (start .args .at) .fits, known (start .args .at + 1) .fits, known (start .args .at + 2) .fits, known (start .args .at + 3) .fits) }
 
 add-result-2 : tie.Need-add-result-2
 add-result-2 c =
     let start = c .before .before .before .before in let known = c .before .before .before .shared-slice-known .given in
-    record { fits = omega (arith, known (start .args .at + 1) .fits, known (start .args .at + 2) .fits, known (start .args .at + 3) .fits) }
+    record { fits = omega (arith, known (start .args .at) .fits, known (start .args .at + 1) .fits, known (start .args .at + 2) .fits, known (start .args .at + 3) .fits) }
 
 mul-result-3 : tie.Need-mul-result-3
 mul-result-3 c =
     let start = c .before .before .before .before in let known = c .before .before .before .shared-slice-known .given in
-    record { fits = omega (arith, known (start .args .at + 1) .fits, known (start .args .at + 2) .fits, known (start .args .at + 3) .fits) }
+    record { fits = omega (arith, known (start .args .at) .fits, known (start .args .at + 1) .fits, known (start .args .at + 2) .fits, known (start .args .at + 3) .fits) }
 
 add-result-3 : tie.Need-add-result-3
 add-result-3 c =
