@@ -89,8 +89,8 @@ pub fn check(image: &[u32], work: &mut [u64]) -> Checked
     ensures { λ r. ⌜ r ≡ check-reply (checker (now (image .entry)) (now (work .entry)) .answer) ⌝ }
     ensures { λ r. ⌜ now (work .exit) ≡ checker (now (image .entry)) (now (work .entry)) .work ⌝ }
 {
-    if work.len() < 8192 {
-        return Checked::Refused(22, 0);
+    if work.len() < WORK_WORDS {
+        return Checked::Refused(REFUSED_WORK, 0);
     }
     let examined = examine(image, work);
     clear(work);

@@ -10,6 +10,7 @@ ghost use Rattle.calls.specs.Runs.{ran, TreeStands, TreeStandsAs, Execut
 use crate::Examined;
 use crate::Ran;
 use crate::examine;
+use crate::refusals::REFUSED_REGISTERS;
 use automaton::Ending;
 use automaton::ends::take_registers;
 use automaton::ends::value_left;
@@ -78,13 +79,13 @@ pub(crate) fn run_image(image: &[u32], registers: &mut [u64], budget: u64, work:
     match examined {
         Examined::Code(code, count) => {
             if registers.len() != count {
-                return Ran::Refused(20, 0, 0);
+                return Ran::Refused(REFUSED_REGISTERS, 0, 0);
             }
             run_expression(registers, budget, work, code)
         }
         Examined::Command(count) => {
             if registers.len() != count {
-                return Ran::Refused(20, 0, 0);
+                return Ran::Refused(REFUSED_REGISTERS, 0, 0);
             }
             run_command(registers, budget, work)
         }
