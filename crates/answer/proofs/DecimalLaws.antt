@@ -6,6 +6,7 @@ use native.Mathlib.Omega.{arith}
 use native.Mathlib.Nat.{pow-suc, pow-le-pow-right, mod-lt, mod-eq-of-lt, le-div-iff-mul-le, div-lt-iff-lt-mul}
 use borrow.Author.Tests.{lt-ltb, le-ltb}
 use lib.ListN.{length, take}
+use Rattle.answer.specs.Sizes.{number-bytes, integer-bytes}
 use Rattle.io.specs.Digits.{glyph, digits, Fewest}
 use Rattle.integers.specs.Words.{integer-of}
 use Rattle.integers.specs.WordLaws.{by-order, integer-low, integer-high}
@@ -63,30 +64,30 @@ digits-are n k few = sym (fewest-digits k (suc n) n (enough k few) (few .0) (few
     enough (suc (suc k)) f = omega (arith, below-power (suc k), subst (λ p. 10 ^ p ≤ n) (one-before (suc k)) (f .2 (omega arith)))
 
 -- A word has at most 20 digits.
-pub few-digits : (n k : ℕ) → n < 18446744073709551616 → Fewest 10 1 n k → k ≤ 20
-few-digits n k small few = by-order 20 k (λ more. absurd (many more)) (λ h. h)
+pub few-digits : (n k : ℕ) → n < 18446744073709551616 → Fewest 10 1 n k → k ≤ number-bytes
+few-digits n k small few = by-order number-bytes k (λ more. absurd (many more)) (λ h. h)
   where
-    many : 20 < k → ⊥
+    many : number-bytes < k → ⊥
     many more =
-        let power : 10 ^ 20 ≤ 10 ^ (k - 1) = pow-le-pow-right (omega arith) {i = 20} {j = k - 1} (omega (arith, more)) in
+        let power : 10 ^ number-bytes ≤ 10 ^ (k - 1) = pow-le-pow-right (omega arith) {i = number-bytes} {j = k - 1} (omega (arith, more)) in
         omega (arith, power, few .2 (omega (arith, more)), small)
 
 -- ---- A number, and an integer.
 
 pub number-put : (before after digits-now : List ℕ) (at next n k : ℕ) → n < 18446744073709551616 → k ≡ length (take k digits-now) → Fewest 10 1 n k → take k digits-now ≡ digits 10 k n →
-    Put before at (take k digits-now) next after → PutWithin 20 before at (decimal n) next after
+    Put before at (take k digits-now) next after → PutWithin number-bytes before at (decimal n) next after
 number-put before after digits-now at next n k small count fewest same p =
-    within-as 20 (same ∙ digits-are n k fewest) (few-digits n k small fewest) (within k p (omega (arith, count)))
+    within-as number-bytes (same ∙ digits-are n k fewest) (few-digits n k small fewest) (within k p (omega (arith, count)))
 
-pub integer-put : (before after : List ℕ) (at next w : ℕ) → w < 9223372036854775808 → PutWithin 20 before at (decimal w) next after → PutWithin 21 before at (integer (integer-of w)) next after
+pub integer-put : (before after : List ℕ) (at next w : ℕ) → w < 9223372036854775808 → PutWithin number-bytes before at (decimal w) next after → PutWithin integer-bytes before at (integer (integer-of w)) next after
 unfolding integer
-integer-put before after at next w low p = within-as 21 (ap integer (sym (integer-low w low))) (omega arith) p
+integer-put before after at next w low p = within-as integer-bytes (ap integer (sym (integer-low w low))) (omega arith) p
 
 pub minus-put : (before middle after : List ℕ) (at next last w : ℕ) → 9223372036854775808 ≤ w → Put before at (45 ∷ []) next middle →
-    PutWithin 20 middle next (decimal (18446744073709551615 - w + 1)) last after → PutWithin 21 before at (integer (integer-of w)) last after
+    PutWithin number-bytes middle next (decimal (18446744073709551615 - w + 1)) last after → PutWithin integer-bytes before at (integer (integer-of w)) last after
 unfolding integer
 minus-put before middle after at next last w high p q =
-    within-as 21 (ap (λ n. ascii "-" ++ decimal n) (one-more (18446744073709551615 - w)) ∙ ap integer (sym (integer-high w high))) (omega arith) (within-then (within 1 p (omega arith)) q)
+    within-as integer-bytes (ap (λ n. ascii "-" ++ decimal n) (one-more (18446744073709551615 - w)) ∙ ap integer (sym (integer-high w high))) (omega arith) (within-then (within 1 p (omega arith)) q)
   where
     one-more : (n : ℕ) → n + 1 ≡ suc n
     one-more n = omega arith

@@ -1,18 +1,18 @@
 -- What an input's counts come to, by the definition of the program.
-use Prim.Native.Nat.{ℕ, _+_, _*_, _<_, _≤_}
+use Prim.Native.Nat.{ℕ, _<_, _≤_}
 use mathlib.Core.Path.{_≡_, sym, ap, _∙_, subst}
 use mathlib.Core.Bool.{true, false, cond}
 use mathlib.Core.List.{List, [], _++_, append-nil}
-use native.Mathlib.Omega.{arith}
-use borrow.Author.Tests.{le-ltb, lt-ltb, le-leb, lt-leb, eq-eqb, ne-eqb}
+use borrow.Author.Tests.{le-ltb, lt-ltb, eq-eqb, ne-eqb}
 use lib.Dec.{eqb, ltb}
 use lib.ListN.{length, take, drop}
 use Rattle.rules.specs.paper.Refusals.{Length, Size, refusal-number}
 use Rattle.rules.specs.paper.Reader.{size-fits}
 use Rattle.rules.specs.paper.Engine.{Called, refused, refusing}
+use Rattle.reader.specs.SizeLaws.{few-nodes, few-registers}
 use Rattle.answer.specs.Decimal.{ascii, decimal}
-use Rattle.answer.specs.Numbers.{little-endian}
-use Rattle.answer.specs.Program.{line, outcome-text, page, run-input, call-input, program}
+use Rattle.little_endian.specs.Numbers.{little-endian}
+use Rattle.answer.specs.Program.{line, outcome-text, page, input-bytes, run-input, call-input, program}
 use Rattle.answer.specs.Writing.{ran-text, refusal-page, CountsFit, CountAnswer}
 use Rattle.answer.specs.declared.input.Counted.{Counted}
 use Rattle.answer.specs.declared.input.Counted.the-variants.{Fits, Refused}
@@ -35,7 +35,7 @@ size-page = append-nil (line (outcome-text (refused Size 0)) ++ steps-line)
 called : (n r : ℕ) → List ℕ → Called
 called n r input =
     cond (ltb (length input) 8) (refusing Length 0 [] [])
-    (cond (size-fits n r) (cond (eqb (length input) (8 + 8 * n + 8 * r)) (run-input n r input) (refusing Length 0 [] [])) (refusing Size 0 [] []))
+    (cond (size-fits n r) (cond (eqb (length input) (input-bytes n r)) (run-input n r input) (refusing Length 0 [] [])) (refusing Size 0 [] []))
 
 pub too-short : (input : List ℕ) → length input < 8 → program input ≡ refusal-page 1
 unfolding program call-input
@@ -46,35 +46,23 @@ module _ (input : List ℕ) (n r : ℕ) (n-is : n ≡ little-endian (take 4 inpu
   unfolding program call-input called
   called-at = ap (λ k. page (called k (little-endian (take 4 (drop 4 input))) input)) (sym n-is) ∙ ap (λ k. page (called n k input)) (sym r-is)
 
-  missized : size-fits n r ≡ false → program input ≡ refusal-page 2
+  pub missized : size-fits n r ≡ false → program input ≡ refusal-page 2
   unfolding called
   missized h = called-at ∙ ap page (rw (le-ltb (length input) 8 long, h)) ∙ size-page
 
-  pub no-nodes : n ≡ 0 → program input ≡ refusal-page 2
-  no-nodes h = missized (rw (le-ltb 0 n (omega (arith, h))))
-
-  pub many-nodes : (n ≡ 0 → ⊥) → 2000 < n → program input ≡ refusal-page 2
-  many-nodes some h = missized (rw (lt-ltb 0 n (omega (arith, h)), lt-leb n 2000 h))
-
-  pub many-registers : (n ≡ 0 → ⊥) → n ≤ 2000 → 16 < r → program input ≡ refusal-page 2
-  many-registers some few h = missized (rw (lt-ltb 0 n (omega (arith, some)), le-leb n 2000 few, lt-leb r 16 h))
-
-  module _ (some : n ≡ 0 → ⊥) (few-nodes : n ≤ 2000) (few-registers : r ≤ 16) where
-    sized : size-fits n r ≡ true
-    sized = rw (lt-ltb 0 n (omega (arith, some)), le-leb n 2000 few-nodes, le-leb r 16 few-registers)
-
-    pub miscounted : (length input ≡ 8 + 8 * n + 8 * r → ⊥) → program input ≡ refusal-page 1
+  module _ (sized : size-fits n r ≡ true) where
+    pub miscounted : (length input ≡ input-bytes n r → ⊥) → program input ≡ refusal-page 1
     unfolding called
-    miscounted h = called-at ∙ ap page (rw (le-ltb (length input) 8 long, sized, ne-eqb (length input) (8 + 8 * n + 8 * r) h)) ∙ length-page
+    miscounted h = called-at ∙ ap page (rw (le-ltb (length input) 8 long, sized, ne-eqb (length input) (input-bytes n r) h)) ∙ length-page
 
-    pub counted : length input ≡ 8 + 8 * n + 8 * r → CountsFit n r input
+    pub counted : length input ≡ input-bytes n r → CountsFit n r input
     unfolding called
     counted h =
         record {
-          few-nodes = few-nodes;
-          few-registers = few-registers;
+          few-nodes = few-nodes n r sized;
+          few-registers = few-registers n r sized;
           bytes = h;
-          answer = called-at ∙ ap page (rw (le-ltb (length input) 8 long, sized, eq-eqb (length input) (8 + 8 * n + 8 * r) h));
+          answer = called-at ∙ ap page (rw (le-ltb (length input) 8 long, sized, eq-eqb (length input) (input-bytes n r) h));
         }
 
 -- ---- By the answer.

@@ -1,7 +1,6 @@
 mod DecimalLaws
 mod InputLaws
 mod LineLaws
-mod NumberLaws
 mod PageLaws
 mod PutLaws
 mod RangeLaws

@@ -8,10 +8,12 @@ use native.Mathlib.Nat.{add-zero, zero-add}
 use lib.IntN.{ℤ}
 use lib.ListN.{length, take, getD}
 use lib.Seq.{take-suc, take-length, length-take-le}
+use Rattle.rules.specs.paper.Limits.{most-registers}
+use Rattle.answer.specs.Sizes.{outcome-bytes, steps-bytes, register-line-bytes, register-lines-bytes, page-bytes}
 use Rattle.integers.specs.Words.{integer-of, integers-of}
 use Rattle.integers.specs.WordLaws.{integers-length}
-use Rattle.engine.specs.declared.Ran.{Ran}
-use Rattle.engine.specs.declared.Ran.the-variants.{Number, Truth, Location, Nothing, Refused}
+use Rattle.calls.specs.declared.Ran.{Ran}
+use Rattle.calls.specs.declared.Ran.the-variants.{Number, Truth, Location, Nothing, Refused}
 use Rattle.answer.specs.Decimal.{ascii, decimal, integer}
 use Rattle.answer.specs.Program.{line, register-text, register-lines}
 use Rattle.answer.specs.Writing.{Put, PutWithin, ran-text, ran-steps, ran-shows, ran-page, refusal-page}
@@ -20,50 +22,48 @@ use Rattle.answer.proofs.PutLaws.{within, within-then, within-as}
 -- ---- The outcome.
 
 module _ (before after : List ℕ) (answer : Ran) (last : ℕ) where
-  pub number-text : (middle : List ℕ) (next w k : ℕ) → answer ≡ Number w k → Put before 0 (ascii "number ") next middle → PutWithin 21 middle next (integer (integer-of w)) last after →
-      PutWithin 52 before 0 (ran-text answer) last after
+  pub number-text : (w k : ℕ) → answer ≡ Number w k → PutWithin 28 before 0 (ascii "number " ++ integer (integer-of w)) last after → PutWithin outcome-bytes before 0 (ran-text answer) last after
   unfolding ran-text
-  number-text middle next w k e p q = within-as 52 (sym (ap ran-text e)) (omega arith) (within-then (within 7 p (omega arith)) q)
+  number-text w k e p = within-as outcome-bytes (sym (ap ran-text e)) (omega arith) p
 
-  pub truth-text : (middle : List ℕ) (next w k : ℕ) → answer ≡ Truth w k → Put before 0 (ascii "truth ") next middle → PutWithin 20 middle next (decimal w) last after →
-      PutWithin 52 before 0 (ran-text answer) last after
+  pub truth-text : (w k : ℕ) → answer ≡ Truth w k → PutWithin 26 before 0 (ascii "truth " ++ decimal w) last after → PutWithin outcome-bytes before 0 (ran-text answer) last after
   unfolding ran-text
-  truth-text middle next w k e p q = within-as 52 (sym (ap ran-text e)) (omega arith) (within-then (within 6 p (omega arith)) q)
+  truth-text w k e p = within-as outcome-bytes (sym (ap ran-text e)) (omega arith) p
 
-  pub cell-text : (middle : List ℕ) (next w k : ℕ) → answer ≡ Location w k → Put before 0 (ascii "cell ") next middle → PutWithin 20 middle next (decimal w) last after →
-      PutWithin 52 before 0 (ran-text answer) last after
+  pub cell-text : (w k : ℕ) → answer ≡ Location w k → PutWithin 25 before 0 (ascii "cell " ++ decimal w) last after → PutWithin outcome-bytes before 0 (ran-text answer) last after
   unfolding ran-text
-  cell-text middle next w k e p q = within-as 52 (sym (ap ran-text e)) (omega arith) (within-then (within 5 p (omega arith)) q)
+  cell-text w k e p = within-as outcome-bytes (sym (ap ran-text e)) (omega arith) p
 
-  pub none-text : (k : ℕ) → answer ≡ Nothing k → Put before 0 (ascii "none") last after → PutWithin 52 before 0 (ran-text answer) last after
+  pub none-text : (k : ℕ) → answer ≡ Nothing k → Put before 0 (ascii "none") last after → PutWithin outcome-bytes before 0 (ran-text answer) last after
   unfolding ran-text
-  none-text k e p = within-as 52 (sym (ap ran-text e)) (omega arith) (within 4 p (omega arith))
+  none-text k e p = within-as outcome-bytes (sym (ap ran-text e)) (omega arith) (within 4 p (omega arith))
 
-  pub refused-text : (second third fourth : List ℕ) (a b d x p k : ℕ) → answer ≡ Refused x p k → Put before 0 (ascii "refused ") a second → PutWithin 20 second a (decimal x) b third →
-      Put third b (ascii " at ") d fourth → PutWithin 20 fourth d (decimal p) last after → PutWithin 52 before 0 (ran-text answer) last after
+  pub refused-text : (middle : List ℕ) (next x p k : ℕ) → answer ≡ Refused x p k → PutWithin 28 before 0 (ascii "refused " ++ decimal x) next middle →
+      PutWithin 24 middle next (ascii " at " ++ decimal p) last after → PutWithin outcome-bytes before 0 (ran-text answer) last after
   unfolding ran-text
-  refused-text second third fourth a b d x p k e f g h i =
-      within-as 52 (sym (ap ran-text e)) (omega arith) (within-then (within-then (within-then (within 8 f (omega arith)) g) (within 4 h (omega arith))) i)
+  refused-text middle next x p k e f g =
+      within-as outcome-bytes (sym (append-assoc (ascii "refused " ++ decimal x) (ascii " at ") (decimal p)) ∙ sym (ap ran-text e)) (omega arith) (within-then f g)
 
 -- ---- The steps, and a register.
 
-pub steps-lines : (before middle later after : List ℕ) (at a b last n : ℕ) → Put before at (ascii "\nsteps ") a middle → PutWithin 20 middle a (decimal n) b later → Put later b (ascii "\n") last after →
-    PutWithin 28 before at (ascii "\n" ++ line (ascii "steps " ++ decimal n)) last after
-steps-lines before middle later after at a b last n p q r = within-then (within-then (within 7 p (omega arith)) q) (within 1 r (omega arith))
+pub steps-lines : (before middle after : List ℕ) (at next last n : ℕ) → PutWithin 27 before at (ascii "\nsteps " ++ decimal n) next middle → Put middle next (ascii "\n") last after →
+    PutWithin steps-bytes before at (ascii "\n" ++ line (ascii "steps " ++ decimal n)) last after
+steps-lines before middle after at next last n p q = within-then p (within 1 q (omega arith))
 
-pub register-line : (before second third fourth fifth after : List ℕ) (at a b d e last i w : ℕ) → Put before at (ascii "register ") a second → PutWithin 20 second a (decimal i) b third →
-    Put third b (ascii " ") d fourth → PutWithin 21 fourth d (integer (integer-of w)) e fifth → Put fifth e (ascii "\n") last after →
-    PutWithin 52 before at (line (register-text i (integer-of w))) last after
+pub register-line : (before second third after : List ℕ) (at a b last i w : ℕ) → PutWithin 29 before at (ascii "register " ++ decimal i) a second →
+    PutWithin 22 second a (ascii " " ++ integer (integer-of w)) b third → Put third b (ascii "\n") last after →
+    PutWithin register-line-bytes before at (line (register-text i (integer-of w))) last after
 unfolding register-text
-register-line before second third fourth fifth after at a b d e last i w p q r s t =
-    within-then (within-then (within-then (within-then (within 9 p (omega arith)) q) (within 1 r (omega arith))) s) (within 1 t (omega arith))
+register-line before second third after at a b last i w p q r =
+    within-as register-line-bytes (ap line (sym (append-assoc (ascii "register " ++ decimal i) (ascii " ") (integer (integer-of w))))) (omega arith)
+    (within-then (within-then p q) (within 1 r (omega arith)))
 
 -- ---- The registers, one by one.
 
 -- The lines of the first i registers stand in the output.
 pub record Lined (before : List ℕ) (at : ℕ) (registers : List ℕ) (i next : ℕ) (after : List ℕ) : Type 0 where
   pub some : i ≤ length registers
-  pub put : PutWithin (52 * i) before at (register-lines 0 (integers-of (take i registers))) next after
+  pub put : PutWithin (register-line-bytes * i) before at (register-lines 0 (integers-of (take i registers))) next after
   pub same-length : length after ≡ length before
 
 one-more-integer : (ws : List ℕ) (w : ℕ) → integers-of (ws ++ (w ∷ [])) ≡ integers-of ws ++ (integer-of w ∷ [])
@@ -102,48 +102,48 @@ lined-none before registers at =
     record { some = omega arith; put = record { put = record { next-is = omega arith; written = sym (append-nil (take at before)) }; short = omega arith }; same-length = refl }
 
 pub lined-next : (before registers middle after : List ℕ) (at i next last : ℕ) → Lined before at registers i next middle → i < length registers →
-    PutWithin 52 middle next (line (register-text i (integer-of (getD registers i 0)))) last after → length after ≡ length middle → Lined before at registers (i + 1) last after
+    PutWithin register-line-bytes middle next (line (register-text i (integer-of (getD registers i 0)))) last after → length after ≡ length middle → Lined before at registers (i + 1) last after
 lined-next before registers middle after at i next last l h p q =
     record {
       some = omega (arith, h);
-      put = within-as (52 * (i + 1)) (next-lines registers i h) (omega arith) (within-then (l .put) p);
+      put = within-as (register-line-bytes * (i + 1)) (next-lines registers i h) (omega arith) (within-then (l .put) p);
       same-length = q ∙ l .same-length;
     }
 
-pub lined-all : (before registers after : List ℕ) (at i next : ℕ) → length registers ≤ 16 → Lined before at registers i next after → length registers ≤ i →
-    PutWithin 832 before at (register-lines 0 (integers-of registers)) next after
+pub lined-all : (before registers after : List ℕ) (at i next : ℕ) → length registers ≤ most-registers → Lined before at registers i next after → length registers ≤ i →
+    PutWithin register-lines-bytes before at (register-lines 0 (integers-of registers)) next after
 lined-all before registers after at i next few l h =
-    within-as 832 (ap (λ l. register-lines 0 (integers-of l)) (ap (λ k. take k registers) (same i (length registers) (l .some) h) ∙ take-length registers)) (omega (arith, few, l .some)) (l .put)
+    within-as register-lines-bytes (ap (λ l. register-lines 0 (integers-of l)) (ap (λ k. take k registers) (same i (length registers) (l .some) h) ∙ take-length registers)) (omega (arith, few, l .some)) (l .put)
   where
     same : (i n : ℕ) → i ≤ n → n ≤ i → i ≡ n
     same i n a b = omega arith
 
 -- ---- The whole answer.
 
-module _ (before second third : List ℕ) (answer : Ran) (a b steps : ℕ) (outcome : PutWithin 52 before 0 (ran-text answer) a second)
-    (counted : PutWithin 28 second a (ascii "\n" ++ line (ascii "steps " ++ decimal steps)) b third) where
+module _ (before second third : List ℕ) (answer : Ran) (a b steps : ℕ) (outcome : PutWithin outcome-bytes before 0 (ran-text answer) a second)
+    (counted : PutWithin steps-bytes second a (ascii "\n" ++ line (ascii "steps " ++ decimal steps)) b third) where
   two-lines : PutWithin 80 before 0 (line (ran-text answer) ++ line (ascii "steps " ++ decimal steps)) b third
   two-lines = within-as 80 (sym (append-assoc (ran-text answer) (ascii "\n") (line (ascii "steps " ++ decimal steps)))) (omega arith) (within-then outcome counted)
 
-  pub page-with-registers : (after : List ℕ) (last : ℕ) (zs : List ℤ) → steps ≡ ran-steps answer → ran-shows answer ≡ true → PutWithin 832 third b (register-lines 0 zs) last after →
-      PutWithin 1024 before 0 (ran-page answer zs) last after
+  pub page-with-registers : (after : List ℕ) (last : ℕ) (zs : List ℤ) → steps ≡ ran-steps answer → ran-shows answer ≡ true → PutWithin register-lines-bytes third b (register-lines 0 zs) last after →
+      PutWithin page-bytes before 0 (ran-page answer zs) last after
   unfolding ran-page
   page-with-registers after last zs e shows p =
-      within-as 1024
+      within-as page-bytes
       (ap (λ k. line (ran-text answer) ++ line (ascii "steps " ++ decimal k) ++ register-lines 0 zs) e ∙
       ap (λ t. line (ran-text answer) ++ line (ascii "steps " ++ decimal (ran-steps answer)) ++ cond t (register-lines 0 zs) []) (sym shows))
       (omega arith) (within-then two-lines p)
 
-  pub page-without : (zs : List ℤ) → steps ≡ ran-steps answer → ran-shows answer ≡ false → PutWithin 1024 before 0 (ran-page answer zs) b third
+  pub page-without : (zs : List ℤ) → steps ≡ ran-steps answer → ran-shows answer ≡ false → PutWithin page-bytes before 0 (ran-page answer zs) b third
   unfolding ran-page
   page-without zs e shows =
-      within-as 1024
+      within-as page-bytes
       (ap (λ k. line (ran-text answer) ++ line (ascii "steps " ++ decimal k)) e ∙
       sym (append-nil (line (ran-text answer) ++ line (ascii "steps " ++ decimal (ran-steps answer)))) ∙
       ap (λ t. line (ran-text answer) ++ line (ascii "steps " ++ decimal (ran-steps answer)) ++ cond t (register-lines 0 zs) []) (sym shows))
       (omega arith) two-lines
 
-pub refused-page : (before second after : List ℕ) (a last x : ℕ) → PutWithin 52 before 0 (ran-text (Refused x 0 0)) a second →
-    PutWithin 28 second a (ascii "\n" ++ line (ascii "steps " ++ decimal 0)) last after → PutWithin 1024 before 0 (refusal-page x) last after
+pub refused-page : (before second after : List ℕ) (a last x : ℕ) → PutWithin outcome-bytes before 0 (ran-text (Refused x 0 0)) a second →
+    PutWithin steps-bytes second a (ascii "\n" ++ line (ascii "steps " ++ decimal 0)) last after → PutWithin page-bytes before 0 (refusal-page x) last after
 unfolding refusal-page
-refused-page before second after a last x p q = within-as 1024 refl (omega arith) (two-lines before second after (Refused x 0 0) a last 0 p q)
+refused-page before second after a last x p q = within-as page-bytes refl (omega arith) (two-lines before second after (Refused x 0 0) a last 0 p q)

@@ -6,17 +6,21 @@ use mathlib.Core.List.{List, [], _++_}
 use native.Mathlib.Omega.{arith}
 use lib.ListN.{length, take, drop, getD, replicate, length-replicate}
 use lib.Seq.{length-take-le}
+use Rattle.calls.specs.Sizes.{most-image-words}
+use Rattle.answer.specs.Sizes.{page-bytes}
+use Rattle.rules.specs.paper.Limits.{most-budget, work-words, most-nodes, most-registers}
 use Rattle.rules.specs.paper.Engine.{number, truth-of, cell, nothing, Answer, outcome, refused, Called, engine}
 use Rattle.integers.specs.Words.{integers-of, words-of}
 use Rattle.integers.specs.WordLaws.{integer-of-word}
-use Rattle.engine.specs.Runs.{ran, run-reply}
-use Rattle.engine.specs.declared.Ran.{Ran}
+use Rattle.calls.specs.Runs.{ran, run-reply, run-call, RanAs}
+use Rattle.calls.specs.Delivered.{all-in-range}
+use Rattle.calls.specs.declared.Ran.{Ran}
 use Rattle.answer.specs.Decimal.{ascii, decimal, integer}
-use Rattle.answer.specs.Numbers.{numbers}
-use Rattle.answer.specs.Program.{line, outcome-text, register-lines, shows-registers, page, run-input}
+use Rattle.little_endian.specs.Numbers.{numbers}
+use Rattle.answer.specs.Program.{line, outcome-text, register-lines, shows-registers, page, input-bytes, run-numbers, run-input}
 use Rattle.answer.specs.Writing.{PutWithin, ran-text, ran-steps, ran-shows, ran-page}
 use Rattle.answer.proofs.PutLaws.{within-as}
-use Rattle.answer.proofs.RangeLaws.{RangedAnswer, Ranged, in-range-all, integers-back, engine-ranged}
+use Rattle.answer.proofs.RangeLaws.{RangedAnswer, Ranged, integers-back, engine-ranged}
 
 same-text : (a : Answer) (k : ℕ) → RangedAnswer a → ran-text (ran a k) ≡ outcome-text a
 unfolding ran-text outcome-text
@@ -51,58 +55,59 @@ same-page c ranged =
     ∙ ap (λ ys. line (outcome-text (c .reply .answer)) ++ line (ascii "steps " ++ decimal (c .reply .steps)) ++ cond (shows-registers (c .reply .answer)) (register-lines 0 ys) [])
     (integers-back (c .registers) (ranged .registers))
 
--- What is written after a run is the page of the engine's call on the numbers in the input.
-pub performed : (input work before after : List ℕ) (n m : ℕ) (r : Ran) (words values last-registers : List ℕ) (last : ℕ) → words ≡ numbers 4 n input → length words ≡ n →
-    values ≡ numbers 8 m (drop (4 * length words) input) → ((i : ℕ) → i < length values → getD values i 0 < 18446744073709551616) →
-    r ≡ run-reply (engine words (integers-of values) 1000000 work .reply) → last-registers ≡ words-of (engine words (integers-of values) 1000000 work .registers) →
-    PutWithin 1024 before 0 (ran-page r (integers-of last-registers)) last after →
-    PutWithin 1024 before 0 (page (engine (numbers 4 n input) (integers-of (numbers 8 m (drop (4 * n) input))) 1000000 work)) last after
-performed input work before after n m r words values last-registers last w-is w-count v-is low r-is l-is p =
-    within-as 1024
-    (ap (λ a. ran-page a (integers-of last-registers)) r-is
-    ∙ ap (λ l. ran-page (run-reply (engine words (integers-of values) 1000000 work .reply)) (integers-of l)) l-is
-    ∙ same-page (engine words (integers-of values) 1000000 work) (engine-ranged words (integers-of values) (in-range-all values low) 1000000 work)
-    ∙ ap (λ l. page (engine words (integers-of l) 1000000 work)) (v-is ∙ ap (λ k. numbers 8 m (drop (4 * k) input)) w-count)
-    ∙ ap (λ l. page (engine l (integers-of (numbers 8 m (drop (4 * n) input))) 1000000 work)) w-is)
+-- What is written after a run is the page of the engine's call.
+pub ran-put : (before after image registers work last-registers last-work : List ℕ) (r : Ran) (last : ℕ) → ((i : ℕ) → i < length registers → getD registers i 0 < 18446744073709551616) →
+    RanAs (run-call image registers most-budget work) r last-registers last-work → PutWithin page-bytes before 0 (ran-page r (integers-of last-registers)) last after →
+    PutWithin page-bytes before 0 (page (run-call image registers most-budget work)) last after
+ran-put before after image registers work last-registers last-work r last low done p =
+    within-as page-bytes
+    (ap (λ a. ran-page a (integers-of last-registers)) (done .answer-is)
+    ∙ ap (λ l. ran-page (run-reply (run-call image registers most-budget work .reply)) (integers-of l)) (done .registers-are)
+    ∙ same-page (run-call image registers most-budget work) (engine-ranged image (integers-of registers) (all-in-range registers low) most-budget work))
     (omega arith) p
+
+-- The image and the registers are the numbers in the input.
+pub input-put : (input work before after image registers : List ℕ) (words values last : ℕ) → image ≡ numbers 4 words input → registers ≡ numbers 8 values (drop (4 * words) input) →
+    PutWithin page-bytes before 0 (page (run-call image registers most-budget work)) last after → PutWithin page-bytes before 0 (page (run-numbers words values input work)) last after
+input-put input work before after image registers words values last p q put =
+    within-as page-bytes
+    (ap (λ l. page (run-call l registers most-budget work)) p ∙ ap (λ l. page (run-call (numbers 4 words input) l most-budget work)) q)
+    (omega arith) put
 
 -- ---- The room for a run.
 
 abbrev image-room : List ℕ
-image-room = replicate 4002 0
+image-room = replicate most-image-words 0
 
 abbrev register-room : List ℕ
-register-room = replicate 16 0
+register-room = replicate most-registers 0
 
-image-words : (nodes : ℕ) → nodes ≤ 2000 → length (take (2 + 2 * nodes) image-room) ≡ 2 + 2 * nodes
-image-words nodes few = length-take-le (2 + 2 * nodes) image-room (omega (arith, few, length-replicate {A = ℕ} 4002 0))
+image-fits : (nodes : ℕ) → nodes ≤ most-nodes → length (take (2 + 2 * nodes) image-room) ≡ 2 + 2 * nodes
+image-fits nodes few = length-take-le (2 + 2 * nodes) image-room (omega (arith, few, length-replicate {A = ℕ} most-image-words 0))
 
-register-values : (count : ℕ) → count ≤ 16 → length (take count register-room) ≡ count
-register-values count few = length-take-le count register-room (omega (arith, few, length-replicate {A = ℕ} 16 0))
+registers-fit : (count : ℕ) → count ≤ most-registers → length (take count register-room) ≡ count
+registers-fit count few = length-take-le count register-room (omega (arith, few, length-replicate {A = ℕ} most-registers 0))
 
-pub room : (input output : List ℕ) (nodes count : ℕ) → nodes ≤ 2000 → count ≤ 16 → length input ≡ 8 + 8 * nodes + 8 * count → 1024 ≤ length output →
-    (4 * length (take (2 + 2 * nodes) image-room) + 8 * length (take count register-room) ≤ length input) × ((length (take count register-room) ≤ 16) × (1024 ≤ length output))
+pub room : (input output : List ℕ) (nodes count : ℕ) → nodes ≤ most-nodes → count ≤ most-registers → length input ≡ input-bytes nodes count → page-bytes ≤ length output →
+    (4 * length (take (2 + 2 * nodes) image-room) + 8 * length (take count register-room) ≤ length input) × ((length (take count register-room) ≤ most-registers) × (page-bytes ≤ length output))
 room input output nodes count few-nodes few-registers bytes enough =
-    let words = image-words nodes few-nodes in
-    let values = register-values count few-registers in
+    let words = image-fits nodes few-nodes in
+    let values = registers-fit count few-registers in
     (omega (arith, words, values, bytes), (omega (arith, values, few-registers), enough))
 
-pub counted-page : (input before after : List ℕ) (nodes count last : ℕ) → nodes ≤ 2000 → count ≤ 16 →
-    PutWithin 1024 before 0
-    (page (engine (numbers 4 (length (take (2 + 2 * nodes) image-room)) input)
-    (integers-of (numbers 8 (length (take count register-room)) (drop (4 * length (take (2 + 2 * nodes) image-room)) input))) 1000000 (replicate 8192 0)))
-    last after →
-    PutWithin 1024 before 0 (page (run-input nodes count input)) last after
+pub counted-page : (input before after : List ℕ) (nodes count last : ℕ) → nodes ≤ most-nodes → count ≤ most-registers →
+    PutWithin page-bytes before 0 (page (run-numbers (length (take (2 + 2 * nodes) image-room)) (length (take count register-room)) input (replicate work-words 0))) last after →
+    PutWithin page-bytes before 0 (page (run-input nodes count input)) last after
 unfolding run-input
 counted-page input before after nodes count last few-nodes few-registers p =
-    within-as 1024
-    (ap (λ k. called k (length (take count register-room)) (4 * k)) (image-words nodes few-nodes)
-    ∙ ap (λ k. called (2 + 2 * nodes) k (4 * (2 + 2 * nodes))) (register-values count few-registers)
+    within-as page-bytes
+    (ap (λ k. called k (length (take count register-room)) (4 * k)) (image-fits nodes few-nodes)
+    ∙ ap (λ k. called (2 + 2 * nodes) k (4 * (2 + 2 * nodes))) (registers-fit count few-registers)
     ∙ ap (called (2 + 2 * nodes) count) (eight nodes))
     (omega arith) p
   where
     called : (words values from : ℕ) → List ℕ
-    called words values from = page (engine (numbers 4 words input) (integers-of (numbers 8 values (drop from input))) 1000000 (replicate 8192 0))
+    called words values from = page (engine (numbers 4 words input) (integers-of (numbers 8 values (drop from input))) most-budget (replicate work-words 0))
 
     eight : (n : ℕ) → 4 * (2 + 2 * n) ≡ 8 + 8 * n
     eight n = omega arith

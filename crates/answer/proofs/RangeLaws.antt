@@ -7,7 +7,7 @@ use native.Mathlib.Omega.{arith}
 use borrow.Author.Tests.{eqb-true}
 use lib.Dec.{T, eqb, leb, ltb}
 use lib.IntN.{ℤ}
-use lib.ListN.{length, getD}
+use lib.ListN.{length}
 use Rattle.rules.specs.paper.Refusals as Refusals
 use Rattle.rules.specs.paper.Limits.{most-budget, work-words}
 use Rattle.rules.specs.paper.Integers.{in-range}
@@ -21,7 +21,7 @@ use Rattle.rules.specs.claims.Ends.{EndsWell, normally, withheld-for, RegisterH
 use Rattle.rules.specs.proofs.running.RunEnds.{run-ends, state-facts}
 use Rattle.rules.specs.paper.Engine.{Checked, turned-back, passed, check-image, number, truth-of, cell, nothing, outcome-of, as-register, registers-from, Answer, outcome, refused, Called, cleared, refusing, finish, start, run-checked, engine}
 use Rattle.integers.specs.Words.{integers-of, words-of}
-use Rattle.integers.specs.WordLaws.{integer-in-range, integer-of-word}
+use Rattle.integers.specs.WordLaws.{integer-of-word}
 
 abbrev pub RangedAnswer : Answer → Type 0
 RangedAnswer (outcome (number z)) = T (in-range z)
@@ -34,12 +34,7 @@ pub record Ranged (c : Called) : Type 0 where
   pub answer : RangedAnswer (c .reply .answer)
   pub registers : AllInRange (c .registers)
 
--- ---- The integers of words, and back.
-
-pub in-range-all : (ws : List ℕ) → ((i : ℕ) → i < length ws → getD ws i 0 < 18446744073709551616) → AllInRange (integers-of ws)
-unfolding integers-of
-in-range-all [] low = tt
-in-range-all (w ∷ ws) low = (integer-in-range w (low 0 (omega arith)), in-range-all ws (λ i h. low (suc i) (omega (arith, h))))
+-- ---- The integers of words of integers.
 
 pub integers-back : (zs : List ℤ) → AllInRange zs → integers-of (words-of zs) ≡ zs
 unfolding integers-of words-of

@@ -1,5 +1,5 @@
 pub mod Cases
 pub mod Decimal
-pub mod Numbers
 pub mod Program
+pub mod Sizes
 pub mod Writing

@@ -12,7 +12,7 @@ use Rattle.rules.specs.paper.Reader.{size-fits}
 use Rattle.rules.specs.paper.Engine.{number, truth-of, cell, nothing, Answer, outcome, refused, Called, refusing, engine}
 use Rattle.integers.specs.Words.{integers-of}
 use Rattle.answer.specs.Decimal.{ascii, decimal, integer}
-use Rattle.answer.specs.Numbers.{little-endian, numbers}
+use Rattle.little_endian.specs.Numbers.{little-endian, numbers}
 
 -- A line ends in a newline.
 abbrev pub line : List ℕ → List ℕ
@@ -33,10 +33,13 @@ unfoldable pub register-lines : (first : ℕ) → List ℤ → List ℕ
 register-lines i [] = []
 register-lines i (z ∷ zs) = line (register-text i z) ++ register-lines (suc i) zs
 
--- Refusals 1 to 22 show no registers.
+-- Refusals before the run, 1 to 22, show no registers.
+abbrev pub last-before-run : ℕ
+last-before-run = 22
+
 abbrev pub shows-registers : Answer → Bool
 shows-registers (outcome o) = true
-shows-registers (refused x p) = ltb 22 (refusal-number x)
+shows-registers (refused x p) = ltb last-before-run (refusal-number x)
 
 -- The outcome, the steps and the registers, a line each.
 unfoldable pub page : Called → List ℕ
@@ -44,7 +47,15 @@ page c =
     line (outcome-text (c .reply .answer)) ++ line (ascii "steps " ++ decimal (c .reply .steps)) ++
     cond (shows-registers (c .reply .answer)) (register-lines 0 (c .registers)) []
 
--- The engine on the image's 2 + 2n words and the r starting values behind it, 8 bytes each.
+-- The byte count of an input: 4 bytes for each of the image's 2 + 2n words, 8 for each of the r starting values.
+abbrev pub input-bytes : (n r : ℕ) → ℕ
+input-bytes n r = 8 + 8 * n + 8 * r
+
+-- The engine on so many words of an input and so many values behind them, 8 bytes each.
+abbrev pub run-numbers : (words values : ℕ) (input work : List ℕ) → Called
+run-numbers words values input work = engine (numbers 4 words input) (integers-of (numbers 8 values (drop (4 * words) input))) most-budget work
+
+-- The engine on the image's 2 + 2n words and the r starting values behind it.
 unfoldable pub run-input : (n r : ℕ) → List ℕ → Called
 run-input n r input =
     engine (numbers 4 (2 + 2 * n) input) (integers-of (numbers 8 r (drop (8 + 8 * n) input))) most-budget (replicate work-words 0)
@@ -54,7 +65,7 @@ unfoldable pub call-input : List ℕ → Called
 call-input input =
     let n = little-endian (take 4 input) in
     let r = little-endian (take 4 (drop 4 input)) in
-    let fitting = cond (eqb (length input) (8 + 8 * n + 8 * r)) (run-input n r input) (refusing Length 0 [] []) in
+    let fitting = cond (eqb (length input) (input-bytes n r)) (run-input n r input) (refusing Length 0 [] []) in
     let sized = cond (size-fits n r) fitting (refusing Size 0 [] []) in
     cond (ltb (length input) 8) (refusing Length 0 [] []) sized
 

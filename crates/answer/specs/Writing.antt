@@ -1,16 +1,17 @@
 -- What the functions that write an answer do, in the code's words: texts put into an output, and an answer as `run` gives it.
-use Prim.Native.Nat.{ℕ, _+_, _*_, _≤_}
+use Prim.Native.Nat.{ℕ, _+_, _≤_}
 use mathlib.Core.Path.{_≡_}
 use mathlib.Core.Bool.{Bool, true, cond}
 use mathlib.Core.List.{List, [], _++_}
 use lib.Dec.{ltb}
 use lib.IntN.{ℤ}
 use lib.ListN.{length, take}
+use Rattle.rules.specs.paper.Limits.{most-nodes, most-registers}
 use Rattle.integers.specs.Words.{integer-of}
-use Rattle.engine.specs.declared.Ran.{Ran}
-use Rattle.engine.specs.declared.Ran.the-variants.{Number, Truth, Location, Nothing, Refused}
+use Rattle.calls.specs.declared.Ran.{Ran}
+use Rattle.calls.specs.declared.Ran.the-variants.{Number, Truth, Location, Nothing, Refused}
 use Rattle.answer.specs.Decimal.{ascii, decimal, integer}
-use Rattle.answer.specs.Program.{line, register-lines, page, run-input, program}
+use Rattle.answer.specs.Program.{line, register-lines, last-before-run, page, input-bytes, run-input, program}
 use Rattle.answer.specs.declared.input.Counted.{Counted}
 use Rattle.answer.specs.declared.input.Counted.the-variants as Count
 
@@ -43,7 +44,7 @@ ran-shows (Number w k) = true
 ran-shows (Truth w k) = true
 ran-shows (Location w k) = true
 ran-shows (Nothing k) = true
-ran-shows (Refused x p k) = ltb 22 x
+ran-shows (Refused x p k) = ltb last-before-run x
 
 unfoldable pub ran-page : Ran → List ℤ → List ℕ
 ran-page r zs = line (ran-text r) ++ line (ascii "steps " ++ decimal (ran-steps r)) ++ cond (ran-shows r) (register-lines 0 zs) []
@@ -54,9 +55,9 @@ refusal-page x = line (ran-text (Refused x 0 0)) ++ line (ascii "steps " ++ deci
 
 -- What an input's counts come to: they fit its byte count, or it is refused.
 pub record CountsFit (n r : ℕ) (input : List ℕ) : Type 0 where
-  pub few-nodes : n ≤ 2000
-  pub few-registers : r ≤ 16
-  pub bytes : length input ≡ 8 + 8 * n + 8 * r
+  pub few-nodes : n ≤ most-nodes
+  pub few-registers : r ≤ most-registers
+  pub bytes : length input ≡ input-bytes n r
   pub answer : program input ≡ page (run-input n r input)
 
 abbrev pub CountAnswer : (input : List ℕ) → Counted → Type 0

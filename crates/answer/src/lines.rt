@@ -3,70 +3,59 @@ ghost use mathlib.Core.Path.{_≡_};
 ghost use mathlib.Core.List.{_++_};
 ghost use Prim.Native.Nat.{_+_, _≤_, _<_};
 ghost use lib.ListN.{length};
+ghost use Rattle.rules.specs.paper.Limits.{most-registers};
+ghost use Rattle.answer.specs.Sizes.{outcome-bytes, register-line-bytes, steps-bytes, register-lines-bytes, page-bytes};
 ghost use Rattle.integers.specs.Words.{integer-of, integers-of};
 ghost use Rattle.answer.specs.Decimal.{ascii, decimal};
 ghost use Rattle.answer.specs.Program.{line, register-text, register-lines};
 ghost use Rattle.answer.specs.Writing.{PutWithin, ran-text, ran-steps, ran-shows, ran-page, refusal-page};
 use crate::text::put;
-use crate::text::put_integer;
-use crate::text::put_number;
-use engine::Ran;
+use crate::text::put_labelled;
+use crate::text::put_labelled_integer;
+use calls::Ran;
+use calls::refusals::REFUSED_WORK;
 
 // `number V`, `truth 0` or `truth 1`, `cell V`, `none`, `refused N at P`.
 fn put_outcome(output: &mut [u8], answer: Ran) -> usize
-    requires { ⌜ 52 ≤ length (now output) ⌝ }
-    ensures { λ r. ⌜ PutWithin 52 (now (output .entry)) 0 (ran-text answer) r (now (output .exit)) ⌝ }
+    requires { ⌜ outcome-bytes ≤ length (now output) ⌝ }
+    ensures { λ r. ⌜ PutWithin outcome-bytes (now (output .entry)) 0 (ran-text answer) r (now (output .exit)) ⌝ }
 {
     match answer {
-        Ran::Number(word, steps) => {
-            let at = put(output, 0, b"number ");
-            put_integer(output, at, word)
-        }
-        Ran::Truth(word, steps) => {
-            let at = put(output, 0, b"truth ");
-            put_number(output, at, word)
-        }
-        Ran::Location(word, steps) => {
-            let at = put(output, 0, b"cell ");
-            put_number(output, at, word)
-        }
+        Ran::Number(word, steps) => put_labelled_integer(output, 0, b"number ", word),
+        Ran::Truth(word, steps) => put_labelled(output, 0, b"truth ", word),
+        Ran::Location(word, steps) => put_labelled(output, 0, b"cell ", word),
         Ran::Nothing(steps) => put(output, 0, b"none"),
         Ran::Refused(number, place, steps) => {
-            let at = put(output, 0, b"refused ");
-            let behind = put_number(output, at, number);
-            let next = put(output, behind, b" at ");
-            put_number(output, next, place as u64)
+            let next = put_labelled(output, 0, b"refused ", number);
+            put_labelled(output, next, b" at ", place as u64)
         }
     }
 }
 
 // The end of the first line, and `steps K` with its own.
 fn put_steps(output: &mut [u8], at: usize, steps: u64) -> usize
-    requires { ⌜ at + 28 ≤ length (now output) ⌝ }
-    ensures { λ r. ⌜ PutWithin 28 (now (output .entry)) at (ascii "\n" ++ line (ascii "steps " ++ decimal steps)) r (now (output .exit)) ⌝ }
+    requires { ⌜ at + steps-bytes ≤ length (now output) ⌝ }
+    ensures { λ r. ⌜ PutWithin steps-bytes (now (output .entry)) at (ascii "\n" ++ line (ascii "steps " ++ decimal steps)) r (now (output .exit)) ⌝ }
 {
-    let first = put(output, at, b"\nsteps ");
-    let next = put_number(output, first, steps);
+    let next = put_labelled(output, at, b"\nsteps ", steps);
     put(output, next, b"\n")
 }
 
 // `register I V`.
 fn put_register(output: &mut [u8], at: usize, i: usize, word: u64) -> usize
-    requires { ⌜ at + 52 ≤ length (now output) ⌝ }
-    ensures { λ r. ⌜ PutWithin 52 (now (output .entry)) at (line (register-text i (integer-of word))) r (now (output .exit)) ⌝ }
+    requires { ⌜ at + register-line-bytes ≤ length (now output) ⌝ }
+    ensures { λ r. ⌜ PutWithin register-line-bytes (now (output .entry)) at (line (register-text i (integer-of word))) r (now (output .exit)) ⌝ }
 {
-    let first = put(output, at, b"register ");
-    let behind = put_number(output, first, i as u64);
-    let second = put(output, behind, b" ");
-    let next = put_integer(output, second, word);
+    let behind = put_labelled(output, at, b"register ", i as u64);
+    let next = put_labelled_integer(output, behind, b" ", word);
     put(output, next, b"\n")
 }
 
 // A line for each register.
 fn put_registers(output: &mut [u8], at: usize, registers: &[u64]) -> usize
-    requires { ⌜ length (now registers) ≤ 16 ⌝ }
-    requires { ⌜ at + 832 ≤ length (now output) ⌝ }
-    ensures { λ r. ⌜ PutWithin 832 (now (output .entry)) at (register-lines 0 (integers-of (now (registers .entry)))) r (now (output .exit)) ⌝ }
+    requires { ⌜ length (now registers) ≤ most-registers ⌝ }
+    requires { ⌜ at + register-lines-bytes ≤ length (now output) ⌝ }
+    ensures { λ r. ⌜ PutWithin register-lines-bytes (now (output .entry)) at (register-lines 0 (integers-of (now (registers .entry)))) r (now (output .exit)) ⌝ }
 {
     let mut next = at;
     let mut i = 0;
@@ -89,7 +78,7 @@ fn steps_of(answer: Ran) -> u64
     }
 }
 
-// Refusals 1 to 22 show no registers.
+// Refusals before the run, 1 to 22, show no registers.
 fn shows_registers(answer: Ran) -> bool
     ensures { λ r. ⌜ r ≡ ran-shows answer ⌝ }
 {
@@ -98,15 +87,15 @@ fn shows_registers(answer: Ran) -> bool
         Ran::Truth(word, steps) => true,
         Ran::Location(word, steps) => true,
         Ran::Nothing(steps) => true,
-        Ran::Refused(number, place, steps) => 22 < number,
+        Ran::Refused(number, place, steps) => REFUSED_WORK < number,
     }
 }
 
 // The whole answer.
 pub(crate) fn put_page(output: &mut [u8], answer: Ran, registers: &[u64]) -> usize
-    requires { ⌜ length (now registers) ≤ 16 ⌝ }
-    requires { ⌜ 1024 ≤ length (now output) ⌝ }
-    ensures { λ r. ⌜ PutWithin 1024 (now (output .entry)) 0 (ran-page answer (integers-of (now (registers .entry)))) r (now (output .exit)) ⌝ }
+    requires { ⌜ length (now registers) ≤ most-registers ⌝ }
+    requires { ⌜ page-bytes ≤ length (now output) ⌝ }
+    ensures { λ r. ⌜ PutWithin page-bytes (now (output .entry)) 0 (ran-page answer (integers-of (now (registers .entry)))) r (now (output .exit)) ⌝ }
 {
     let first = put_outcome(output, answer);
     let next = put_steps(output, first, steps_of(answer));
@@ -118,8 +107,8 @@ pub(crate) fn put_page(output: &mut [u8], answer: Ran, registers: &[u64]) -> usi
 
 // The answer to an input that is refused before its image is read.
 pub(crate) fn put_refusal(output: &mut [u8], number: u64) -> usize
-    requires { ⌜ 1024 ≤ length (now output) ⌝ }
-    ensures { λ r. ⌜ PutWithin 1024 (now (output .entry)) 0 (refusal-page number) r (now (output .exit)) ⌝ }
+    requires { ⌜ page-bytes ≤ length (now output) ⌝ }
+    ensures { λ r. ⌜ PutWithin page-bytes (now (output .entry)) 0 (refusal-page number) r (now (output .exit)) ⌝ }
 {
     let first = put_outcome(output, Ran::Refused(number, 0, 0));
     put_steps(output, first, 0)

@@ -9,23 +9,25 @@ use lib.Dec.{eqb, leb, ltb, leb→le}
 use lib.ListN.{length, take, drop, length-append}
 use lib.Seq.{length-take-le, take-at}
 use borrow.Author.Tests.{ltb-false}
+use Rattle.calls.specs.Sizes.{most-image-words}
 use Rattle.rules.specs.proofs.Basics.{passed-test, and-right}
-use Rattle.engine.specs.Bytes.{numbers, whole, image-count, image-words}
-use Rattle.engine.specs.BytesKept.{numbers-length}
+use Rattle.little_endian.specs.Numbers.{numbers}
+use Rattle.little_endian.specs.NumberLaws.{numbers-length}
+use Rattle.engine.specs.Bytes.{whole, image-count, image-of-bytes}
 
-pub image-count-fits : (bytes : ℕ) → (image-count bytes ≤ 4002) × (4 * image-count bytes ≤ bytes)
+pub image-count-fits : (bytes : ℕ) → (image-count bytes ≤ most-image-words) × (4 * image-count bytes ≤ bytes)
 unfolding image-count
-image-count-fits bytes = by (ltb bytes 8) (whole 4 4002 bytes) refl refl
+image-count-fits bytes = by (ltb bytes 8) (whole 4 most-image-words bytes) refl refl
   where
-    by : (few all : Bool) → ltb bytes 8 ≡ few → whole 4 4002 bytes ≡ all → (cond few 0 (cond all (bytes / 4) 2) ≤ 4002) × (4 * cond few 0 (cond all (bytes / 4) 2) ≤ bytes)
+    by : (few all : Bool) → ltb bytes 8 ≡ few → whole 4 most-image-words bytes ≡ all → (cond few 0 (cond all (bytes / 4) 2) ≤ most-image-words) × (4 * cond few 0 (cond all (bytes / 4) 2) ≤ bytes)
     by true all p q = (omega arith, omega arith)
     by false false p q = (omega arith, omega (arith, ltb-false bytes 8 p))
-    by false true p q = (leb→le (bytes / 4) 4002 (and-right (eqb (bytes % 4) 0) (leb (bytes / 4) 4002) (passed-test q)), mul-div-le bytes 4)
+    by false true p q = (leb→le (bytes / 4) most-image-words (and-right (eqb (bytes % 4) 0) (leb (bytes / 4) most-image-words) (passed-test q)), mul-div-le bytes 4)
 
 -- The words that were unpacked stand first: they are the image's.
 pub unpacked : (bytes words new : List ℕ) (count : ℕ) → count ≡ image-count (length bytes) → count ≤ length words → new ≡ numbers 4 (length (take count words)) bytes →
-    (count ≤ length (new ++ drop count words)) × (take count (new ++ drop count words) ≡ image-words bytes)
-unfolding image-words
+    (count ≤ length (new ++ drop count words)) × (take count (new ++ drop count words) ≡ image-of-bytes bytes)
+unfolding image-of-bytes
 unpacked bytes words new count counted room q =
     let long = ap length q ∙ numbers-length 4 (length (take count words)) bytes ∙ length-take-le count words room in (
       omega (arith, long, length-append new (drop count words)),

@@ -7,89 +7,84 @@ use lib.Dec.{eqb, leb}
 use lib.IntN.{ℤ, pos}
 use lib.ListN.{length, replicate}
 use borrow.Author.Tests.{le-ltb, lt-ltb, le-leb, lt-leb, eq-eqb, ne-eqb}
+use Rattle.rules.specs.paper.Limits.{most-registers, work-words, most-budget}
 use Rattle.rules.specs.paper.Refusals.{refusal-number}
 use Rattle.rules.specs.paper.Refusals as Refusals
-use Rattle.rules.specs.paper.Engine.{engine, refusing, Called}
+use Rattle.rules.specs.paper.Engine.{engine, refusing, refused}
 use Rattle.integers.specs.Words.{integer-of, integers-of, words-of}
-use Rattle.engine.specs.Bytes.{numbers, bytes-of-words, whole, register-values, register-bytes}
-use Rattle.engine.specs.BytesKept.{AllBytes, values-whole, values-none, bytes-whole, bytes-none, registers-kept}
-use Rattle.engine.specs.Runs.{RunReplies}
+use Rattle.little_endian.specs.Numbers.{numbers, bytes-of-words}
+use Rattle.little_endian.specs.NumberLaws.{AllBytes}
+use Rattle.engine.specs.Bytes.{whole, register-values, register-bytes, value-bytes, run-call-registers, too-many-registers}
+use Rattle.engine.specs.BytesKept.{values-whole, values-none, bytes-whole, bytes-none, registers-kept}
+use Rattle.calls.specs.Runs.{run-call}
+use Rattle.engine.specs.Replies.{RunReplies, RunCalled}
 use Rattle.engine.specs.declared.RunReply.{RunReply}
-
--- What a call on bytes leaves.
-abbrev pub LeavesBytes : (image bytes : List ℕ) (budget : ℕ) (work : List ℕ) → RunReply → (last-bytes last-work : List ℕ) → Type 0
-LeavesBytes image bytes budget work r last-bytes last-work =
-    RunReplies (engine image (register-values bytes) budget work .reply) r ×
-    ((last-bytes ≡ register-bytes bytes (engine image (register-values bytes) budget work .registers)) × (last-work ≡ engine image (register-values bytes) budget work .work))
 
 -- ---- Which bytes are registers.
 
-pub odd-bytes : (bytes : ℕ) → (bytes % 8 ≡ 0 → ⊥) → whole 8 16 bytes ≡ false
-odd-bytes bytes h = ap (λ t. t && leb (bytes / 8) 16) (ne-eqb (bytes % 8) 0 h)
+pub odd-bytes : (bytes : ℕ) → (bytes % 8 ≡ 0 → ⊥) → whole 8 most-registers bytes ≡ false
+odd-bytes bytes h = ap (λ t. t && leb (bytes / 8) most-registers) (ne-eqb (bytes % 8) 0 h)
 
-pub many-bytes : (bytes : ℕ) → bytes % 8 ≡ 0 → 16 < bytes / 8 → whole 8 16 bytes ≡ false
-many-bytes bytes h g = ap (λ t. t && leb (bytes / 8) 16) (eq-eqb (bytes % 8) 0 h) ∙ lt-leb (bytes / 8) 16 g
+pub many-bytes : (bytes : ℕ) → bytes % 8 ≡ 0 → most-registers < bytes / 8 → whole 8 most-registers bytes ≡ false
+many-bytes bytes h g = ap (λ t. t && leb (bytes / 8) most-registers) (eq-eqb (bytes % 8) 0 h) ∙ lt-leb (bytes / 8) most-registers g
 
-pub some-bytes : (bytes : ℕ) → bytes % 8 ≡ 0 → bytes / 8 ≤ 16 → whole 8 16 bytes ≡ true
-some-bytes bytes h g = ap (λ t. t && leb (bytes / 8) 16) (eq-eqb (bytes % 8) 0 h) ∙ le-leb (bytes / 8) 16 g
+pub some-bytes : (bytes : ℕ) → bytes % 8 ≡ 0 → bytes / 8 ≤ most-registers → whole 8 most-registers bytes ≡ true
+some-bytes bytes h g = ap (λ t. t && leb (bytes / 8) most-registers) (eq-eqb (bytes % 8) 0 h) ∙ le-leb (bytes / 8) most-registers g
 
-seventeen : integers-of (replicate 17 0) ≡ replicate 17 (pos 0)
+too-many : integers-of (replicate too-many-registers 0) ≡ replicate too-many-registers (pos 0)
 unfolding integers-of integer-of
-seventeen = refl
+too-many = refl
 
 module _ (image bytes : List ℕ) (budget : ℕ) (work : List ℕ) where
+  -- What a call on registers of bytes leaves.
+  abbrev LeavesBytes : RunReply → (last-bytes last : List ℕ) → Type 0
+  LeavesBytes r last-bytes last = RunCalled (register-bytes bytes) (run-call-registers image bytes budget work) r last-bytes last
+
   -- Bytes that are no registers: 17 values are handed on, and the bytes stay.
-  pub no-registers : (r : RunReply) (last : List ℕ) → whole 8 16 (length bytes) ≡ false → RunReplies (engine image (integers-of (replicate 17 0)) budget work .reply) r →
-      last ≡ engine image (integers-of (replicate 17 0)) budget work .work → LeavesBytes image bytes budget work r bytes last
-  no-registers r last p q s =
-      let same = seventeen ∙ sym (values-none bytes p) in (
-        subst (λ zs. RunReplies (engine image zs budget work .reply) r) same q,
-        (
-          sym (bytes-none bytes (engine image (register-values bytes) budget work .registers) p),
-          subst (λ zs. last ≡ engine image zs budget work .work) same s,
-        ),
-      )
+  pub no-registers : (r : RunReply) (values last : List ℕ) → whole 8 most-registers (length bytes) ≡ false → RunCalled words-of (run-call image (replicate too-many-registers 0) budget work) r values last →
+      LeavesBytes r bytes last
+  no-registers r values last p done =
+      let same = too-many ∙ sym (values-none bytes p) in
+      record {
+        reply-is = subst (λ zs. RunReplies (engine image zs budget work .reply) r) same (done .reply-is);
+        registers-are = sym (bytes-none bytes (run-call-registers image bytes budget work .registers) p);
+        work-is = subst (λ zs. last ≡ engine image zs budget work .work) same (done .work-is);
+      }
 
   -- The values are unpacked, run on and packed again.
-  pub values-run : (r : RunReply) (count : ℕ) (values after last-bytes last : List ℕ) → values ≡ numbers 8 count bytes → RunReplies (engine image (integers-of values) budget work .reply) r →
-      after ≡ words-of (engine image (integers-of values) budget work .registers) → last ≡ engine image (integers-of values) budget work .work → last-bytes ≡ bytes-of-words after →
-      RunReplies (engine image (integers-of (numbers 8 count bytes)) budget work .reply) r ×
-      ((last-bytes ≡ bytes-of-words (words-of (engine image (integers-of (numbers 8 count bytes)) budget work .registers))) × (last ≡ engine image (integers-of (numbers 8 count bytes)) budget work .work))
-  values-run r count values after last-bytes last same q s u v = (
-    subst (λ ws. RunReplies (engine image (integers-of ws) budget work .reply) r) same q,
-    (v ∙ ap bytes-of-words s ∙ ap (λ ws. bytes-of-words (words-of (engine image (integers-of ws) budget work .registers))) same, u ∙ ap (λ ws. engine image (integers-of ws) budget work .work) same),
-  )
+  pub values-run : (r : RunReply) (count : ℕ) (values after last-bytes last : List ℕ) → values ≡ numbers 8 count bytes → RunCalled words-of (run-call image values budget work) r after last →
+      last-bytes ≡ bytes-of-words after → RunCalled value-bytes (run-call image (numbers 8 count bytes) budget work) r last-bytes last
+  values-run r count values after last-bytes last same done packed =
+      subst (λ ws. RunCalled value-bytes (run-call image ws budget work) r last-bytes last) same
+      (record { reply-is = done .reply-is; registers-are = packed ∙ ap bytes-of-words (done .registers-are); work-is = done .work-is })
 
   -- Bytes that are registers.
-  pub some-registers : (r : RunReply) (count : ℕ) (last-bytes last : List ℕ) → whole 8 16 (length bytes) ≡ true → count ≡ length bytes / 8 →
-      RunReplies (engine image (integers-of (numbers 8 count bytes)) budget work .reply) r → last-bytes ≡ bytes-of-words (words-of (engine image (integers-of (numbers 8 count bytes)) budget work .registers)) →
-      last ≡ engine image (integers-of (numbers 8 count bytes)) budget work .work → LeavesBytes image bytes budget work r last-bytes last
-  some-registers r count last-bytes last p counted q s u =
-      let same = ap (λ k. integers-of (numbers 8 k bytes)) counted ∙ sym (values-whole bytes p) in (
-        subst (λ zs. RunReplies (engine image zs budget work .reply) r) same q,
-        (
-          s ∙ ap (λ zs. bytes-of-words (words-of (engine image zs budget work .registers))) same ∙ sym (bytes-whole bytes (engine image (register-values bytes) budget work .registers) p),
-          subst (λ zs. last ≡ engine image zs budget work .work) same u,
-        ),
-      )
+  pub some-registers : (r : RunReply) (count : ℕ) (last-bytes last : List ℕ) → whole 8 most-registers (length bytes) ≡ true → count ≡ length bytes / 8 →
+      RunCalled value-bytes (run-call image (numbers 8 count bytes) budget work) r last-bytes last → LeavesBytes r last-bytes last
+  some-registers r count last-bytes last p counted done =
+      let same = ap (λ k. integers-of (numbers 8 k bytes)) counted ∙ sym (values-whole bytes p) in
+      let here = subst (λ zs. RunCalled value-bytes (engine image zs budget work) r last-bytes last) same done in
+      record {
+        reply-is = here .reply-is;
+        registers-are = here .registers-are ∙ sym (bytes-whole bytes (run-call-registers image bytes budget work .registers) p);
+        work-is = here .work-is;
+      }
 
   -- ---- 22 and 21: nothing is touched.
 
-  leaves-of : (c : Called) (r : RunReply) → engine image (register-values bytes) budget work ≡ c → RunReplies (c .reply) r → c .registers ≡ register-values bytes → c .work ≡ work → AllBytes bytes →
-      LeavesBytes image bytes budget work r bytes work
-  leaves-of c r e q registers words low = (
-    subst (λ k. RunReplies (k .reply) r) (sym e) q,
-    (sym (ap (λ k. register-bytes bytes (k .registers)) e ∙ ap (register-bytes bytes) registers ∙ registers-kept bytes low), sym (ap (λ k. k .work) e ∙ words)),
-  )
+  untouched : (x : Refusals.Refusal) (r : RunReply) → run-call-registers image bytes budget work ≡ refusing x 0 (register-values bytes) work →
+      RunReplies (record { answer = refused x 0; steps = 0 }) r → AllBytes bytes → LeavesBytes r bytes work
+  untouched x r e q low =
+      subst (λ c. RunCalled (register-bytes bytes) c r bytes work) (sym e) (record { reply-is = q; registers-are = sym (registers-kept bytes low); work-is = refl })
 
-  pub work-refused : length work < 8192 → AllBytes bytes → LeavesBytes image bytes budget work (record { refusal = 22; outcome = 0; value = 0; place = 0; steps = 0 }) bytes work
+  pub work-refused : length work < work-words → AllBytes bytes → LeavesBytes (record { refusal = 22; outcome = 0; value = 0; place = 0; steps = 0 }) bytes work
   unfolding refusal-number
   work-refused h low =
-      leaves-of (refusing Refusals.Work 0 (register-values bytes) work) _ (unfold engine in (rw (lt-ltb (length work) 8192 h)))
-      (record { refusal-is = refl; outcome-is = refl; value-is = refl; place-is = refl; steps-are = refl }) refl refl low
+      untouched Refusals.Work _ (unfold engine in (rw (lt-ltb (length work) work-words h)))
+      (record { refusal-is = refl; outcome-is = refl; value-is = refl; place-is = refl; steps-are = refl }) low
 
-  pub budget-refused : 8192 ≤ length work → 1000000 < budget → AllBytes bytes → LeavesBytes image bytes budget work (record { refusal = 21; outcome = 0; value = 0; place = 0; steps = 0 }) bytes work
+  pub budget-refused : work-words ≤ length work → most-budget < budget → AllBytes bytes → LeavesBytes (record { refusal = 21; outcome = 0; value = 0; place = 0; steps = 0 }) bytes work
   unfolding refusal-number
   budget-refused room h low =
-      leaves-of (refusing Refusals.Budget 0 (register-values bytes) work) _ (unfold engine in (rw (le-ltb (length work) 8192 room, lt-leb budget 1000000 h)))
-      (record { refusal-is = refl; outcome-is = refl; value-is = refl; place-is = refl; steps-are = refl }) refl refl low
+      untouched Refusals.Budget _ (unfold engine in (rw (le-ltb (length work) work-words room, lt-leb budget most-budget h)))
+      (record { refusal-is = refl; outcome-is = refl; value-is = refl; place-is = refl; steps-are = refl }) low

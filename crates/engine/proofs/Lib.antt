@@ -1,8 +1,4 @@
 mod BytesCounts
-mod BytesLaws
 mod BytesRun
-mod CheckLaws
-mod ExecuteLaws
-mod OrderLaws
-mod PerformLaws
-mod ReplyLaws
+mod CheckNumbers
+mod RunNumbers

@@ -1,88 +1,20 @@
--- Bytes are those of the numbers that they hold, so registers that keep their values keep their bytes.
-use Prim.Native.Nat.{ℕ, zero, suc, _+_, _*_, _/_, _%_, _^_, _<_, _≤_}
-use mathlib.Core.Path.{_≡_, refl, sym, ap, _∙_, subst}
+-- Registers that keep their values keep their bytes.
+use Prim.Native.Nat.{ℕ, _+_, _*_, _/_, _%_}
+use mathlib.Core.Path.{_≡_, refl, sym, ap, _∙_}
 use mathlib.Core.Bool.{Bool, true, false, cond}
-use mathlib.Core.List.{List, [], _∷_, _++_}
+use mathlib.Core.List.{List}
 use native.Mathlib.Omega.{arith}
-use native.Mathlib.Nat.{zero-add, pow-suc, mod-eq-of-lt, add-mul-mod-self-left, add-mul-div-left, div-eq-of-lt, mod-add-div}
+use native.Mathlib.Nat.{zero-add, mod-add-div}
 use lib.Dec.{eqb, leb, eqb→eq}
 use lib.IntN.{ℤ, pos}
-use lib.ListN.{length, getD, take, drop, replicate, length-drop, take-append-drop}
-use lib.Seq.{getD-drop}
+use lib.ListN.{length, replicate}
+use Rattle.rules.specs.paper.Limits.{most-registers}
 use Rattle.rules.specs.proofs.Basics.{passed-test, and-left}
 use Rattle.integers.specs.Words.{integers-of, words-of}
 use Rattle.integers.specs.WordLaws.{words-back}
-use Rattle.engine.specs.Bytes.{little-endian, numbers, bytes-of, bytes-of-words, whole, register-values, register-bytes}
-
--- Every element is a byte.
-abbrev pub AllBytes : List ℕ → Type 0
-AllBytes bytes = (i : ℕ) → i < length bytes → getD bytes i 0 < 256
-
-rest-bytes : (b : ℕ) (bytes : List ℕ) → AllBytes (b ∷ bytes) → AllBytes bytes
-rest-bytes b bytes low i h = low (suc i) (omega (arith, h))
-
-later-bytes : (n : ℕ) (bytes : List ℕ) → AllBytes bytes → AllBytes (drop n bytes)
-later-bytes n bytes low i h = subst (λ b. b < 256) (sym (getD-drop n bytes i 0)) (low (n + i) (omega (arith, h, length-drop n bytes)))
-
--- ---- One number.
-
-lowest-byte : (b upper : ℕ) → b < 256 → (b + 256 * upper) % 256 ≡ b
-lowest-byte b upper h = add-mul-mod-self-left b 256 upper ∙ mod-eq-of-lt h
-
-upper-bytes : (b upper : ℕ) → b < 256 → (b + 256 * upper) / 256 ≡ upper
-upper-bytes b upper h = add-mul-div-left b upper (omega arith) ∙ ap (λ k. k + upper) (div-eq-of-lt h) ∙ zero-add upper
-
-pub number-bytes : (size : ℕ) (bytes : List ℕ) → size ≤ length bytes → AllBytes bytes → bytes-of size (little-endian (take size bytes)) ≡ take size bytes
-unfolding little-endian bytes-of
-number-bytes zero bytes h low = refl
-number-bytes (suc size) [] h low = absurd (omega (arith, h))
-number-bytes (suc size) (b ∷ bytes) h low =
-    let upper = little-endian (take size bytes) in
-    ap {B = List ℕ} (λ k. k ∷ bytes-of size ((b + 256 * upper) / 256)) (lowest-byte b upper (low 0 (omega arith)))
-    ∙ ap {B = List ℕ} (λ k. b ∷ bytes-of size k) (upper-bytes b upper (low 0 (omega arith)))
-    ∙ ap {B = List ℕ} (λ r. b ∷ r) (number-bytes size bytes (omega (arith, h)) (rest-bytes b bytes low))
-
-positive : (size : ℕ) → 0 < 256 ^ size
-positive zero = omega arith
-positive (suc size) = subst (λ power. 0 < power) (sym (pow-suc 256 size)) (next (256 ^ size) (positive size))
-  where
-    next : (power : ℕ) → 0 < power → 0 < power * 256
-    next power h = omega arith
-
-pub number-below : (size : ℕ) (bytes : List ℕ) → AllBytes bytes → little-endian (take size bytes) < 256 ^ size
-unfolding little-endian
-number-below zero bytes low = omega arith
-number-below (suc size) [] low = positive (suc size)
-number-below (suc size) (b ∷ bytes) low =
-    subst (λ power. b + 256 * little-endian (take size bytes) < power) (sym (pow-suc 256 size))
-    (next b (little-endian (take size bytes)) (256 ^ size) (low 0 (omega arith)) (number-below size bytes (rest-bytes b bytes low)))
-  where
-    next : (b upper power : ℕ) → b < 256 → upper < power → b + 256 * upper < power * 256
-    next b upper power h g = omega arith
-
--- ---- Eight bytes a number.
-
-numbers-below : (count : ℕ) (bytes : List ℕ) → AllBytes bytes → (i : ℕ) → i < count → getD (numbers 8 count bytes) i 0 < 18446744073709551616
-unfolding numbers
-numbers-below zero bytes low i h = absurd (omega (arith, h))
-numbers-below (suc count) bytes low zero h = number-below 8 bytes low
-numbers-below (suc count) bytes low (suc i) h = numbers-below count (drop 8 bytes) (later-bytes 8 bytes low) i (omega (arith, h))
-
-pub numbers-length : (size count : ℕ) (bytes : List ℕ) → length (numbers size count bytes) ≡ count
-unfolding numbers
-numbers-length size zero bytes = refl
-numbers-length size (suc count) bytes = ap suc (numbers-length size count (drop size bytes))
-
-pub words-bytes : (count : ℕ) (bytes : List ℕ) → length bytes ≡ 8 * count → AllBytes bytes → bytes-of-words (numbers 8 count bytes) ≡ bytes
-unfolding numbers bytes-of-words
-words-bytes zero [] h low = refl
-words-bytes zero (b ∷ bytes) h low = absurd (omega (arith, h))
-words-bytes (suc count) bytes h low =
-    ap (λ r. r ++ bytes-of-words (numbers 8 count (drop 8 bytes))) (number-bytes 8 bytes (omega (arith, h)) low)
-    ∙ ap (λ r. take 8 bytes ++ r) (words-bytes count (drop 8 bytes) (omega (arith, h, length-drop 8 bytes)) (later-bytes 8 bytes low))
-    ∙ take-append-drop 8 bytes
-
--- ---- The registers.
+use Rattle.little_endian.specs.Numbers.{numbers, bytes-of-words}
+use Rattle.little_endian.specs.NumberLaws.{AllBytes, numbers-below, numbers-length, words-bytes}
+use Rattle.engine.specs.Bytes.{whole, register-values, register-bytes, too-many-registers}
 
 -- A whole count of numbers has all the bytes.
 pub count-whole : (size most bytes : ℕ) → whole size most bytes ≡ true → bytes ≡ size * (bytes / size)
@@ -91,31 +23,31 @@ count-whole size most bytes p =
     ∙ ap (λ k. k + size * (bytes / size)) (eqb→eq (bytes % size) 0 (and-left (eqb (bytes % size) 0) (leb (bytes / size) most) (passed-test p)))
     ∙ zero-add (size * (bytes / size))
 
-pub values-whole : (bytes : List ℕ) → whole 8 16 (length bytes) ≡ true → register-values bytes ≡ integers-of (numbers 8 (length bytes / 8) bytes)
+pub values-whole : (bytes : List ℕ) → whole 8 most-registers (length bytes) ≡ true → register-values bytes ≡ integers-of (numbers 8 (length bytes / 8) bytes)
 unfolding register-values
-values-whole bytes p = ap (λ all. cond all (integers-of (numbers 8 (length bytes / 8) bytes)) (replicate 17 (pos 0))) p
+values-whole bytes p = ap (λ all. cond all (integers-of (numbers 8 (length bytes / 8) bytes)) (replicate too-many-registers (pos 0))) p
 
-pub values-none : (bytes : List ℕ) → whole 8 16 (length bytes) ≡ false → register-values bytes ≡ replicate 17 (pos 0)
+pub values-none : (bytes : List ℕ) → whole 8 most-registers (length bytes) ≡ false → register-values bytes ≡ replicate too-many-registers (pos 0)
 unfolding register-values
-values-none bytes p = ap (λ all. cond all (integers-of (numbers 8 (length bytes / 8) bytes)) (replicate 17 (pos 0))) p
+values-none bytes p = ap (λ all. cond all (integers-of (numbers 8 (length bytes / 8) bytes)) (replicate too-many-registers (pos 0))) p
 
-pub bytes-whole : (before : List ℕ) (values : List ℤ) → whole 8 16 (length before) ≡ true → register-bytes before values ≡ bytes-of-words (words-of values)
+pub bytes-whole : (before : List ℕ) (values : List ℤ) → whole 8 most-registers (length before) ≡ true → register-bytes before values ≡ bytes-of-words (words-of values)
 unfolding register-bytes
 bytes-whole before values p = ap (λ all. cond all (bytes-of-words (words-of values)) before) p
 
-pub bytes-none : (before : List ℕ) (values : List ℤ) → whole 8 16 (length before) ≡ false → register-bytes before values ≡ before
+pub bytes-none : (before : List ℕ) (values : List ℤ) → whole 8 most-registers (length before) ≡ false → register-bytes before values ≡ before
 unfolding register-bytes
 bytes-none before values p = ap (λ all. cond all (bytes-of-words (words-of values)) before) p
 
 -- Registers that keep their values keep their bytes.
 pub registers-kept : (bytes : List ℕ) → AllBytes bytes → register-bytes bytes (register-values bytes) ≡ bytes
-registers-kept bytes low = by (whole 8 16 (length bytes)) refl
+registers-kept bytes low = by (whole 8 most-registers (length bytes)) refl
   where
     back : length bytes ≡ 8 * (length bytes / 8) → bytes-of-words (words-of (integers-of (numbers 8 (length bytes / 8) bytes))) ≡ bytes
     back same =
         ap bytes-of-words (words-back (numbers 8 (length bytes / 8) bytes) (λ i h. numbers-below (length bytes / 8) bytes low i (omega (arith, h, numbers-length 8 (length bytes / 8) bytes))))
         ∙ words-bytes (length bytes / 8) bytes same low
 
-    by : (all : Bool) → whole 8 16 (length bytes) ≡ all → register-bytes bytes (register-values bytes) ≡ bytes
-    by true p = bytes-whole bytes (register-values bytes) p ∙ ap (λ zs. bytes-of-words (words-of zs)) (values-whole bytes p) ∙ back (count-whole 8 16 (length bytes) p)
+    by : (all : Bool) → whole 8 most-registers (length bytes) ≡ all → register-bytes bytes (register-values bytes) ≡ bytes
+    by true p = bytes-whole bytes (register-values bytes) p ∙ ap (λ zs. bytes-of-words (words-of zs)) (values-whole bytes p) ∙ back (count-whole 8 most-registers (length bytes) p)
     by false p = bytes-none bytes (register-values bytes) p

@@ -7,21 +7,24 @@ use mathlib.Core.Bool.{Bool, true, false, cond, _&&_}
 use mathlib.Core.List.{List, [], _∷_}
 use native.Mathlib.Omega.{arith}
 use native.Mathlib.Nat.{mul-mod-right, div-eq-of-eq-mul-right}
-use lib.Dec.{leb, ltb, leb→le, ltb→lt}
+use lib.Dec.{leb}
 use lib.ListN.{length, take, drop}
 use borrow.Author.Tests.{le-ltb, lt-ltb, le-leb, eq-eqb, ne-eqb}
-use Rattle.rules.specs.proofs.Basics.{passed-test, and-left, and-right}
+use Rattle.calls.specs.Sizes.{most-image-words}
 use Rattle.rules.specs.paper.Refusals as Refusals
-use Rattle.rules.specs.paper.Limits.{most-nodes, most-registers}
+use Rattle.rules.specs.paper.Limits.{most-registers}
 use Rattle.rules.specs.paper.Tree.{Root}
 use Rattle.rules.specs.paper.Checker.{Passed}
 use Rattle.rules.specs.paper.Reader.{read, bad, size-fits}
 use Rattle.rules.specs.paper.Engine.{check-image, passed, run-checked, refusing}
 use Rattle.rules.specs.proofs.checking.ImageExact.{check-exact}
+use Rattle.reader.specs.SizeLaws.{some-nodes, few-nodes}
 use Rattle.integers.specs.Words.{integers-of}
 use Rattle.integers.specs.WordLaws.{integers-length}
-use Rattle.engine.specs.Bytes.{little-endian, numbers, whole, image-count, image-words, register-values}
-use Rattle.engine.specs.BytesKept.{numbers-length, count-whole, values-whole, values-none}
+use Rattle.little_endian.specs.Numbers.{little-endian, numbers}
+use Rattle.little_endian.specs.NumberLaws.{numbers-length}
+use Rattle.engine.specs.Bytes.{whole, image-count, image-of-bytes, register-values}
+use Rattle.engine.specs.BytesKept.{count-whole, values-whole, values-none}
 
 -- A whole count, told by the count.
 is-whole : (size most bytes count : ℕ) → 0 < size → bytes ≡ size * count → count ≤ most → whole size most bytes ≡ true
@@ -39,70 +42,64 @@ registers-said bytes = little-endian (take 4 (drop 4 bytes))
 -- ---- The image.
 
 -- Fewer than 8 bytes: 1.
-pub few-bytes : (bytes : List ℕ) → length bytes < 8 → read (image-words bytes) ≡ bad Refusals.Length 0
-unfolding image-words image-count numbers read
+pub few-bytes : (bytes : List ℕ) → length bytes < 8 → read (image-of-bytes bytes) ≡ bad Refusals.Length 0
+unfolding image-of-bytes image-count numbers read
 few-bytes bytes h = rw (lt-ltb (length bytes) 8 h)
 
 -- From 8 bytes on, n and r are the first two words, and what is behind them is as long as 2 n words only where the length is 8 + 8 n.
 record Headed (bytes : List ℕ) : Type 0 where
   rest : List ℕ
-  words : image-words bytes ≡ nodes-said bytes ∷ registers-said bytes ∷ rest
+  words : image-of-bytes bytes ≡ nodes-said bytes ∷ registers-said bytes ∷ rest
   fits : (n : ℕ) → 0 < n → length rest ≡ 2 * n → length bytes ≡ 8 + 8 * n
 
 two-words : (count k : ℕ) (bytes : List ℕ) → count ≡ suc (suc k) → numbers 4 count bytes ≡ nodes-said bytes ∷ registers-said bytes ∷ numbers 4 k (drop 4 (drop 4 bytes))
 unfolding numbers
 two-words count k bytes q = ap (λ c. numbers 4 c bytes) q
 
-count-handed : (bytes : ℕ) (all : Bool) → 8 ≤ bytes → whole 4 4002 bytes ≡ all → image-count bytes ≡ cond all (bytes / 4) 2
+count-handed : (bytes : ℕ) (all : Bool) → 8 ≤ bytes → whole 4 most-image-words bytes ≡ all → image-count bytes ≡ cond all (bytes / 4) 2
 unfolding image-count
-count-handed bytes all h p = ap (λ few. cond few 0 (cond (whole 4 4002 bytes) (bytes / 4) 2)) (le-ltb bytes 8 h) ∙ ap (λ a. cond a (bytes / 4) 2) p
+count-handed bytes all h p = ap (λ few. cond few 0 (cond (whole 4 most-image-words bytes) (bytes / 4) 2)) (le-ltb bytes 8 h) ∙ ap (λ a. cond a (bytes / 4) 2) p
 
-image-words-are : (bytes : List ℕ) (count : ℕ) → image-count (length bytes) ≡ count → image-words bytes ≡ numbers 4 count bytes
-unfolding image-words
-image-words-are bytes count q = ap (λ k. numbers 4 k bytes) q
+image-of-bytes-is : (bytes : List ℕ) (count : ℕ) → image-count (length bytes) ≡ count → image-of-bytes bytes ≡ numbers 4 count bytes
+unfolding image-of-bytes
+image-of-bytes-is bytes count q = ap (λ k. numbers 4 k bytes) q
 
 headed : (bytes : List ℕ) → 8 ≤ length bytes → Headed bytes
-headed bytes h = by (whole 4 4002 (length bytes)) refl
+headed bytes h = by (whole 4 most-image-words (length bytes)) refl
   where
-    by : (all : Bool) → whole 4 4002 (length bytes) ≡ all → Headed bytes
+    by : (all : Bool) → whole 4 most-image-words (length bytes) ≡ all → Headed bytes
     by true p =
-        let same = count-whole 4 4002 (length bytes) p in
+        let same = count-whole 4 most-image-words (length bytes) p in
         record {
           rest = numbers 4 (length bytes / 4 - 2) (drop 4 (drop 4 bytes));
-          words = image-words-are bytes (length bytes / 4) (count-handed (length bytes) true h p) ∙ two-words (length bytes / 4) (length bytes / 4 - 2) bytes (omega (arith, same, h));
+          words = image-of-bytes-is bytes (length bytes / 4) (count-handed (length bytes) true h p) ∙ two-words (length bytes / 4) (length bytes / 4 - 2) bytes (omega (arith, same, h));
           fits = λ n positive e. omega (arith, same, h, e, numbers-length 4 (length bytes / 4 - 2) (drop 4 (drop 4 bytes)));
         }
     by false p =
         record {
           rest = numbers 4 0 (drop 4 (drop 4 bytes));
-          words = image-words-are bytes 2 (count-handed (length bytes) false h p) ∙ two-words 2 0 bytes refl;
+          words = image-of-bytes-is bytes 2 (count-handed (length bytes) false h p) ∙ two-words 2 0 bytes refl;
           fits = λ n positive e. absurd (omega (arith, positive, e, numbers-length 4 0 (drop 4 (drop 4 bytes))));
         }
 
-some-nodes : (n r : ℕ) → size-fits n r ≡ true → 0 < n
-some-nodes n r q = ltb→lt 0 n (and-left (ltb 0 n) (leb n most-nodes) (and-left (ltb 0 n && leb n most-nodes) (leb r most-registers) (passed-test q)))
-
-few-nodes : (n r : ℕ) → size-fits n r ≡ true → n ≤ 2000
-few-nodes n r q = leb→le n most-nodes (and-right (ltb 0 n) (leb n most-nodes) (and-left (ltb 0 n && leb n most-nodes) (leb r most-registers) (passed-test q)))
-
 -- n or r out of range: 2.
-pub size-refused : (bytes : List ℕ) → 8 ≤ length bytes → size-fits (nodes-said bytes) (registers-said bytes) ≡ false → read (image-words bytes) ≡ bad Refusals.Size 0
+pub size-refused : (bytes : List ℕ) → 8 ≤ length bytes → size-fits (nodes-said bytes) (registers-said bytes) ≡ false → read (image-of-bytes bytes) ≡ bad Refusals.Size 0
 unfolding read
 size-refused bytes h q = let head = headed bytes h in ap read (head .words) ∙ rw q
 
 -- Another length than 8 + 8 n: 1.
 pub length-refused : (bytes : List ℕ) → 8 ≤ length bytes → size-fits (nodes-said bytes) (registers-said bytes) ≡ true → (length bytes ≡ 8 + 8 * nodes-said bytes → ⊥) →
-    read (image-words bytes) ≡ bad Refusals.Length 0
+    read (image-of-bytes bytes) ≡ bad Refusals.Length 0
 unfolding read
 length-refused bytes h q other =
     let head = headed bytes h in
     ap read (head .words) ∙ rw (q, ne-eqb (length (head .rest)) (2 * nodes-said bytes) (λ e. other (head .fits (nodes-said bytes) (some-nodes (nodes-said bytes) (registers-said bytes) q) e)))
 
 -- 8 + 8 n bytes: exactly the 2 + 2 n words are read.
-pub whole-image : (bytes : List ℕ) → size-fits (nodes-said bytes) (registers-said bytes) ≡ true → length bytes ≡ 8 + 8 * nodes-said bytes → image-words bytes ≡ numbers 4 (2 + 2 * nodes-said bytes) bytes
+pub whole-image : (bytes : List ℕ) → size-fits (nodes-said bytes) (registers-said bytes) ≡ true → length bytes ≡ 8 + 8 * nodes-said bytes → image-of-bytes bytes ≡ numbers 4 (2 + 2 * nodes-said bytes) bytes
 whole-image bytes q same =
-    image-words-are bytes (2 + 2 * nodes-said bytes)
-    (count-handed (length bytes) true (omega (arith, same)) (is-whole 4 4002 (length bytes) (2 + 2 * nodes-said bytes) (omega arith) (omega (arith, same)) (omega (arith, few-nodes (nodes-said bytes) (registers-said bytes) q)))
+    image-of-bytes-is bytes (2 + 2 * nodes-said bytes)
+    (count-handed (length bytes) true (omega (arith, same)) (is-whole 4 most-image-words (length bytes) (2 + 2 * nodes-said bytes) (omega arith) (omega (arith, same)) (omega (arith, few-nodes (nodes-said bytes) (registers-said bytes) q)))
     ∙ div-eq-of-eq-mul-right (omega arith) (omega (arith, same)))
 
 -- ---- The registers.
@@ -110,16 +107,16 @@ whole-image bytes q same =
 -- 8 r bytes: exactly the r values are handed on.
 pub whole-registers : (bytes : List ℕ) (r : ℕ) → r ≤ most-registers → length bytes ≡ 8 * r → register-values bytes ≡ integers-of (numbers 8 r bytes)
 whole-registers bytes r h same =
-    values-whole bytes (is-whole 8 16 (length bytes) r (omega arith) same h) ∙ ap (λ k. integers-of (numbers 8 k bytes)) (div-eq-of-eq-mul-right (omega arith) same)
+    values-whole bytes (is-whole 8 most-registers (length bytes) r (omega arith) same h) ∙ ap (λ k. integers-of (numbers 8 k bytes)) (div-eq-of-eq-mul-right (omega arith) same)
 
 -- Any other length: not as many values as an image has registers.
 pub other-count : (bytes : List ℕ) (r : ℕ) → r ≤ most-registers → (length bytes ≡ 8 * r → ⊥) → length (register-values bytes) ≡ r → ⊥
-other-count bytes r h other e = by (whole 8 16 (length bytes)) refl
+other-count bytes r h other e = by (whole 8 most-registers (length bytes)) refl
   where
-    by : (all : Bool) → whole 8 16 (length bytes) ≡ all → ⊥
+    by : (all : Bool) → whole 8 most-registers (length bytes) ≡ all → ⊥
     by true p =
         let counted = sym (ap length (values-whole bytes p) ∙ integers-length (numbers 8 (length bytes / 8) bytes) ∙ numbers-length 8 (length bytes / 8) bytes) in
-        other (omega (arith, counted, e, count-whole 8 16 (length bytes) p))
+        other (omega (arith, counted, e, count-whole 8 most-registers (length bytes) p))
     by false p = omega (arith, sym e ∙ ap length (values-none bytes p), h)
 
 -- So it is 20 where the image passes.

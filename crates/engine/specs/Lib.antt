@@ -1,6 +1,4 @@
-pub mod Answers
 pub mod Bytes
 pub mod BytesKept
 pub mod BytesRead
-pub mod Delivered
-pub mod Runs
+pub mod Replies

@@ -10,8 +10,8 @@ use checker::root;
 use reader::Shape;
 use reader::read_image;
 
-// The work words that a call may write.
-const WORK_WORDS: usize = 8192;
+// The work words that a call may write: a caller lends at least as many.
+pub const WORK_WORDS: usize = 8192;
 
 // What an image is found to be: the number of what its root is (a code, or the checker's COMMAND), its count of registers and its count of
 // nodes; or a refusal with its place.

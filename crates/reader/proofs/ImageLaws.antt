@@ -1,14 +1,14 @@
 -- What `read_image` has to show at each return, over plain variables.
 use Prim.Native.Nat.{ℕ, zero, suc, _+_, _-_, _*_, _<_, _≤_}
 use mathlib.Core.Path.{_≡_, refl, sym, ap, _∙_, subst}
-use mathlib.Core.Bool.{true, _&&_}
+use mathlib.Core.Bool.{true, false}
 use mathlib.Core.List.{List, [], _∷_, cons-ne-nil}
 use native.Mathlib.Omega.{arith}
 use native.Mathlib.Nat.{zero-add, suc-add, not-suc-le-zero, le-of-suc-le-suc}
 use lib.Seq.{drop-nil}
-use lib.Dec.{T, eqb, leb, ltb, eqb→eq, eqb-refl, leb→le, le→leb, ltb→lt, lt→ltb}
+use lib.Dec.{T, eqb, eqb→eq, eqb-refl}
 use lib.ListN.{length, getD, drop}
-use Rattle.rules.specs.proofs.Basics.{true-test, false-test, and-both, and-left, and-right}
+use Rattle.rules.specs.proofs.Basics.{true-test, false-test}
 use Rattle.rules.specs.paper.Tree.{Root}
 use Rattle.rules.specs.paper.Refusals.{refusal-number}
 use Rattle.rules.specs.paper.Reader.{Node, Got, refused, got, image, whole, size-fits, read-root, read}
@@ -16,6 +16,7 @@ use Rattle.rules.specs.claims.Listing.{root-nodes, image-words}
 use Rattle.rules.specs.proofs.reading.ReaderExact.{read-exact}
 use Rattle.reader.specs.Pack.{root-words}
 use Rattle.rules.specs.paper.Limits.{most-nodes}
+use Rattle.reader.specs.SizeLaws.{few-nodes}
 use Rattle.reader.specs.Put.{KeptBeyond, put-length, put-beyond}
 use Rattle.reader.specs.Answers.{nodes-at, Read-on, Outcome, ShapeAnswer}
 use Rattle.reader.specs.declared.Scanned.{Scanned}
@@ -34,63 +35,31 @@ short (a ∷ []) work h = record { answer = refl; kept = kept-same 2000 work }
 short (a ∷ b ∷ words) work h = absurd (not-suc-le-zero (le-of-suc-le-suc (le-of-suc-le-suc h)))
 
 -- n or r
-wrong-size : (words work : List ℕ) → 2 ≤ length words → (T (size-fits (getD words 0 0) (getD words 1 0)) → ⊥) → ShapeAnswer (read words) (Shapes.Refused 2 0) work work
+pub refuse-size : (words work : List ℕ) → 2 ≤ length words → size-fits (getD words 0 0) (getD words 1 0) ≡ false → ShapeAnswer (read words) (Shapes.Refused 2 0) work work
 unfolding read refusal-number
-wrong-size [] work h f = absurd (not-suc-le-zero h)
-wrong-size (a ∷ []) work h f = absurd (not-suc-le-zero (le-of-suc-le-suc h))
-wrong-size (n ∷ r ∷ words) work h f =
-    rw (false-test (size-fits n r) f) (record { answer = refl; kept = kept-same 2000 work })
+refuse-size [] work h q = absurd (not-suc-le-zero h)
+refuse-size (a ∷ []) work h q = absurd (not-suc-le-zero (le-of-suc-le-suc h))
+refuse-size (n ∷ r ∷ words) work h q = rw q (record { answer = refl; kept = kept-same 2000 work })
 
-no-nodes : (n r : ℕ) → n ≡ 0 → T (size-fits n r) → ⊥
-no-nodes n r z t = clash (ltb→lt 0 n (and-left (ltb 0 n) (leb n 2000) (and-left (ltb 0 n && leb n 2000) (leb r 16) t)))
-  where
-    clash : 0 < n → ⊥
-    clash h = omega arith
-
-many-nodes : (n r : ℕ) → 2000 < n → T (size-fits n r) → ⊥
-many-nodes n r h t = clash (leb→le n 2000 (and-right (ltb 0 n) (leb n 2000) (and-left (ltb 0 n && leb n 2000) (leb r 16) t)))
-  where
-    clash : n ≤ 2000 → ⊥
-    clash g = omega arith
-
-many-registers : (n r : ℕ) → 16 < r → T (size-fits n r) → ⊥
-many-registers n r h t = clash (leb→le r 16 (and-right (ltb 0 n && leb n 2000) (leb r 16) t))
-  where
-    clash : r ≤ 16 → ⊥
-    clash g = omega arith
-
-pub refuse-empty : (words work : List ℕ) → 2 ≤ length words → getD words 0 0 ≡ 0 → ShapeAnswer (read words) (Shapes.Refused 2 0) work work
-refuse-empty words work h z = wrong-size words work h (no-nodes (getD words 0 0) (getD words 1 0) z)
-
-pub refuse-nodes : (words work : List ℕ) → 2 ≤ length words → 2000 < getD words 0 0 → ShapeAnswer (read words) (Shapes.Refused 2 0) work work
-refuse-nodes words work h g = wrong-size words work h (many-nodes (getD words 0 0) (getD words 1 0) g)
-
-pub refuse-registers : (words work : List ℕ) → 2 ≤ length words → 16 < getD words 1 0 → ShapeAnswer (read words) (Shapes.Refused 2 0) work work
-refuse-registers words work h g = wrong-size words work h (many-registers (getD words 0 0) (getD words 1 0) g)
-
-fitting-size : (n r : ℕ) → ¬ (n ≡ 0) → n ≤ 2000 → r ≤ 16 → size-fits n r ≡ true
-fitting-size n r z h g =
-    true-test (size-fits n r) (and-both (ltb 0 n && leb n 2000) (leb r 16) (and-both (ltb 0 n) (leb n 2000) (lt→ltb 0 n (omega (arith, z))) (le→leb n 2000 h)) (le→leb r 16 g))
-
-pub refuse-length : (words work : List ℕ) → 2 ≤ length words → ¬ (getD words 0 0 ≡ 0) → getD words 0 0 ≤ 2000 → getD words 1 0 ≤ 16 →
+pub refuse-length : (words work : List ℕ) → 2 ≤ length words → size-fits (getD words 0 0) (getD words 1 0) ≡ true →
     ¬ (length words ≡ 2 + 2 * getD words 0 0) → ShapeAnswer (read words) (Shapes.Refused 1 0) work work
 unfolding read refusal-number
-refuse-length [] work h z f g l = absurd (not-suc-le-zero h)
-refuse-length (a ∷ []) work h z f g l = absurd (not-suc-le-zero (le-of-suc-le-suc h))
-refuse-length (n ∷ r ∷ words) work h z f g l =
-    rw (fitting-size n r z f g, false-test (eqb (length words) (2 * n)) (λ t. l (longer (eqb→eq (length words) (2 * n) t)))) (record { answer = refl; kept = kept-same 2000 work })
+refuse-length [] work h q l = absurd (not-suc-le-zero h)
+refuse-length (a ∷ []) work h q l = absurd (not-suc-le-zero (le-of-suc-le-suc h))
+refuse-length (n ∷ r ∷ words) work h q l =
+    rw (q, false-test (eqb (length words) (2 * n)) (λ t. l (longer (eqb→eq (length words) (2 * n) t)))) (record { answer = refl; kept = kept-same 2000 work })
   where
     longer : length words ≡ 2 * n → suc (suc (length words)) ≡ 2 + 2 * n
     longer e = omega arith
 
 -- Where the length is right too, the nodes are read.
-read-nodes : (words : List ℕ) → 2 ≤ length words → ¬ (getD words 0 0 ≡ 0) → getD words 0 0 ≤ 2000 → getD words 1 0 ≤ 16 → length words ≡ 2 + 2 * getD words 0 0 →
+read-nodes : (words : List ℕ) → 2 ≤ length words → size-fits (getD words 0 0) (getD words 1 0) ≡ true → length words ≡ 2 + 2 * getD words 0 0 →
     read words ≡ whole (getD words 1 0) (read-root 64 0 (nodes-at words (getD words 0 0)))
 unfolding read
-read-nodes [] h z f g l = absurd (not-suc-le-zero h)
-read-nodes (a ∷ []) h z f g l = absurd (not-suc-le-zero (le-of-suc-le-suc h))
-read-nodes (n ∷ r ∷ words) h z f g l =
-    rw (fitting-size n r z f g, true-test (eqb (length words) (2 * n)) (subst (λ k. T (eqb k (2 * n))) (sym (shorter l)) (eqb-refl (2 * n))))
+read-nodes [] h q l = absurd (not-suc-le-zero h)
+read-nodes (a ∷ []) h q l = absurd (not-suc-le-zero (le-of-suc-le-suc h))
+read-nodes (n ∷ r ∷ words) h q l =
+    rw (q, true-test (eqb (length words) (2 * n)) (subst (λ k. T (eqb k (2 * n))) (sym (shorter l)) (eqb-refl (2 * n))))
   where
     shorter : suc (suc (length words)) ≡ 2 + 2 * n → length words ≡ 2 * n
     shorter e = omega arith
@@ -108,7 +77,7 @@ further n m before after h q =
     apart : n ≤ m → m ≡ n + (m - n)
     apart g = omega arith
 
-module _ (words work work′ : List ℕ) (r : Scanned) (h : 2 ≤ length words) (z : ¬ (getD words 0 0 ≡ 0)) (f : getD words 0 0 ≤ 2000) (g : getD words 1 0 ≤ 16)
+module _ (words work work′ : List ℕ) (r : Scanned) (h : 2 ≤ length words) (sized : size-fits (getD words 0 0) (getD words 1 0) ≡ true)
     (l : length words ≡ 2 + 2 * getD words 0 0) where
   abbrev n : ℕ
   n = getD words 0 0
@@ -126,7 +95,7 @@ module _ (words work work′ : List ℕ) (r : Scanned) (h : 2 ≤ length words) 
   shape-by : (answer : Shape) → ((m : Got Root) → read words ≡ whole (getD words 1 0) m → Root-outcome m → ShapeAnswer (whole (getD words 1 0) m) answer work work′) →
       Node-outcome words n 0 6 64 r work work′ → ShapeAnswer (read words) answer work work′
   shape-by answer k o =
-      subst (λ s. ShapeAnswer s answer work work′) (sym (read-nodes words h z f g l)) (k (read-root 64 0 nodes) (read-nodes words h z f g l) (root-outcome o))
+      subst (λ s. ShapeAnswer s answer work work′) (sym (read-nodes words h sized l)) (k (read-root 64 0 nodes) (read-nodes words h sized l) (root-outcome o))
 
   count-head : (t : Root) → read words ≡ image (getD words 1 0) t → n ≡ length (root-nodes t)
   unfolding image-words
@@ -136,7 +105,7 @@ module _ (words work work′ : List ℕ) (r : Scanned) (h : 2 ≤ length words) 
   kept-root new next left o =
       record {
         same-length = ap length (o .written) ∙ put-length 0 new work;
-        same-beyond = ap (drop 2000) (o .written) ∙ put-beyond 2000 0 new work (omega (arith, o .counted, o .within, f));
+        same-beyond = ap (drop 2000) (o .written) ∙ put-beyond 2000 0 new work (omega (arith, o .counted, o .within, few-nodes n (getD words 1 0) sized));
       }
 
   -- the whole tree was read
@@ -169,5 +138,5 @@ module _ (words work work′ : List ℕ) (r : Scanned) (h : 2 ≤ length words) 
       by (refused y q) w o = record { answer = same-refusal r x p (refusal-number y) q e (o .answer); kept = later (o .kept) }
         where
           later : KeptBeyond n work work′ → KeptBeyond most-nodes work work′
-          later k = record { same-length = k .same-length; same-beyond = further n 2000 work work′ f (k .same-beyond) }
+          later k = record { same-length = k .same-length; same-beyond = further n 2000 work work′ (few-nodes n (getD words 1 0) sized) (k .same-beyond) }
       by (got t j rest) w o = absurd (two-answers r j x p (o .answer) e)

@@ -8,3 +8,4 @@ pub mod Stored
 pub mod StoredLaws
 pub mod StandingLaws
 pub mod KindTrees
+pub mod SizeLaws

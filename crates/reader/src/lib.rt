@@ -7,11 +7,16 @@ ghost use mathlib.Core.Path.{_≡_};
 ghost use Prim.Native.Nat.{_<_, _≤_};
 ghost use lib.ListN.{length, drop, getD};
 ghost use Rattle.rules.specs.paper.Limits.{most-nodes, most-depth, words};
-ghost use Rattle.rules.specs.paper.Reader.{read};
+ghost use Rattle.rules.specs.paper.Reader.{size-fits, read};
 ghost use Rattle.reader.specs.Scan.{scan};
 ghost use Rattle.reader.specs.Tables.{sort-numbers, sort-of-number};
 ghost use Rattle.reader.specs.Pack.{kinds-room, ends-room, pack, packed-kind, packed-operand, packed-end};
 ghost use Rattle.reader.specs.Answers.{nodes-at, Readable, Outcome, ShapeAnswer};
+
+// The paper's limits of an image: how many nodes and how many registers it has at most.
+pub const MOST_NODES: usize = 2000;
+
+pub const MOST_REGISTERS: usize = 16;
 
 // What reading a node and its descendants comes to: the first node after them, or a refusal with its place.
 pub enum Scanned {
@@ -85,6 +90,19 @@ fn read_node(
     Scanned::Next(end)
 }
 
+// Whether an image can have this many nodes and registers.
+pub fn size_fits(n: usize, registers: usize) -> bool
+    ensures { λ r. ⌜ r ≡ size-fits n registers ⌝ }
+{
+    if n == 0 {
+        return false;
+    }
+    if MOST_NODES < n {
+        return false;
+    }
+    registers <= MOST_REGISTERS
+}
+
 // The whole image: its shape, with a work word for each node; or the first refusal, and then the first 2,000 work words are spoilt.
 pub fn read_image(work: &mut [u64], image: &[u32]) -> Shape
     requires { ⌜ most-nodes ≤ length (now work) ⌝ }
@@ -95,13 +113,7 @@ pub fn read_image(work: &mut [u64], image: &[u32]) -> Shape
     }
     let n = image[0] as usize;
     let registers = image[1] as usize;
-    if n == 0 {
-        return Shape::Refused(2, 0);
-    }
-    if 2000 < n {
-        return Shape::Refused(2, 0);
-    }
-    if 16 < registers {
+    if !size_fits(n, registers) {
         return Shape::Refused(2, 0);
     }
     if image.len() != 2 + 2 * n {

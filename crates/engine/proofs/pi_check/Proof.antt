@@ -1,11 +1,11 @@
 -- The answer of `check` in three numbers.
-use Rattle.engine.proofs.CheckLaws.{replies-code, replies-command, replies-refused}
+use Rattle.engine.proofs.CheckNumbers.{replies-code, replies-command, replies-refused}
 use borrow.Author.Needs.{needs}
 use Rattle.engine.proofs.pi_check.Statement.{statement}
 use Rattle.engine.proofs.pi_check.Tie as tie
 use Rattle.engine.proofs.pi_check.Reads as reads
 use Rattle.engine.proofs.pi_check.Lts as lts
-use Rattle.engine.proofs.check.Reads as check-reads
+use Rattle.calls.proofs.check.Reads as check-reads
 
 check-requires : tie.Need-check-requires
 check-requires c κs = search needs

@@ -1,12 +1,12 @@
 -- The answer of `run` in five numbers.
-use Rattle.engine.proofs.ReplyLaws.{replied}
-use Rattle.engine.specs.declared.Ran.the-variants.{Number, Truth, Location, Nothing, Refused}
+use Rattle.engine.proofs.RunNumbers.{called}
+use Rattle.calls.specs.declared.Ran.the-variants.{Number, Truth, Location, Nothing, Refused}
 use borrow.Author.Needs.{needs}
 use Rattle.engine.proofs.pi_run.Statement.{statement}
 use Rattle.engine.proofs.pi_run.Tie as tie
 use Rattle.engine.proofs.pi_run.Reads as reads
 use Rattle.engine.proofs.pi_run.Lts as lts
-use Rattle.engine.proofs.run.Reads as run-reads
+use Rattle.calls.proofs.run.Reads as run-reads
 
 run-requires : tie.Need-run-requires
 run-requires c κs = search needs
@@ -33,7 +33,7 @@ same-length-2 : tie.Need-same-length-2
 same-length-2 c = search needs
 
 returns : tie.Need-returns
-returns c = let done = c .before .before .before .before .before .before .before .run in (replied _ _ (Number _ _) (done .ensures .0) (c .before .answer .given .1), done .ensures .1)
+returns c = let done = c .before .before .before .before .before .before .before .run in called (Number _ _) (done .ensures) (c .before .answer .given .1)
 
 same-length-3 : tie.Need-same-length-3
 same-length-3 c = search needs
@@ -42,7 +42,7 @@ same-length-4 : tie.Need-same-length-4
 same-length-4 c = search needs
 
 returns-2 : tie.Need-returns-2
-returns-2 c = let done = c .before .before .before .before .before .before .before .run in (replied _ _ (Truth _ _) (done .ensures .0) (c .before .answer2 .given .1), done .ensures .1)
+returns-2 c = let done = c .before .before .before .before .before .before .before .run in called (Truth _ _) (done .ensures) (c .before .answer2 .given .1)
 
 same-length-5 : tie.Need-same-length-5
 same-length-5 c = search needs
@@ -51,7 +51,7 @@ same-length-6 : tie.Need-same-length-6
 same-length-6 c = search needs
 
 returns-3 : tie.Need-returns-3
-returns-3 c = let done = c .before .before .before .before .before .before .before .run in (replied _ _ (Location _ _) (done .ensures .0) (c .before .answer3 .given .1), done .ensures .1)
+returns-3 c = let done = c .before .before .before .before .before .before .before .run in called (Location _ _) (done .ensures) (c .before .answer3 .given .1)
 
 same-length-7 : tie.Need-same-length-7
 same-length-7 c = search needs
@@ -60,7 +60,7 @@ same-length-8 : tie.Need-same-length-8
 same-length-8 c = search needs
 
 returns-4 : tie.Need-returns-4
-returns-4 c = let done = c .before .before .before .before .before .before .before .run in (replied _ _ (Nothing _) (done .ensures .0) (c .before .answer4 .given .1), done .ensures .1)
+returns-4 c = let done = c .before .before .before .before .before .before .before .run in called (Nothing _) (done .ensures) (c .before .answer4 .given .1)
 
 same-length-9 : tie.Need-same-length-9
 same-length-9 c = search needs
@@ -69,7 +69,7 @@ same-length-10 : tie.Need-same-length-10
 same-length-10 c = search needs
 
 returns-5 : tie.Need-returns-5
-returns-5 c = let done = c .before .before .before .before .before .before .before .run in (replied _ _ (Refused _ _ _) (done .ensures .0) (c .before .answer5 .given .1), done .ensures .1)
+returns-5 c = let done = c .before .before .before .before .before .before .before .run in called (Refused _ _ _) (done .ensures) (c .before .answer5 .given .1)
 
 pub pi-run-spec : {M : Type 1} → statement M
 pi-run-spec =

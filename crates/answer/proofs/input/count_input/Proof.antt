@@ -1,12 +1,15 @@
 -- count_input: the tests in their order.
+use mathlib.Core.Path.{sym, _∙_}
 use denote.Ref.{now}
-use Rattle.answer.proofs.InputLaws.{too-short, no-nodes, many-nodes, many-registers, miscounted, counted}
+use borrow.Author.Tests.{not-true, not-false}
+use Rattle.answer.proofs.InputLaws.{too-short, missized, miscounted, counted}
 use borrow.Author.Needs.{needs}
 use Rattle.answer.proofs.input.count_input.Statement.{statement}
 use Rattle.answer.proofs.input.count_input.Tie as tie
 use Rattle.answer.proofs.input.count_input.Reads as reads
 use Rattle.answer.proofs.input.count_input.Lts as lts
-use Rattle.answer.proofs.input.word_at.Reads as word-at-reads
+use Rattle.little_endian.proofs.word_at.Reads as word-at-reads
+use Rattle.reader.proofs.size_fits.Reads as size-fits-reads
 
 returns : tie.Need-returns
 returns c = too-short (now (c .before .before .args .input)) (c .if1 .taken)
@@ -23,32 +26,35 @@ word-at-requires-2 c κs = search needs
 cast-count : tie.Need-cast-count
 cast-count c = search needs
 
+size-fits-requires : tie.Need-size-fits-requires
+size-fits-requires c κs = search needs
+
 returns-2 : tie.Need-returns-2
-returns-2 c = no-nodes _ _ _ (c .before .before .word-at .ensures) (c .before .word-at2 .ensures) (c .before .before .before .if1 .left) (c .if2 .taken)
+returns-2 c =
+    missized _ _ _ (c .before .before .before .word-at .ensures) (c .before .before .word-at2 .ensures) (c .before .before .before .before .if1 .left)
+    (sym (c .before .size-fits .ensures) ∙ not-true (c .before .size-fits .result) (c .if2 .taken))
+
+mul-if3 : tie.Need-mul-if3
+mul-if3 c = search needs
+
+add-if3 : tie.Need-add-if3
+add-if3 c = search needs
+
+mul-if3-2 : tie.Need-mul-if3-2
+mul-if3-2 c = search needs
+
+add-if3-2 : tie.Need-add-if3-2
+add-if3-2 c = search needs
 
 returns-3 : tie.Need-returns-3
-returns-3 c = many-nodes _ _ _ (c .before .before .before .word-at .ensures) (c .before .before .word-at2 .ensures) (c .before .before .before .before .if1 .left) (c .before .if2 .left) (c .if3 .taken)
+returns-3 c =
+    miscounted _ _ _ (c .before .before .before .before .word-at .ensures) (c .before .before .before .word-at2 .ensures) (c .before .before .before .before .before .if1 .left)
+    (sym (c .before .before .size-fits .ensures) ∙ not-false (c .before .before .size-fits .result) (c .before .if2 .left)) (c .if3 .taken)
 
 returns-4 : tie.Need-returns-4
-returns-4 c = many-registers _ _ _ (c .before .before .before .before .word-at .ensures) (c .before .before .before .word-at2 .ensures) (c .before .before .before .before .before .if1 .left) (c .before .before .if2 .left) (c .before .if3 .left) (c .if4 .taken)
-
-mul-if5 : tie.Need-mul-if5
-mul-if5 c = search needs
-
-add-if5 : tie.Need-add-if5
-add-if5 c = search needs
-
-mul-if5-2 : tie.Need-mul-if5-2
-mul-if5-2 c = search needs
-
-add-if5-2 : tie.Need-add-if5-2
-add-if5-2 c = search needs
-
-returns-5 : tie.Need-returns-5
-returns-5 c = miscounted _ _ _ (c .before .before .before .before .before .word-at .ensures) (c .before .before .before .before .word-at2 .ensures) (c .before .before .before .before .before .before .if1 .left) (c .before .before .before .if2 .left) (c .before .before .if3 .left) (c .before .if4 .left) (c .if5 .taken)
-
-returns-6 : tie.Need-returns-6
-returns-6 c = counted _ _ _ (c .before .before .before .before .before .word-at .ensures) (c .before .before .before .before .word-at2 .ensures) (c .before .before .before .before .before .before .if1 .left) (c .before .before .before .if2 .left) (c .before .before .if3 .left) (c .before .if4 .left) (c .if5 .left)
+returns-4 c =
+    counted _ _ _ (c .before .before .before .before .word-at .ensures) (c .before .before .before .word-at2 .ensures) (c .before .before .before .before .before .if1 .left)
+    (sym (c .before .before .size-fits .ensures) ∙ not-false (c .before .before .size-fits .result) (c .before .if2 .left)) (c .if3 .left)
 
 pub count-input-spec : {M : Type 1} → statement M
 count-input-spec =
@@ -59,12 +65,11 @@ count-input-spec =
     cast-nodes
     word-at-requires-2
     cast-count
+    size-fits-requires
     returns-2
+    mul-if3
+    add-if3
+    mul-if3-2
+    add-if3-2
     returns-3
-    returns-4
-    mul-if5
-    add-if5
-    mul-if5-2
-    add-if5-2
-    returns-5
-    returns-6)
+    returns-4)

@@ -3,7 +3,7 @@ use mathlib.Core.Path.{_≡_, sym, subst}
 use denote.Ref.{now}
 use lib.Seq.{length-take-le}
 use Rattle.rules.specs.paper.Engine.{checker}
-use Rattle.engine.specs.Answers.{Replies}
+use Rattle.engine.specs.Replies.{Replies}
 use borrow.Author.Needs.{needs}
 use Rattle.engine.proofs.bytes.pi_check_bytes.Statement.{statement}
 use Rattle.engine.proofs.bytes.pi_check_bytes.Tie as tie

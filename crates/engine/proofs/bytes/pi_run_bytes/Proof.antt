@@ -2,7 +2,9 @@
 use mathlib.Core.Path.{_≡_, sym, subst}
 use denote.Ref.{now}
 use lib.Seq.{length-take-le}
-use Rattle.engine.proofs.BytesRun.{LeavesBytes, work-refused, budget-refused}
+use Rattle.engine.specs.Bytes.{register-bytes, run-call-registers}
+use Rattle.engine.specs.Replies.{RunCalled}
+use Rattle.engine.proofs.BytesRun.{work-refused, budget-refused}
 use borrow.Author.Needs.{needs}
 use Rattle.engine.proofs.bytes.pi_run_bytes.Statement.{statement}
 use Rattle.engine.proofs.bytes.pi_run_bytes.Tie as tie
@@ -47,7 +49,7 @@ returns-3 c =
     let start = c .before .before .before .before .before .before .before .before .before .before .before .before .before .before .before .before in
     let run = c .before .before .before .before .run-registers in
     let words = c .before .before .before .before .before .before .before .before .before .unpack-image .ensures .1 in
-    subst (λ image. LeavesBytes image (now (start .args .registers)) (start .args .budget) (now (start .args .work)) (run .result) (run .last .1 .0) (run .last .1 .1 .1 .0)) words (run .ensures)
+    subst (λ image. RunCalled (register-bytes (now (start .args .registers))) (run-call-registers image (now (start .args .registers)) (start .args .budget) (now (start .args .work))) (run .result) (run .last .1 .0) (run .last .1 .1 .1 .0)) words (run .ensures)
 
 pub pi-run-bytes-spec : {M : Type 1} → statement M
 pi-run-bytes-spec =

@@ -5,6 +5,8 @@ use native.Mathlib.Omega.{arith}
 use denote.Ref.{now}
 use lib.ListN.{length, take, replicate}
 use lib.Seq.{length-take-le}
+use Rattle.engine.specs.Bytes.{too-many-registers}
+use Rattle.rules.specs.paper.Limits.{most-registers}
 use Rattle.engine.specs.BytesKept.{count-whole}
 use Rattle.engine.proofs.BytesRun.{odd-bytes, many-bytes, some-bytes, no-registers, some-registers}
 use borrow.Author.Needs.{needs}
@@ -15,8 +17,8 @@ use Rattle.engine.proofs.bytes.run_registers.Lts as lts
 use Rattle.engine.proofs.bytes.run_values.Reads as run-values-reads
 use Rattle.engine.proofs.pi_run.Reads as pi-run-reads
 
-few-values : (count : ℕ) → count ≤ 16 → length {A = ℕ} (take count (replicate 17 0)) ≡ count
-few-values count h = length-take-le {A = ℕ} count (replicate 17 0) (omega (arith, h))
+few-values : (count : ℕ) → count ≤ most-registers → length {A = ℕ} (take count (replicate too-many-registers 0)) ≡ count
+few-values count h = length-take-le {A = ℕ} count (replicate too-many-registers 0) (omega (arith, h))
 
 slice-aggregate-pi-run : tie.Need-slice-aggregate-pi-run
 slice-aggregate-pi-run c = search needs
@@ -31,7 +33,7 @@ returns : tie.Need-returns
 returns c =
     let start = c .before .before .before .before .before .before .before .before .before .before in
     let answered = c .before .before .before .pi-run .ensures in
-    no-registers (now (start .args .image)) (now (start .args .registers)) (start .args .budget) (now (start .args .work)) _ _ (odd-bytes _ (c .before .before .before .before .before .before .if1 .taken)) (answered .0) (answered .1 .1)
+    no-registers (now (start .args .image)) (now (start .args .registers)) (start .args .budget) (now (start .args .work)) _ _ _ (odd-bytes _ (c .before .before .before .before .before .before .if1 .taken)) answered
 
 slice-aggregate-pi-run-2 : tie.Need-slice-aggregate-pi-run-2
 slice-aggregate-pi-run-2 c = search needs
@@ -46,7 +48,7 @@ returns-2 : tie.Need-returns-2
 returns-2 c =
     let start = c .before .before .before .before .before .before .before .before .before .before .before in
     let answered = c .before .before .before .pi-run2 .ensures in
-    no-registers (now (start .args .image)) (now (start .args .registers)) (start .args .budget) (now (start .args .work)) _ _ (many-bytes _ (c .before .before .before .before .before .before .before .if1 .left) (c .before .before .before .before .before .before .if2 .taken)) (answered .0) (answered .1 .1)
+    no-registers (now (start .args .image)) (now (start .args .registers)) (start .args .budget) (now (start .args .work)) _ _ _ (many-bytes _ (c .before .before .before .before .before .before .before .if1 .left) (c .before .before .before .before .before .before .if2 .taken)) answered
 
 array-borrow-prefix-values : tie.Need-array-borrow-prefix-values
 array-borrow-prefix-values c = search needs
@@ -57,7 +59,7 @@ slice-aggregate-run-values c = sym (few-values (length (now (c .before .before .
 run-values-requires : tie.Need-run-values-requires
 run-values-requires c κs =
     let bytes = length (now (c .before .before .before .before .before .before .before .before .args .registers)) in
-    omega (arith, few-values (bytes / 8) (c .before .before .before .if2 .left), count-whole 8 16 bytes (some-bytes bytes (c .before .before .before .before .if1 .left) (c .before .before .before .if2 .left)))
+    omega (arith, few-values (bytes / 8) (c .before .before .before .if2 .left), count-whole 8 most-registers bytes (some-bytes bytes (c .before .before .before .before .if1 .left) (c .before .before .before .if2 .left)))
 
 same-length-3 : tie.Need-same-length-3
 same-length-3 c = search needs
@@ -70,7 +72,7 @@ returns-3 c =
     let start = c .before .before .before .before .before .before .before .before .before .before .before .before .before .before in
     let bytes = length (now (start .args .registers)) in
     let answered = c .before .before .before .before .before .run-values .ensures in
-    some-registers (now (start .args .image)) (now (start .args .registers)) (start .args .budget) (now (start .args .work)) _ _ _ _ (some-bytes bytes (c .before .before .before .before .before .before .before .before .before .before .if1 .left) (c .before .before .before .before .before .before .before .before .before .if2 .left)) (few-values (bytes / 8) (c .before .before .before .before .before .before .before .before .before .if2 .left)) (answered .0) (answered .1 .0) (answered .1 .1)
+    some-registers (now (start .args .image)) (now (start .args .registers)) (start .args .budget) (now (start .args .work)) _ _ _ _ (some-bytes bytes (c .before .before .before .before .before .before .before .before .before .before .if1 .left) (c .before .before .before .before .before .before .before .before .before .if2 .left)) (few-values (bytes / 8) (c .before .before .before .before .before .before .before .before .before .if2 .left)) answered
 
 pub run-registers-spec : {M : Type 1} → statement M
 run-registers-spec =

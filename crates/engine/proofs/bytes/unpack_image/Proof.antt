@@ -5,6 +5,7 @@ use native.Mathlib.Omega.{arith}
 use denote.Ref.{now}
 use lib.ListN.{length}
 use lib.Seq.{length-take-le}
+use Rattle.calls.specs.Sizes.{most-image-words}
 use Rattle.engine.specs.Bytes.{image-count}
 use Rattle.engine.proofs.BytesCounts.{image-count-fits, unpacked}
 use borrow.Author.Needs.{needs}
@@ -13,9 +14,9 @@ use Rattle.engine.proofs.bytes.unpack_image.Tie as tie
 use Rattle.engine.proofs.bytes.unpack_image.Reads as reads
 use Rattle.engine.proofs.bytes.unpack_image.Lts as lts
 use Rattle.engine.proofs.bytes.image_count.Reads as image-count-reads
-use Rattle.engine.proofs.bytes.unpack_words.Reads as unpack-words-reads
+use Rattle.little_endian.proofs.unpack_words.Reads as unpack-words-reads
 
-room : (bytes count words : ℕ) → count ≡ image-count bytes → 4002 ≤ words → count ≤ words
+room : (bytes count words : ℕ) → count ≡ image-count bytes → most-image-words ≤ words → count ≤ words
 room bytes count words counted h = omega (arith, counted, h, image-count-fits bytes .0)
 
 image-count-requires : tie.Need-image-count-requires

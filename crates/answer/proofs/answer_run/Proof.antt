@@ -1,0 +1,34 @@
+-- answer_run: the run and the page.
+use Rattle.answer.proofs.PageLaws.{ran-put}
+use borrow.Author.Needs.{needs}
+use Rattle.answer.proofs.answer_run.Statement.{statement}
+use Rattle.answer.proofs.answer_run.Tie as tie
+use Rattle.answer.proofs.answer_run.Reads as reads
+use Rattle.answer.proofs.answer_run.Lts as lts
+use Rattle.answer.proofs.lines.put_page.Reads as put-page-reads
+use Rattle.calls.proofs.run.Reads as run-reads
+
+run-requires : tie.Need-run-requires
+run-requires c κs = search needs
+
+put-page-requires : tie.Need-put-page-requires
+put-page-requires c κs = search needs
+
+same-length : tie.Need-same-length
+same-length c = search needs
+
+same-length-2 : tie.Need-same-length-2
+same-length-2 c = search needs
+
+same-length-3 : tie.Need-same-length-3
+same-length-3 c = search needs
+
+returns : tie.Need-returns
+returns c =
+    let known = c .before .before .before .before .before .before .before .before .before .before .before .before .before .before .slice-known .given in
+    ran-put _ _ _ _ _ _ _ _ _ (λ i h. known i .fits) (c .before .before .before .before .before .before .before .before .before .run .ensures) (c .before .before .put-page .ensures)
+
+pub answer-run-spec : {M : Type 1} → statement M
+answer-run-spec =
+    tie.close
+    (tie.spec run-requires put-page-requires same-length same-length-2 same-length-3 returns)

@@ -1,0 +1,4 @@
+mod CheckLaws
+mod ExecuteLaws
+mod OrderLaws
+mod PerformLaws

@@ -1,0 +1,198 @@
+-- The tests before a run, in their order: 22, 21, the image, 20.
+use Prim.Native.Nat.{ℕ, _<_, _≤_}
+use mathlib.Core.Path.{_≡_, refl, sym, ap, _∙_, subst}
+use mathlib.Core.Bool.{Bool, true, false, cond}
+use mathlib.Core.List.{List, [], _∷_}
+use native.Mathlib.Omega.{arith}
+use borrow.Author.Tests.{le-ltb, lt-ltb, le-leb, lt-leb, eq-eqb, ne-eqb}
+use lib.Dec.{T, eqb, leb, ltb}
+use lib.IntN.{ℤ}
+use lib.ListN.{length, getD}
+use Rattle.rules.specs.paper.Limits.{codes, work-words, most-budget}
+use Rattle.rules.specs.paper.Refusals.{Refusal, refusal-number}
+use Rattle.rules.specs.paper.Refusals as Refusals
+use Rattle.rules.specs.paper.Tree.{Root}
+use Rattle.rules.specs.paper.Checker.{Passed, expression-of-code, a-command}
+use Rattle.rules.specs.paper.Engine.{Checked, turned-back, passed, check-image, run-checked, refusing, Called, engine, cleared, finish, start}
+use Rattle.rules.specs.paper.Run.{Ending, ended, stopped, lost, run}
+use Rattle.integers.specs.Words.{integers-of, words-of}
+use Rattle.integers.specs.WordLaws.{integers-length, words-back}
+use Rattle.reader.specs.Stored.{RootAt}
+use Rattle.reader.specs.Put.{KeptBeyond}
+use Rattle.checker.specs.Commands.{command-number, root-number}
+use Rattle.loader.specs.Answers.{LoadAnswer}
+use Rattle.loader.specs.declared.Loaded.{Loaded}
+use Rattle.loader.specs.declared.Loaded.the-variants as Load
+use Rattle.loader.proofs.LoadLaws.{beyond-then}
+use Rattle.calls.specs.Runs.{run-reply, run-call, RanAs, Performed, RunOf, run-of-image}
+use Rattle.calls.specs.declared.Ran.{Ran}
+use Rattle.calls.specs.declared.Ran.the-variants.{Refused}
+use Rattle.calls.proofs.CheckLaws.{cleared-same}
+
+-- ---- What was loaded.
+
+pub record FoundPassed (image : List ℕ) (registers : ℕ) (a : Passed) (before after : List ℕ) : Type 0 where
+  pub tree : Root
+  pub passes : check-image image ≡ passed registers tree a
+  pub stands : RootAt after tree
+  pub beyond : KeptBeyond work-words before after
+
+-- What the root is, by its number.
+pub record FoundRoot (image : List ℕ) (number registers : ℕ) (before after : List ℕ) : Type 0 where
+  pub root : Passed
+  pub number-is : number ≡ root-number root
+  pub code-low : (k : ℕ) → root ≡ expression-of-code k → k < codes
+  pub found : FoundPassed image registers root before after
+
+same-root : (e : Loaded) (number n nodes other-number m other-nodes : ℕ) → e ≡ Load.Passed number n nodes → e ≡ Load.Passed other-number m other-nodes → number ≡ other-number
+same-root e number n nodes other-number m other-nodes p q = cc
+
+same-count : (e : Loaded) (number n nodes other-number m other-nodes : ℕ) → e ≡ Load.Passed number n nodes → e ≡ Load.Passed other-number m other-nodes → m ≡ n
+same-count e number n nodes other-number m other-nodes p q = cc
+
+same-refusal : (e : Loaded) (x p y q : ℕ) → e ≡ Load.Refused x p → e ≡ Load.Refused y q → Refused x p 0 ≡ Refused y q 0
+same-refusal e x p y q g h = cc
+
+passed-refused : (e : Loaded) (number n nodes x p : ℕ) → e ≡ Load.Passed number n nodes → e ≡ Load.Refused x p → ⊥
+passed-refused e number n nodes x p g h = let z : _≡_ {A = ℕ} 0 1 = cc in omega arith
+
+module _ (image before after : List ℕ) (e : Loaded) (a : LoadAnswer (check-image image) e before after) where
+  module _ (number n nodes : ℕ) (q : e ≡ Load.Passed number n nodes) where
+    pub found-root : FoundRoot image number n before after
+    found-root = by (check-image image) refl a
+      where
+        by : (k : Checked) → check-image image ≡ k → LoadAnswer k e before after → FoundRoot image number n before after
+        by (turned-back x p) u t = absurd (passed-refused e number n nodes (refusal-number x) p q (t .answer))
+        by (passed r t c) u f =
+            record {
+              root = c;
+              number-is = same-root e number n nodes (root-number c) r _ q (f .answer);
+              code-low = f .code-low;
+              found = record { tree = t; passes = u ∙ ap (λ i. passed i t c) (same-count e number n nodes (root-number c) r _ q (f .answer)); stands = f .stands; beyond = f .beyond };
+            }
+
+    pub found-command : number ≡ command-number → FoundPassed image n a-command before after
+    found-command eight = let o = found-root in by (o .root) (o .number-is) (o .code-low) (o .found)
+      where
+        by : (c : Passed) → number ≡ root-number c → ((k : ℕ) → c ≡ expression-of-code k → k < codes) → FoundPassed image n c before after → FoundPassed image n a-command before after
+        by (expression-of-code k) is low f = absurd (omega (arith, is, eight, low k refl))
+        by a-command is low f = f
+
+    pub found-expression : (number ≡ command-number → ⊥) → FoundPassed image n (expression-of-code number) before after
+    found-expression other = let o = found-root in by (o .root) (o .number-is) (o .found)
+      where
+        by : (c : Passed) → number ≡ root-number c → FoundPassed image n c before after → FoundPassed image n (expression-of-code number) before after
+        by (expression-of-code k) is f = subst (λ i. FoundPassed image n (expression-of-code i) before after) (sym is) f
+        by a-command is f = absurd (other is)
+
+  -- The image is refused: 0 steps, and the registers are kept.
+  pub image-refused : (registers : List ℕ) (budget x p : ℕ) → ((i : ℕ) → i < length registers → getD registers i 0 < 18446744073709551616) → e ≡ Load.Refused x p →
+      Performed (run-checked (check-image image) (integers-of registers) budget []) (Refused x p 0) registers before after
+  image-refused registers budget x p low q = by (check-image image) a
+    where
+      by : (k : Checked) → LoadAnswer k e before after → Performed (run-checked k (integers-of registers) budget []) (Refused x p 0) registers before after
+      by (turned-back y o) t = record { reply-is = same-refusal e x p (refusal-number y) o q (t .answer); registers-are = sym (words-back registers low); beyond = t .beyond }
+      by (passed r t c) f = absurd (passed-refused e _ r _ x p (f .answer) q)
+
+-- ---- 20.
+
+module _ (image registers : List ℕ) (n : ℕ) (a : Passed) (budget : ℕ) (before middle : List ℕ) (found : FoundPassed image n a before middle) where
+  pub count-refused : ((i : ℕ) → i < length registers → getD registers i 0 < 18446744073709551616) → (length registers ≡ n → ⊥) →
+      Performed (run-checked (check-image image) (integers-of registers) budget []) (Refused 20 0 0) registers before middle
+  unfolding refusal-number
+  count-refused low d =
+      subst (λ k. Performed (run-checked k (integers-of registers) budget []) (Refused 20 0 0) registers before middle) (sym (found .passes))
+      (subst (λ c. Performed c (Refused 20 0 0) registers before middle) (sym other) (record { reply-is = refl; registers-are = sym (words-back registers low); beyond = found .beyond }))
+    where
+      other : run-checked (passed n (found .tree) a) (integers-of registers) budget [] ≡ refusing Refusals.Registers 0 (integers-of registers) []
+      other = rw (ne-eqb (length (integers-of registers)) n (λ q. d (sym (integers-length registers) ∙ q)))
+
+  pub counted : length registers ≡ n → check-image image ≡ passed (length registers) (found .tree) a
+  counted q = found .passes ∙ ap (λ k. passed k (found .tree) a) (sym q)
+
+  pub run-performed : (r : Ran) (last after : List ℕ) → length registers ≡ n → Performed (RunOf registers (found .tree) budget) r last middle after →
+      Performed (run-of-image image registers budget) r last before after
+  run-performed r last after q done =
+      subst (λ k. Performed (run-checked k (integers-of registers) budget []) r last before after) (sym (counted q))
+      (subst (λ c. Performed c r last before after) (sym same)
+      (record { reply-is = done .reply-is; registers-are = done .registers-are; beyond = beyond-then (found .beyond) (done .beyond) }))
+    where
+      same : run-checked (passed (length registers) (found .tree) a) (integers-of registers) budget [] ≡ RunOf registers (found .tree) budget
+      same = rw (eq-eqb (length (integers-of registers)) (length registers) (integers-length registers))
+
+-- ---- A call's reply and registers do not depend on the work words that it is handed on.
+
+finish-reply : (r : ℕ) (ws vs : List ℕ) (e : Ending) → finish r ws e .reply ≡ finish r vs e .reply
+finish-reply r ws vs (ended k σ) = refl
+finish-reply r ws vs (stopped x k σ) = refl
+finish-reply r ws vs (lost k σ) = refl
+
+finish-registers : (r : ℕ) (ws vs : List ℕ) (e : Ending) → finish r ws e .registers ≡ finish r vs e .registers
+finish-registers r ws vs (ended k σ) = refl
+finish-registers r ws vs (stopped x k σ) = refl
+finish-registers r ws vs (lost k σ) = refl
+
+finish-work : (r : ℕ) (ws : List ℕ) (e : Ending) → finish r ws e .work ≡ ws
+finish-work r ws (ended k σ) = refl
+finish-work r ws (stopped x k σ) = refl
+finish-work r ws (lost k σ) = refl
+
+module _ (zs : List ℤ) (budget : ℕ) (ws vs : List ℕ) where
+  reply-same : (k : Checked) → run-checked k zs budget ws .reply ≡ run-checked k zs budget vs .reply
+  reply-same (turned-back x p) = refl
+  reply-same (passed r t c) = by (eqb (length zs) r)
+    where
+      by : (b : Bool) → cond b (finish r ws (run budget 0 (start r t zs))) (refusing Refusals.Registers 0 zs ws) .reply ≡ cond b (finish r vs (run budget 0 (start r t zs))) (refusing Refusals.Registers 0 zs vs) .reply
+      by true = finish-reply r ws vs (run budget 0 (start r t zs))
+      by false = refl
+
+  registers-same : (k : Checked) → run-checked k zs budget ws .registers ≡ run-checked k zs budget vs .registers
+  registers-same (turned-back x p) = refl
+  registers-same (passed r t c) = by (eqb (length zs) r)
+    where
+      by : (b : Bool) → cond b (finish r ws (run budget 0 (start r t zs))) (refusing Refusals.Registers 0 zs ws) .registers ≡ cond b (finish r vs (run budget 0 (start r t zs))) (refusing Refusals.Registers 0 zs vs) .registers
+      by true = finish-registers r ws vs (run budget 0 (start r t zs))
+      by false = refl
+
+  work-same : (k : Checked) → run-checked k zs budget ws .work ≡ ws
+  work-same (turned-back x p) = refl
+  work-same (passed r t c) = by (eqb (length zs) r)
+    where
+      by : (b : Bool) → cond b (finish r ws (run budget 0 (start r t zs))) (refusing Refusals.Registers 0 zs ws) .work ≡ ws
+      by true = finish-work r ws (run budget 0 (start r t zs))
+      by false = refl
+
+-- ---- 22 and 21: nothing is touched.
+
+module _ (image registers : List ℕ) (budget : ℕ) (work : List ℕ) (low : (i : ℕ) → i < length registers → getD registers i 0 < 18446744073709551616) where
+  as-called : (c : Called) (r : Ran) (last-registers last-work : List ℕ) → run-call image registers budget work ≡ c → r ≡ run-reply (c .reply) → last-registers ≡ words-of (c .registers) → last-work ≡ c .work →
+      RanAs (run-call image registers budget work) r last-registers last-work
+  as-called c r last-registers last-work e p q s =
+      record { answer-is = p ∙ sym (ap (λ k. run-reply (k .reply)) e); registers-are = q ∙ sym (ap (λ k. words-of (k .registers)) e); work-is = s ∙ sym (ap (λ k. k .work) e) }
+
+  pub work-refused : length work < work-words → RanAs (run-call image registers budget work) (Refused 22 0 0) registers work
+  unfolding refusal-number
+  work-refused h = as-called (refusing Refusals.Work 0 (integers-of registers) work) (Refused 22 0 0) registers work little refl (sym (words-back registers low)) refl
+    where
+      little : run-call image registers budget work ≡ refusing Refusals.Work 0 (integers-of registers) work
+      little = unfold engine in (rw (lt-ltb (length work) work-words h))
+
+  pub budget-refused : work-words ≤ length work → most-budget < budget → RanAs (run-call image registers budget work) (Refused 21 0 0) registers work
+  unfolding refusal-number
+  budget-refused room h = as-called (refusing Refusals.Budget 0 (integers-of registers) work) (Refused 21 0 0) registers work much refl (sym (words-back registers low)) refl
+    where
+      much : run-call image registers budget work ≡ refusing Refusals.Budget 0 (integers-of registers) work
+      much = unfold engine in (rw (le-ltb (length work) work-words room, lt-leb budget most-budget h))
+
+  -- ---- Every other call: what was performed, and the first 8,192 work words 0.
+
+  pub performed : work-words ≤ length work → budget ≤ most-budget → (r : Ran) (last after cleared-after : List ℕ) →
+      Performed (run-of-image image registers budget) r last work after → cleared-after ≡ cleared after → RanAs (run-call image registers budget work) r last cleared-after
+  performed room few r last after cleared-after done q =
+      as-called (run-checked (check-image image) (integers-of registers) budget (cleared work)) r last cleared-after body
+      (done .reply-is ∙ ap run-reply (reply-same (integers-of registers) budget [] (cleared work) (check-image image)))
+      (done .registers-are ∙ ap words-of (registers-same (integers-of registers) budget [] (cleared work) (check-image image)))
+      (q ∙ cleared-same work after (done .beyond) ∙ sym (work-same (integers-of registers) budget (cleared work) [] (check-image image)))
+    where
+      body : run-call image registers budget work ≡ run-checked (check-image image) (integers-of registers) budget (cleared work)
+      body = unfold engine in (rw (le-ltb (length work) work-words room, le-leb budget most-budget few))

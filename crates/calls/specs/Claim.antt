@@ -1,0 +1,65 @@
+-- Demand 3 for what `run` runs: which reached state its reply and its registers are taken from, with the whole-run claim about every
+-- state that the run reaches. `Delivered` has the proofs.
+use Prim.Native.Nat.{ℕ, _<_, _≤_}
+use mathlib.Core.Path.{_≡_}
+use mathlib.Core.List.{List, []}
+use lib.IntN.{ℤ}
+use lib.ListN.{length, getD}
+use Rattle.rules.specs.paper.Tree.{Root}
+use Rattle.rules.specs.paper.Refusals.{Reason, Withheld}
+use Rattle.rules.specs.paper.Limits.{most-budget, work-words}
+use Rattle.rules.specs.paper.Checker.{Passed}
+use Rattle.rules.specs.paper.States.{State, control-of, values-of, store-of}
+use Rattle.rules.specs.paper.Rules.{Rule, Effect, Applies}
+use Rattle.rules.specs.paper.Engine.{check-image, passed, start, Answer, outcome, refused, outcome-of, registers-from, Called, engine}
+use Rattle.rules.specs.claims.History.{History, Reach}
+use Rattle.rules.specs.claims.Claim.{StateClaim, StepWithheld, AllInRange}
+use Rattle.rules.specs.claims.Ends.{FinalValues}
+use Rattle.integers.specs.Words.{integers-of, words-of}
+use Rattle.calls.specs.Runs.{ran, run-reply, run-call}
+use Rattle.calls.specs.declared.Ran.{Ran}
+
+-- The answer that a state with these steps made comes to: control is empty, and what is left is the outcome; or the step is withheld
+-- for a reason that holds, the lowest.
+pub data AnsweredAt (a : Passed) (budget steps : ℕ) (σ : State) (h : History) : Answer → Type 0 where
+  at-its-end : control-of σ ≡ [] → FinalValues a (h .made-types) (values-of σ) → AnsweredAt a budget steps σ h (outcome (outcome-of (values-of σ)))
+  withheld-there : {x : Reason} (rule : Rule) (e : Effect) → Applies rule σ e → (w : StepWithheld budget steps e) → w .reason ≡ x → AnsweredAt a budget steps σ h (refused (Withheld x) 0)
+
+pub record Delivered (a : Passed) (r : ℕ) (first : State) (budget : ℕ) (c : Called) : Type 0 where
+  -- the state that the reply is taken from: the run reaches it with the steps that the reply reports
+  pub last : State
+  pub history : History
+  pub reached : Reach budget first r (c .reply .steps) last history
+  pub answered : AnsweredAt a budget (c .reply .steps) last history (c .reply .answer)
+  pub registers-are : c .registers ≡ registers-from 0 r (store-of last)
+  -- the claim of the rules about every state that the run reaches with control not empty
+  pub claimed : (steps : ℕ) (σ : State) (h : History) → Reach budget first r steps σ h → (control-of σ ≡ [] → ⊥) → StateClaim budget steps σ h
+
+-- For every passed image, one starting value per register, a permitted budget and enough work words.
+abbrev pub EngineDelivers : Type 0
+EngineDelivers =
+    (image : List ℕ) (r : ℕ) (t : Root) (a : Passed) → check-image image ≡ passed r t a →
+    (registers : List ℤ) → length registers ≡ r → AllInRange registers → (budget : ℕ) → budget ≤ most-budget → (work : List ℕ) → work-words ≤ length work →
+    Delivered a r (start r t registers) budget (engine image registers budget work)
+
+-- The same of the code's answer: `answer` and `last` stand for what `run` answers and leaves in its registers, which its contract gives by
+-- the two equations.
+pub record RunIsWhole (a : Passed) (registers : List ℕ) (t : Root) (budget : ℕ) (answer : Ran) (last : List ℕ) : Type 0 where
+  pub steps : ℕ
+  pub state-at-end : State
+  pub history : History
+  pub reached : Reach budget (start (length registers) t (integers-of registers)) (length registers) steps state-at-end history
+  pub what : Answer
+  pub answered : AnsweredAt a budget steps state-at-end history what
+  pub answer-is : answer ≡ ran what steps
+  pub registers-are : last ≡ words-of (registers-from 0 (length registers) (store-of state-at-end))
+  pub claimed : (k : ℕ) (σ : State) (h : History) → Reach budget (start (length registers) t (integers-of registers)) (length registers) k σ h → (control-of σ ≡ [] → ⊥) → StateClaim budget k σ h
+
+abbrev pub RunsAreWhole : Type 0
+RunsAreWhole =
+    (image registers : List ℕ) (budget : ℕ) (work : List ℕ) (answer : Ran) (last : List ℕ) →
+    -- the contract of `run`
+    answer ≡ run-reply (run-call image registers budget work .reply) → last ≡ words-of (run-call image registers budget work .registers) →
+    -- a passed image, one starting value per register, a permitted budget, enough work words
+    (t : Root) (a : Passed) → check-image image ≡ passed (length registers) t a → ((i : ℕ) → i < length registers → getD registers i 0 < 18446744073709551616) →
+    budget ≤ most-budget → work-words ≤ length work → RunIsWhole a registers t budget answer last

@@ -1,0 +1,5 @@
+pub mod Answers
+pub mod Claim
+pub mod Delivered
+pub mod Runs
+pub mod Sizes

@@ -1,0 +1,82 @@
+// The engine's two calls: the checker alone, and the run.
+mod perform;
+pub mod refusals;
+
+ghost use mathlib.Core.Path.{_≡_};
+ghost use Prim.Native.Nat.{_<_, _≤_};
+ghost use lib.ListN.{length};
+ghost use Rattle.rules.specs.paper.Engine.{checker};
+ghost use Rattle.calls.specs.Answers.{check-reply};
+ghost use Rattle.calls.specs.Runs.{run-call, RanAs};
+use crate::perform::run_image;
+use crate::refusals::REFUSED_BUDGET;
+use crate::refusals::REFUSED_WORK;
+use checker::COMMAND;
+use loader::Loaded;
+use loader::WORK_WORDS;
+use loader::clear;
+use loader::load;
+use reader::MOST_NODES;
+
+// How many steps a caller may permit at most.
+pub const MOST_BUDGET: u64 = 1000000;
+
+// How many words the largest image has: n, r, and a kind and an operand for each node.
+pub const MOST_IMAGE_WORDS: usize = 2 + 2 * MOST_NODES;
+
+// What a check answers: the root's code, a command, or a refusal with its place.
+pub enum Checked {
+    Code(usize),
+    Command,
+    Refused(u64, usize),
+}
+
+// What a run answers: the word of the number, truth or location that is left, or nothing, with the steps; or a refusal with its place and
+// the steps made.
+pub enum Ran {
+    Number(u64, u64),
+    Truth(u64, u64),
+    Location(u64, u64),
+    Nothing(u64),
+    Refused(u64, usize, u64),
+}
+
+// By `check-exact` (rules, ImageExact.antt) an image passes here exactly when it meets the paper's shape, scope and type rules.
+// The checker alone: any image words, any work words. Under 8,192 work words nothing is touched; every other call leaves the first
+// 8,192 of them 0 and the rest as they were.
+pub fn check(image: &[u32], work: &mut [u64]) -> Checked
+    ensures { λ r. ⌜ r ≡ check-reply (checker (now (image .entry)) (now (work .entry)) .answer) ⌝ }
+    ensures { λ r. ⌜ now (work .exit) ≡ checker (now (image .entry)) (now (work .entry)) .work ⌝ }
+{
+    if work.len() < WORK_WORDS {
+        return Checked::Refused(REFUSED_WORK, 0);
+    }
+    let loaded = load(image, work);
+    clear(work);
+    match loaded {
+        Loaded::Passed(number, registers, nodes) => {
+            if number == COMMAND {
+                return Checked::Command;
+            }
+            Checked::Code(number)
+        }
+        Loaded::Refused(number, place) => Checked::Refused(number, place),
+    }
+}
+
+// The run: any image words, any registers, any budget, any work words. Under 8,192 work words (22) or with a budget above 1,000,000 (21)
+// nothing is touched; every other call leaves the first 8,192 work words 0 and the rest as they were. The registers are words in two's
+// complement. A run that is refused before its first step keeps them; any other leaves in them what its last state has.
+pub fn run(image: &[u32], registers: &mut [u64], budget: u64, work: &mut [u64]) -> Ran
+    ensures { λ r. ⌜ RanAs (run-call (now (image .entry)) (now (registers .entry)) budget (now (work .entry))) r (now (registers .exit)) (now (work .exit)) ⌝ }
+{
+    if work.len() < WORK_WORDS {
+        return Ran::Refused(REFUSED_WORK, 0, 0);
+    }
+    if MOST_BUDGET < budget {
+        return Ran::Refused(REFUSED_BUDGET, 0, 0);
+    }
+    let answer = run_image(image, registers, budget, work);
+    clear(work);
+    answer
+}
