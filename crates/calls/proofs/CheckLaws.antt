@@ -1,16 +1,15 @@
 -- The checker alone: 22 first, then the image.
 use Prim.Native.Nat.{ℕ, _<_, _≤_}
-use mathlib.Core.Path.{_≡_, refl, sym, ap, _∙_, subst}
-use mathlib.Core.Bool.{cond}
+use mathlib.Core.Path.{_≡_, refl, sym, ap, _∙_}
 use mathlib.Core.List.{List, _++_}
 use native.Mathlib.Omega.{arith}
 use lib.Dec.{T, ltb, ltb→lt, lt→ltb}
-use lib.ListN.{length, drop, replicate}
+use lib.ListN.{length, replicate}
 use Rattle.rules.specs.proofs.Basics.{true-test, false-test}
 use Rattle.rules.specs.paper.Refusals.{refusal-number}
 use Rattle.rules.specs.paper.Limits.{work-words}
 use Rattle.rules.specs.paper.Checker.{expression-of-code, a-command}
-use Rattle.rules.specs.paper.Engine.{CheckAnswer, root-code, root-command, not-passed, checker, check-answer, check-image, cleared, turned-back, passed}
+use Rattle.rules.specs.paper.Engine.{checker, check-answer, check-image, cleared, turned-back, passed}
 use Rattle.rules.specs.paper.Engine as Rules
 use Rattle.reader.specs.Put.{KeptBeyond}
 use Rattle.checker.specs.Commands.{command-number}

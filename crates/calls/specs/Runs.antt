@@ -4,13 +4,13 @@ use mathlib.Core.Path.{_≡_}
 use mathlib.Core.List.{List, [], _∷_}
 use lib.ListN.{length}
 use Rattle.rules.specs.paper.Limits.{work-words}
-use Rattle.rules.specs.paper.Refusals.{Reason, reason-number, refusal-number}
+use Rattle.rules.specs.paper.Refusals.{reason-number, refusal-number}
 use Rattle.rules.specs.claims.Listing.{truth-word}
 use Rattle.rules.specs.paper.Tree.{Root}
 use Rattle.rules.specs.paper.Checker.{Passed}
 use Rattle.rules.specs.paper.States.{Value, integer, truth, location, Environment, Store, val, Item, State, store-of}
 use Rattle.rules.specs.paper.Run.{Ending, ended, stopped, lost, run}
-use Rattle.rules.specs.paper.Engine.{Outcome, number, truth-of, cell, nothing, Answer, outcome, refused, Reply, registers-from, Called, check-image, passed, finish, run-checked, start, engine}
+use Rattle.rules.specs.paper.Engine.{number, truth-of, cell, nothing, Answer, outcome, refused, Reply, registers-from, Called, check-image, passed, finish, run-checked, start, engine}
 use Rattle.integers.specs.Words.{word-of, integers-of, words-of}
 use Rattle.machine.specs.Steps.{Stands, Holds}
 use Rattle.machine.specs.declared.Machine.{Machine}

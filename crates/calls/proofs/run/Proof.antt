@@ -1,5 +1,4 @@
 -- run: 22, 21, then the image and the steps, and the work words cleared.
-use mathlib.Core.Path.{_≡_}
 use denote.Ref.{now}
 use Rattle.calls.proofs.OrderLaws.{work-refused, budget-refused, performed}
 use borrow.Author.Needs.{needs}

@@ -1,6 +1,4 @@
 -- The eight bytes as one number.
-use Prim.Native.Nat.{ℕ, _+_, _*_, _<_}
-use native.Mathlib.Omega.{arith}
 use denote.Ref.{now}
 use Rattle.little_endian.proofs.LoopLaws.{eight-bytes}
 use borrow.Author.Needs.{needs}

@@ -1,8 +1,7 @@
 -- The four bytes as one number.
-use Prim.Native.Nat.{ℕ, _+_, _*_, _<_}
+use Prim.Native.Nat.{_+_}
 use native.Mathlib.Omega.{arith}
 use denote.Ref.{now}
-use lib.ListN.{length, getD}
 use Rattle.little_endian.proofs.LoopLaws.{four-bytes}
 use borrow.Author.Needs.{needs}
 use Rattle.little_endian.proofs.word_at.Statement.{statement}

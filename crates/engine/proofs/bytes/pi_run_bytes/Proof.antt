@@ -1,5 +1,5 @@
 -- 22 and 21 first; then the image's words are unpacked and handed on.
-use mathlib.Core.Path.{_≡_, sym, subst}
+use mathlib.Core.Path.{sym, subst}
 use denote.Ref.{now}
 use lib.Seq.{length-take-le}
 use Rattle.engine.specs.Bytes.{register-bytes, run-call-registers}
