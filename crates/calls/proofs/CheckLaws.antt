@@ -16,31 +16,30 @@ use Rattle.checker.specs.Commands.{command-number}
 use Rattle.loader.specs.Answers.{LoadAnswer}
 use Rattle.loader.specs.declared.Loaded.{Loaded}
 use Rattle.loader.specs.declared.Loaded.the-variants as Load
-use Rattle.calls.specs.Answers.{check-reply, reply-refusal, reply-value, reply-place, Replies}
-use Rattle.calls.specs.declared.CheckReply.{CheckReply}
+use Rattle.calls.specs.Answers.{check-reply}
 use Rattle.calls.specs.declared.Checked.{Checked}
 use Rattle.calls.specs.declared.Checked.the-variants.{Code, Command, Refused}
 
 -- Under 8,192 work words: 22, and nothing is touched.
-pub little-room : (image work : List ℕ) → length work < 8192 → (Refused 22 0 ≡ check-reply (checker image work .answer)) × (work ≡ checker image work .work)
+pub little-room : (image work : List ℕ) → length work < work-words → (Refused 22 0 ≡ check-reply (checker image work .answer)) × (work ≡ checker image work .work)
 unfolding checker refusal-number
 little-room image work h = rw (true-test (ltb (length work) work-words) (lt→ltb (length work) work-words h)) (refl, refl)
 
-enough : (image work : List ℕ) → 8192 ≤ length work → checker image work ≡ record { answer = check-answer (check-image image); work = cleared work }
+enough : (image work : List ℕ) → work-words ≤ length work → checker image work ≡ record { answer = check-answer (check-image image); work = cleared work }
 unfolding checker
 enough image work h = rw (false-test (ltb (length work) work-words) (λ t. both (ltb→lt (length work) work-words t)))
   where
-    both : length work < 8192 → ⊥
+    both : length work < work-words → ⊥
     both l = omega (arith, l, h)
 
 pub cleared-same : (before after : List ℕ) → KeptBeyond work-words before after → cleared after ≡ cleared before
 unfolding cleared
 cleared-same before after b = ap (λ ws. replicate work-words 0 ++ ws) (b .same-beyond)
 
-room-answer : (image work : List ℕ) (r : Checked) → 8192 ≤ length work → r ≡ check-reply (check-answer (check-image image)) → r ≡ check-reply (checker image work .answer)
+room-answer : (image work : List ℕ) (r : Checked) → work-words ≤ length work → r ≡ check-reply (check-answer (check-image image)) → r ≡ check-reply (checker image work .answer)
 room-answer image work r h q = q ∙ sym (ap (λ c. check-reply (c .answer)) (enough image work h))
 
-pub room-work : (image work after last : List ℕ) → 8192 ≤ length work → KeptBeyond work-words work after → last ≡ cleared after → last ≡ checker image work .work
+pub room-work : (image work after last : List ℕ) → work-words ≤ length work → KeptBeyond work-words work after → last ≡ cleared after → last ≡ checker image work .work
 room-work image work after last h b q = q ∙ cleared-same work after b ∙ sym (ap (λ c. c .work) (enough image work h))
 
 -- ---- What was loaded, as the checker alone answers it.
@@ -54,7 +53,7 @@ same-root e number count nodes other-number other-count other-nodes g h = cc
 same-refusal : (e : Loaded) (x p y q : ℕ) → e ≡ Load.Refused x p → e ≡ Load.Refused y q → Refused x p ≡ Refused y q
 same-refusal e x p y q g h = cc
 
-module _ (image work after last : List ℕ) (e : Loaded) (room : 8192 ≤ length work) (a : LoadAnswer (check-image image) e work after) (q : last ≡ cleared after) where
+module _ (image work after last : List ℕ) (e : Loaded) (room : work-words ≤ length work) (a : LoadAnswer (check-image image) e work after) (q : last ≡ cleared after) where
   loaded-beyond : (c : Rules.Checked) → LoadAnswer c e work after → KeptBeyond work-words work after
   loaded-beyond (turned-back x p) t = t .beyond
   loaded-beyond (passed r t c) f = f .beyond
@@ -85,39 +84,3 @@ module _ (image work after last : List ℕ) (e : Loaded) (room : 8192 ≤ length
       by : (c : Rules.Checked) → LoadAnswer c e work after → Refused x p ≡ check-reply (check-answer c)
       by (turned-back y o) t = same-refusal e x p (refusal-number y) o g (t .answer)
       by (passed r t c) f = absurd (loaded-twice e _ r _ x p (f .answer) g)
-
--- ---- In three numbers.
-
-code-command : (k : Checked) (c : ℕ) → k ≡ Code c → k ≡ Command → ⊥
-code-command k c g h = let z : _≡_ {A = ℕ} 0 1 = cc in omega arith
-
-code-refused : (k : Checked) (c x p : ℕ) → k ≡ Code c → k ≡ Refused x p → ⊥
-code-refused k c x p g h = let z : _≡_ {A = ℕ} 0 1 = cc in omega arith
-
-command-refused : (k : Checked) (x p : ℕ) → k ≡ Command → k ≡ Refused x p → ⊥
-command-refused k x p g h = let z : _≡_ {A = ℕ} 0 1 = cc in omega arith
-
-same-code : (k : Checked) (c d : ℕ) → k ≡ Code c → k ≡ Code d → c ≡ d
-same-code k c d g h = cc
-
-same-number : (k : Checked) (x p y q : ℕ) → k ≡ Refused x p → k ≡ Refused y q → x ≡ y
-same-number k x p y q g h = cc
-
-same-place : (k : Checked) (x p y q : ℕ) → k ≡ Refused x p → k ≡ Refused y q → p ≡ q
-same-place k x p y q g h = cc
-
-pub replies-code : (a : CheckAnswer) (k : Checked) (c : ℕ) → k ≡ check-reply a → k ≡ Code c → Replies a (record { refusal = 0; value = c; place = 0 })
-replies-code (root-code d) k c g h = record { refusal-is = refl; value-is = same-code k c d h g; place-is = refl }
-replies-code root-command k c g h = absurd (code-command k c h g)
-replies-code (not-passed x p) k c g h = absurd (code-refused k c (refusal-number x) p h g)
-
-pub replies-command : (a : CheckAnswer) (k : Checked) → k ≡ check-reply a → k ≡ Command → Replies a (record { refusal = 0; value = 8; place = 0 })
-replies-command (root-code d) k g h = absurd (code-command k d g h)
-replies-command root-command k g h = record { refusal-is = refl; value-is = refl; place-is = refl }
-replies-command (not-passed x p) k g h = absurd (command-refused k (refusal-number x) p h g)
-
-pub replies-refused : (a : CheckAnswer) (k : Checked) (y q : ℕ) → k ≡ check-reply a → k ≡ Refused y q → Replies a (record { refusal = y; value = 0; place = q })
-replies-refused (root-code d) k y q g h = absurd (code-refused k d y q g h)
-replies-refused root-command k y q g h = absurd (command-refused k y q g h)
-replies-refused (not-passed x p) k y q g h =
-    record { refusal-is = same-number k y q (refusal-number x) p h g; value-is = refl; place-is = same-place k y q (refusal-number x) p h g }
