@@ -13,7 +13,7 @@ use Rattle.reader.specs.Stored.{HasWord, StoredFormals}
 
 -- The words that have the rows: that of a node stands at `rows-from` + its place, so that of a pointer at `pointers-from` + the pointer.
 abbrev pub rows-from : ℕ
-rows-from = 2000
+rows-from = most-nodes
 
 abbrev pub rows-end : ℕ
 rows-end = rows-from + most-nodes

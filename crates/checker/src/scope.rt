@@ -7,10 +7,11 @@ ghost use Rattle.rules.specs.paper.Checker.{Scope};
 ghost use Rattle.checker.specs.Rows.{rows-end, meaning-numbers, row-word, Rows, ScopeAt, RowFoundAt, NamesSharedAt};
 ghost use Rattle.checker.specs.Answers.{NameFoundAt, MeaningJudgedAt};
 use crate::codes::Answer;
+use reader::MOST_NODES;
 
 // Where the rows begin among the work words: a node's row stands at ROWS + its place. A pointer is one more than its row's node, so its
 // row stands at POINTERS + the pointer.
-pub(crate) const ROWS: usize = 2000;
+pub(crate) const ROWS: usize = MOST_NODES;
 
 const POINTERS: usize = ROWS - 1;
 

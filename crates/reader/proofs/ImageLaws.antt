@@ -15,8 +15,10 @@ use Rattle.rules.specs.paper.Reader.{Node, Got, refused, got, image, whole, siz
 use Rattle.rules.specs.claims.Listing.{root-nodes, image-words}
 use Rattle.rules.specs.proofs.reading.ReaderExact.{read-exact}
 use Rattle.reader.specs.Pack.{root-words}
-use Rattle.rules.specs.paper.Limits.{most-nodes}
+use Rattle.rules.specs.paper.Kinds.{a-root}
+use Rattle.rules.specs.paper.Limits.{most-nodes, most-depth}
 use Rattle.reader.specs.SizeLaws.{few-nodes}
+use Rattle.reader.specs.Tables.{sort-number}
 use Rattle.reader.specs.Put.{KeptBeyond, put-length, put-beyond}
 use Rattle.reader.specs.Answers.{nodes-at, Read-on, Outcome, ShapeAnswer}
 use Rattle.reader.specs.declared.Scanned.{Scanned}
@@ -30,8 +32,8 @@ use Rattle.reader.proofs.ReadLaws.{Node-outcome, node-here, nodes-past}
 
 pub short : (words work : List ℕ) → length words < 2 → ShapeAnswer (read words) (Shapes.Refused 1 0) work work
 unfolding read refusal-number
-short [] work h = record { answer = refl; kept = kept-same 2000 work }
-short (a ∷ []) work h = record { answer = refl; kept = kept-same 2000 work }
+short [] work h = record { answer = refl; kept = kept-same most-nodes work }
+short (a ∷ []) work h = record { answer = refl; kept = kept-same most-nodes work }
 short (a ∷ b ∷ words) work h = absurd (not-suc-le-zero (le-of-suc-le-suc (le-of-suc-le-suc h)))
 
 -- n or r
@@ -39,7 +41,7 @@ pub refuse-size : (words work : List ℕ) → 2 ≤ length words → size-fits (
 unfolding read refusal-number
 refuse-size [] work h q = absurd (not-suc-le-zero h)
 refuse-size (a ∷ []) work h q = absurd (not-suc-le-zero (le-of-suc-le-suc h))
-refuse-size (n ∷ r ∷ words) work h q = rw q (record { answer = refl; kept = kept-same 2000 work })
+refuse-size (n ∷ r ∷ words) work h q = rw q (record { answer = refl; kept = kept-same most-nodes work })
 
 pub refuse-length : (words work : List ℕ) → 2 ≤ length words → size-fits (getD words 0 0) (getD words 1 0) ≡ true →
     ¬ (length words ≡ 2 + 2 * getD words 0 0) → ShapeAnswer (read words) (Shapes.Refused 1 0) work work
@@ -47,14 +49,14 @@ unfolding read refusal-number
 refuse-length [] work h q l = absurd (not-suc-le-zero h)
 refuse-length (a ∷ []) work h q l = absurd (not-suc-le-zero (le-of-suc-le-suc h))
 refuse-length (n ∷ r ∷ words) work h q l =
-    rw (q, false-test (eqb (length words) (2 * n)) (λ t. l (longer (eqb→eq (length words) (2 * n) t)))) (record { answer = refl; kept = kept-same 2000 work })
+    rw (q, false-test (eqb (length words) (2 * n)) (λ t. l (longer (eqb→eq (length words) (2 * n) t)))) (record { answer = refl; kept = kept-same most-nodes work })
   where
     longer : length words ≡ 2 * n → suc (suc (length words)) ≡ 2 + 2 * n
     longer e = omega arith
 
 -- Where the length is right too, the nodes are read.
 read-nodes : (words : List ℕ) → 2 ≤ length words → size-fits (getD words 0 0) (getD words 1 0) ≡ true → length words ≡ 2 + 2 * getD words 0 0 →
-    read words ≡ whole (getD words 1 0) (read-root 64 0 (nodes-at words (getD words 0 0)))
+    read words ≡ whole (getD words 1 0) (read-root most-depth 0 (nodes-at words (getD words 0 0)))
 unfolding read
 read-nodes [] h q l = absurd (not-suc-le-zero h)
 read-nodes (a ∷ []) h q l = absurd (not-suc-le-zero (le-of-suc-le-suc h))
@@ -89,13 +91,13 @@ module _ (words work work′ : List ℕ) (r : Scanned) (h : 2 ≤ length words) 
   Root-outcome m = Outcome nodes n 0 (map-got root-words m) r work work′
 
   -- the root's reading by the rules
-  root-outcome : Node-outcome words n 0 6 64 r work work′ → Root-outcome (read-root 64 0 nodes)
-  root-outcome o = subst (λ m. Outcome nodes n 0 m r work work′) (sym (root-same 64 0 nodes)) o
+  root-outcome : Node-outcome words n 0 (sort-number a-root) most-depth r work work′ → Root-outcome (read-root most-depth 0 nodes)
+  root-outcome o = subst (λ m. Outcome nodes n 0 m r work work′) (sym (root-same most-depth 0 nodes)) o
 
   shape-by : (answer : Shape) → ((m : Got Root) → read words ≡ whole (getD words 1 0) m → Root-outcome m → ShapeAnswer (whole (getD words 1 0) m) answer work work′) →
-      Node-outcome words n 0 6 64 r work work′ → ShapeAnswer (read words) answer work work′
+      Node-outcome words n 0 (sort-number a-root) most-depth r work work′ → ShapeAnswer (read words) answer work work′
   shape-by answer k o =
-      subst (λ s. ShapeAnswer s answer work work′) (sym (read-nodes words h sized l)) (k (read-root 64 0 nodes) (read-nodes words h sized l) (root-outcome o))
+      subst (λ s. ShapeAnswer s answer work work′) (sym (read-nodes words h sized l)) (k (read-root most-depth 0 nodes) (read-nodes words h sized l) (root-outcome o))
 
   count-head : (t : Root) → read words ≡ image (getD words 1 0) t → n ≡ length (root-nodes t)
   unfolding image-words
@@ -105,11 +107,11 @@ module _ (words work work′ : List ℕ) (r : Scanned) (h : 2 ≤ length words) 
   kept-root new next left o =
       record {
         same-length = ap length (o .written) ∙ put-length 0 new work;
-        same-beyond = ap (drop 2000) (o .written) ∙ put-beyond 2000 0 new work (omega (arith, o .counted, o .within, few-nodes n (getD words 1 0) sized));
+        same-beyond = ap (drop most-nodes) (o .written) ∙ put-beyond most-nodes 0 new work (omega (arith, o .counted, o .within, few-nodes n (getD words 1 0) sized));
       }
 
   -- the whole tree was read
-  pub whole-image : (end : ℕ) → r ≡ Next end → end ≡ n → Node-outcome words n 0 6 64 r work work′ →
+  pub whole-image : (end : ℕ) → r ≡ Next end → end ≡ n → Node-outcome words n 0 (sort-number a-root) most-depth r work work′ →
       ShapeAnswer (read words) (Shapes.Image n (getD words 1 0)) work work′
   whole-image end e q = shape-by (Shapes.Image n (getD words 1 0)) by
     where
@@ -119,7 +121,7 @@ module _ (words work work′ : List ℕ) (r : Scanned) (h : 2 ≤ length words) 
       by (got t j (a ∷ rest)) w o = absurd (cons-ne-nil _ _ (o .remaining ∙ nodes-past words n l j (omega (arith, q, same-next r end j e (o .answer)))))
 
   -- nodes are left over
-  pub left-over : (end : ℕ) → r ≡ Next end → ¬ (end ≡ n) → Node-outcome words n 0 6 64 r work work′ →
+  pub left-over : (end : ℕ) → r ≡ Next end → ¬ (end ≡ n) → Node-outcome words n 0 (sort-number a-root) most-depth r work work′ →
       ShapeAnswer (read words) (Shapes.Refused 5 end) work work′
   unfolding refusal-number
   left-over end e q = shape-by (Shapes.Refused 5 end) by
@@ -130,7 +132,7 @@ module _ (words work work′ : List ℕ) (r : Scanned) (h : 2 ≤ length words) 
       by (got t j (a ∷ rest)) w o = record { answer = ap (Shapes.Refused 5) (same-next r end j e (o .answer)); kept = kept-root (root-words t) j (a ∷ rest) o }
 
   -- a node was refused
-  pub refused-image : (x p : ℕ) → r ≡ Refused x p → Node-outcome words n 0 6 64 r work work′ →
+  pub refused-image : (x p : ℕ) → r ≡ Refused x p → Node-outcome words n 0 (sort-number a-root) most-depth r work work′ →
       ShapeAnswer (read words) (Shapes.Refused x p) work work′
   refused-image x p e = shape-by (Shapes.Refused x p) by
     where
@@ -138,5 +140,5 @@ module _ (words work work′ : List ℕ) (r : Scanned) (h : 2 ≤ length words) 
       by (refused y q) w o = record { answer = same-refusal r x p (refusal-number y) q e (o .answer); kept = later (o .kept) }
         where
           later : KeptBeyond n work work′ → KeptBeyond most-nodes work work′
-          later k = record { same-length = k .same-length; same-beyond = further n 2000 work work′ (few-nodes n (getD words 1 0) sized) (k .same-beyond) }
+          later k = record { same-length = k .same-length; same-beyond = further n most-nodes work work′ (few-nodes n (getD words 1 0) sized) (k .same-beyond) }
       by (got t j rest) w o = absurd (two-answers r j x p (o .answer) e)

@@ -9,6 +9,7 @@ use native.Mathlib.Nat.{le-refl}
 use lib.Dec.{T, eqb, ltb, eqb→eq, eqb-refl, ltb→lt, lt→ltb, lit≤}
 use lib.ListN.{length}
 use Rattle.rules.specs.proofs.Basics.{missing, passed-test, failed-test}
+use Rattle.rules.specs.paper.Limits.{most-cells, most-bindings, most-value-entries, most-control-entries}
 use Rattle.rules.specs.paper.Refusals.{Reason, Steps, ZeroDivisor, OutOfRange, Cells, Bindings, ValueEntries, ControlEntries, reason-number}
 use Rattle.rules.specs.paper.States.{State, control-of, values-of, store-of, bindings-of}
 use Rattle.rules.specs.paper.Rules.{Effect, goes, fails}
@@ -147,10 +148,10 @@ unfolding holds
 holds→reason budget steps (goes τ) Steps t = budget-used (eqb→eq steps budget t)
 holds→reason budget steps (goes τ) ZeroDivisor t = absurd t
 holds→reason budget steps (goes τ) OutOfRange t = absurd t
-holds→reason budget steps (goes τ) Cells t = cells-full τ refl (ltb→lt 256 (length (store-of τ)) t)
-holds→reason budget steps (goes τ) Bindings t = bindings-full τ refl (ltb→lt 512 (bindings-of τ) t)
-holds→reason budget steps (goes τ) ValueEntries t = values-full τ refl (ltb→lt 512 (length (values-of τ)) t)
-holds→reason budget steps (goes τ) ControlEntries t = control-full τ refl (ltb→lt 512 (length (control-of τ)) t)
+holds→reason budget steps (goes τ) Cells t = cells-full τ refl (ltb→lt most-cells (length (store-of τ)) t)
+holds→reason budget steps (goes τ) Bindings t = bindings-full τ refl (ltb→lt most-bindings (bindings-of τ) t)
+holds→reason budget steps (goes τ) ValueEntries t = values-full τ refl (ltb→lt most-value-entries (length (values-of τ)) t)
+holds→reason budget steps (goes τ) ControlEntries t = control-full τ refl (ltb→lt most-control-entries (length (control-of τ)) t)
 holds→reason budget steps (fails x) Steps t = budget-used (eqb→eq steps budget t)
 holds→reason budget steps (fails x) ZeroDivisor t = divisor-zero (ap fails (zero-divisor-only x t))
 holds→reason budget steps (fails x) OutOfRange t = result-outside (ap fails (out-of-range-only x t))
@@ -168,7 +169,7 @@ reason→holds budget steps (goes τ) r (budget-used q) = used-up budget steps q
 reason→holds budget steps (fails x) r (budget-used q) = used-up budget steps q
 reason→holds budget steps e r (divisor-zero q) = subst (λ f. T (holds (eqb steps budget) f ZeroDivisor)) (sym q) tt
 reason→holds budget steps e r (result-outside q) = subst (λ f. T (holds (eqb steps budget) f OutOfRange)) (sym q) tt
-reason→holds budget steps e r (cells-full τ q h) = subst (λ f. T (holds (eqb steps budget) f Cells)) (sym q) (lt→ltb 256 (length (store-of τ)) h)
-reason→holds budget steps e r (bindings-full τ q h) = subst (λ f. T (holds (eqb steps budget) f Bindings)) (sym q) (lt→ltb 512 (bindings-of τ) h)
-reason→holds budget steps e r (values-full τ q h) = subst (λ f. T (holds (eqb steps budget) f ValueEntries)) (sym q) (lt→ltb 512 (length (values-of τ)) h)
-reason→holds budget steps e r (control-full τ q h) = subst (λ f. T (holds (eqb steps budget) f ControlEntries)) (sym q) (lt→ltb 512 (length (control-of τ)) h)
+reason→holds budget steps e r (cells-full τ q h) = subst (λ f. T (holds (eqb steps budget) f Cells)) (sym q) (lt→ltb most-cells (length (store-of τ)) h)
+reason→holds budget steps e r (bindings-full τ q h) = subst (λ f. T (holds (eqb steps budget) f Bindings)) (sym q) (lt→ltb most-bindings (bindings-of τ) h)
+reason→holds budget steps e r (values-full τ q h) = subst (λ f. T (holds (eqb steps budget) f ValueEntries)) (sym q) (lt→ltb most-value-entries (length (values-of τ)) h)
+reason→holds budget steps e r (control-full τ q h) = subst (λ f. T (holds (eqb steps budget) f ControlEntries)) (sym q) (lt→ltb most-control-entries (length (control-of τ)) h)
