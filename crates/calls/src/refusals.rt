@@ -1,10 +1,4 @@
-// The paper's numbers of the refusals that the calls and the program make themselves (`refusal-number` of the rules).
-
-// The image's length does not fit n, or there is no n and r.
-pub const REFUSED_LENGTH: u64 = 1;
-
-// n or r is out of range.
-pub const REFUSED_SIZE: u64 = 2;
+// The numbers of the refusals that the calls make themselves (rules, paper/Refusals.antt).
 
 // There are not as many registers as the image asks.
 pub const REFUSED_REGISTERS: u64 = 20;

@@ -4,6 +4,7 @@ ghost use Rattle.rules.specs.paper.Kinds.{operator-number};
 ghost use Rattle.rules.specs.paper.Tree.{Operator};
 ghost use Rattle.rules.specs.paper.Checker.{Meaning, id-code, deref-code, valref-code, integers-give, equals-give, truths-give, operator-code, truth-only, assignable, same-code, ref-code};
 ghost use Rattle.checker.specs.Answers.{code-answer, fine-answer, meaning-answer, Numbered};
+use crate::refusals;
 use reader::kinds;
 
 // Type codes are below this; it is the base in which a Call's codes are packed.
@@ -36,7 +37,7 @@ pub(crate) fn id_code(node: usize, number: usize) -> Answer
     if number < CODES {
         return Answer::Is(number - 2);
     }
-    Answer::Fault(11, node)
+    Answer::Fault(refusals::MISTYPED, node)
 }
 
 // DeRef.
@@ -44,12 +45,12 @@ pub(crate) fn deref_code(node: usize, number: usize) -> Answer
     ensures { λ r. ⌜ ((m : Meaning) → Numbered number m → r ≡ code-answer (deref-code node m)) ⌝ }
 {
     if number < 2 {
-        return Answer::Fault(11, node);
+        return Answer::Fault(refusals::MISTYPED, node);
     }
     if number < CODES {
         return Answer::Is(number);
     }
-    Answer::Fault(11, node)
+    Answer::Fault(refusals::MISTYPED, node)
 }
 
 // ValRef.
@@ -57,12 +58,12 @@ pub(crate) fn valref_code(node: usize, number: usize) -> Answer
     ensures { λ r. ⌜ ((m : Meaning) → Numbered number m → r ≡ code-answer (valref-code node m)) ⌝ }
 {
     if number < 4 {
-        return Answer::Fault(11, node);
+        return Answer::Fault(refusals::MISTYPED, node);
     }
     if number < CODES {
         return Answer::Is(number - 4);
     }
-    Answer::Fault(11, node)
+    Answer::Fault(refusals::MISTYPED, node)
 }
 
 // Both integers: Sum to Div and Lt to Ge.
@@ -70,10 +71,10 @@ fn integers(node: usize, result: usize, first: usize, second: usize) -> Answer
     ensures { λ r. ⌜ r ≡ code-answer (integers-give result node first second) ⌝ }
 {
     if first != 0 {
-        return Answer::Fault(11, node);
+        return Answer::Fault(refusals::MISTYPED, node);
     }
     if second != 0 {
-        return Answer::Fault(11, node);
+        return Answer::Fault(refusals::MISTYPED, node);
     }
     Answer::Is(result)
 }
@@ -83,10 +84,10 @@ fn truths(node: usize, first: usize, second: usize) -> Answer
     ensures { λ r. ⌜ r ≡ code-answer (truths-give node first second) ⌝ }
 {
     if first != 1 {
-        return Answer::Fault(11, node);
+        return Answer::Fault(refusals::MISTYPED, node);
     }
     if second != 1 {
-        return Answer::Fault(11, node);
+        return Answer::Fault(refusals::MISTYPED, node);
     }
     Answer::Is(1)
 }
@@ -96,10 +97,10 @@ fn equals(node: usize, first: usize, second: usize) -> Answer
     ensures { λ r. ⌜ r ≡ code-answer (equals-give node first second) ⌝ }
 {
     if 1 < first {
-        return Answer::Fault(11, node);
+        return Answer::Fault(refusals::MISTYPED, node);
     }
     if first != second {
-        return Answer::Fault(11, node);
+        return Answer::Fault(refusals::MISTYPED, node);
     }
     Answer::Is(1)
 }
@@ -125,7 +126,7 @@ pub(crate) fn truth(node: usize, result: usize, code: usize) -> Answer
     ensures { λ r. ⌜ r ≡ code-answer (truth-only node result code) ⌝ }
 {
     if code != 1 {
-        return Answer::Fault(11, node);
+        return Answer::Fault(refusals::MISTYPED, node);
     }
     Answer::Is(result)
 }
@@ -140,7 +141,7 @@ pub(crate) fn assigned_code(node: usize, number: usize) -> Answer
     if number == 3 {
         return Answer::Is(1);
     }
-    Answer::Fault(13, node)
+    Answer::Fault(refusals::NOT_ASSIGNABLE, node)
 }
 
 // The codes have to be the same.
@@ -148,7 +149,7 @@ pub(crate) fn same(node: usize, wanted: usize, given: usize) -> Answer
     ensures { λ r. ⌜ r ≡ fine-answer (same-code node wanted given) ⌝ }
 {
     if wanted != given {
-        return Answer::Fault(11, node);
+        return Answer::Fault(refusals::MISTYPED, node);
     }
     Answer::Is(0)
 }
@@ -158,7 +159,7 @@ pub(crate) fn location_code(node: usize, code: usize) -> Answer
     ensures { λ r. ⌜ r ≡ meaning-answer (ref-code node code) ⌝ }
 {
     if 5 < code {
-        return Answer::Fault(11, node);
+        return Answer::Fault(refusals::MISTYPED, node);
     }
     Answer::Is(code + 2)
 }

@@ -16,6 +16,7 @@ use crate::codes::same;
 use crate::codes::truth;
 use crate::expressions::expression;
 use crate::formals::formals;
+use crate::refusals;
 use crate::scope::FUNCTION;
 use crate::scope::Found;
 use crate::scope::NAMES;
@@ -108,14 +109,14 @@ fn call(work: &[u64], registers: usize, scope: usize, node: usize) -> Answer
         return given;
     };
     let Found::Bound(number, pointer) = lookup(work, registers, scope, word % NAMES) else {
-        return Answer::Fault(10, node);
+        return Answer::Fault(refusals::UNBOUND, node);
     };
     if number != FUNCTION {
-        return Answer::Fault(14, node);
+        return Answer::Fault(refusals::BAD_CALL, node);
     }
     let parameters = operand(work, pointer);
     if parameters != count {
-        return Answer::Fault(14, node);
+        return Answer::Fault(refusals::BAD_CALL, node);
     }
     agreement(work, node, codes, pointer + 1, count)
 }
@@ -202,7 +203,7 @@ fn declaration(work: &mut [u64], registers: usize, scope: usize, tail: usize, no
         };
         let repeated = shares_name(work, newest, middle, tail);
         if repeated {
-            return Answer::Fault(12, node);
+            return Answer::Fault(refusals::REPEATED, node);
         }
         return second;
     }

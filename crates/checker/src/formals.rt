@@ -7,6 +7,7 @@ ghost use Rattle.rules.specs.paper.Checker.{Scope};
 ghost use Rattle.checker.specs.Rows.{rows-end, Rows};
 ghost use Rattle.checker.specs.Commands.{WritesRowsFrom, FormalsAt, FormalsJudgedAt};
 use crate::codes::Answer;
+use crate::refusals;
 use crate::scope::NAMES;
 use crate::scope::ROWS;
 use crate::scope::find_row;
@@ -36,7 +37,7 @@ pub(crate) fn formals(
         let name = word % NAMES;
         let found = find_row(work, newest, scope, name);
         if found != scope {
-            return Answer::Fault(12, at);
+            return Answer::Fault(refusals::REPEATED, at);
         }
         work[ROWS + at] = row_word(name, word / NAMES, newest);
         at = at + 1;

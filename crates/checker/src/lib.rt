@@ -3,6 +3,7 @@ mod codes;
 mod commands;
 mod expressions;
 mod formals;
+mod refusals;
 mod scope;
 
 ghost use Prim.Native.Nat.{_≤_};

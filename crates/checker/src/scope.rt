@@ -7,6 +7,7 @@ ghost use Rattle.rules.specs.paper.Checker.{Scope};
 ghost use Rattle.checker.specs.Rows.{rows-end, meaning-numbers, row-word, Rows, ScopeAt, RowFoundAt, NamesSharedAt};
 ghost use Rattle.checker.specs.Answers.{NameFoundAt, MeaningJudgedAt};
 use crate::codes::Answer;
+use crate::refusals;
 use reader::MOST_NODES;
 
 // Where the rows begin among the work words: a node's row stands at ROWS + its place. A pointer is one more than its row's node, so its
@@ -78,7 +79,7 @@ pub(crate) fn meaning(
     ensures { λ r. ⌜ MeaningJudgedAt (now (work .entry)) registers scope node name r ⌝ }
 {
     let Found::Bound(number, pointer) = lookup(work, registers, scope, name) else {
-        return Answer::Fault(10, node);
+        return Answer::Fault(refusals::UNBOUND, node);
     };
     Answer::Is(number)
 }

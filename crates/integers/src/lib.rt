@@ -9,6 +9,11 @@ ghost use Rattle.integers.specs.Words.{integer-of, computed, opposite, s
 // 2^63: the words from here on hold the negative integers, and it is the magnitude of the least of them.
 const LEAST: u64 = 9223372036854775808;
 
+// The numbers of the reasons for which an arithmetic step is withheld (rules, paper/Refusals.antt).
+const ZERO_DIVISOR: u64 = 31;
+
+const OUT_OF_RANGE: u64 = 32;
+
 // What an arithmetic mark comes to: the word of an integer, or the number of the reason for which its step is withheld.
 pub enum Computed {
     Number(u64),
@@ -32,7 +37,7 @@ pub fn sum(first: u64, second: u64) -> Computed
     if less(word, first) == (LEAST <= second) {
         Computed::Number(word)
     } else {
-        Computed::Failed(32)
+        Computed::Failed(OUT_OF_RANGE)
     }
 }
 
@@ -44,7 +49,7 @@ pub fn difference(first: u64, second: u64) -> Computed
     if less(first, word) == (LEAST <= second) {
         Computed::Number(word)
     } else {
-        Computed::Failed(32)
+        Computed::Failed(OUT_OF_RANGE)
     }
 }
 
@@ -74,12 +79,12 @@ fn with_sign(negative: bool, magnitude: u64) -> Computed
         if magnitude <= LEAST {
             return Computed::Number(std::num::wrapping_sub_u64(0, magnitude));
         }
-        return Computed::Failed(32);
+        return Computed::Failed(OUT_OF_RANGE);
     }
     if magnitude < LEAST {
         return Computed::Number(magnitude);
     }
-    Computed::Failed(32)
+    Computed::Failed(OUT_OF_RANGE)
 }
 
 // The first times the second, by their magnitudes. A division tells whether the product fits, except where both are below 2^32.
@@ -96,7 +101,7 @@ pub fn product(first: u64, second: u64) -> Computed
         return Computed::Number(0);
     }
     if LEAST / multiplicand < multiplier {
-        return Computed::Failed(32);
+        return Computed::Failed(OUT_OF_RANGE);
     }
     with_sign(negative, multiplicand * multiplier)
 }
@@ -106,7 +111,7 @@ pub fn quotient(first: u64, second: u64) -> Computed
     ensures { λ r. ⌜ r ≡ computed (compute Div (integer-of first) (integer-of second)) ⌝ }
 {
     if second == 0 {
-        return Computed::Failed(31);
+        return Computed::Failed(ZERO_DIVISOR);
     }
     let dividend = magnitude(first);
     let divisor = magnitude(second);

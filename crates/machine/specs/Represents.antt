@@ -60,7 +60,7 @@ pub data Mode : Type 0 where
   running : List ℕ → Mode
   declaring : ℕ → List ℕ → Mode
 
--- A node is its place; a mark is 2,048, the number of its kind (22 for a second mark), and 4,096 times what it carries.
+-- A node is its place; a mark is its word (Layout.antt).
 pub data ControlAs (nodes : List ℕ) : Mode → List ℕ → List Item → Type 0 where
   nothing-left : ControlAs nodes (running []) [] []
   expression-on : {m : Mode} {ws : List ℕ} {C : List Item} {d i j : ℕ} {e : Expression} → StoredExpression nodes d i j e →

@@ -1,6 +1,6 @@
 // From the image's words to the shape: each node's checks in the paper's order and, for a whole tree, one work word a node.
 pub mod kinds;
-mod refusals;
+pub mod refusals;
 mod tables;
 
 ghost use mathlib.Core.Path.{_≡_};
@@ -114,7 +114,7 @@ pub fn read_image(work: &mut [u64], image: &[u32]) -> Shape
     let n = image[0] as usize;
     let registers = image[1] as usize;
     if !size_fits(n, registers) {
-        return Shape::Refused(2, 0);
+        return Shape::Refused(refusals::SIZE, 0);
     }
     if image.len() != 2 + 2 * n {
         return Shape::Refused(refusals::LENGTH, 0);

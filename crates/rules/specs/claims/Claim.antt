@@ -1,5 +1,5 @@
--- Demand 3, stated: one claim about all states of a run, in the words of the paper ("The mission", demand 3, and "Agreement
--- between supplier and tester"). This file names the automaton's definitions and nothing of the proof. WholeRun.antt proves it.
+-- Demand 3 (README, "The three demands"), stated: one claim about all states of a run, in the words of the demand and of the paper's
+-- "Agreement between supplier and tester". This file names the automaton's definitions and nothing of the proof. WholeRun.antt proves it.
 use Prim.Native.Nat.{ℕ, zero, suc, _≤_, _<_}
 use mathlib.Core.Path.{_≡_}
 use mathlib.Core.Bool.{Bool, true, false}
