@@ -3,16 +3,40 @@
 
 use compare::byte_calls::ByteCall;
 use compare::bytes::{self, RanOnBytes};
+use compare::difference::Difference;
 use compare::program::{self, Program};
 use compare::run::Ran;
-use compare::sample::SHORT_RUN;
+use compare::sample::{Sample, SHORT_RUN};
+use compare::tally::Tally;
 use compare::{check, run};
 use second::build::*;
 use second::engine::{Answer, Outcome, MOST_BUDGET, WORK_WORDS};
 use second::generate::random::Random;
-use second::generate::Case;
+use second::generate::{Case, Family};
 use second::tree::{Command, Name, Place, Root};
 use second::Refusal;
+
+/// The comparison of one sample, and how its calls were answered.
+pub type Compare = fn(Sample, &mut Tally) -> Result<(), Box<Difference>>;
+
+/// Compares so many samples of a family, from this seed on; the tally says what came
+/// up, in so many calls a sample at least.
+pub fn compared(compare: Compare, first: u64, family: Family, count: u64, calls: u64) -> Tally {
+    let mut tally = Tally::default();
+    for seed in first..first + count {
+        compare(Sample { family, seed }, &mut tally)
+            .unwrap_or_else(|difference| panic!("{difference}"));
+    }
+    assert!(tally.calls() >= calls * count);
+    tally
+}
+
+/// Each of these came up, so often at least.
+pub fn reaches(tally: &Tally, refusals: &[u32], often: u64) {
+    for number in refusals {
+        assert!(tally.refused(*number) >= often, "{number} in\n{}", tally.text());
+    }
+}
 
 /// The answer that both give, with work words enough.
 pub fn agreed(image: &[u32], random: &mut Random) -> Answer {

@@ -1,26 +1,14 @@
 //! Every family of the generators on bytes: some eighty thousand calls in all, as
 //! checks and as runs, about half of them with changes.
 
+use crate::helpers::{compared, reaches};
 use compare::sample::{compare_bytes, Sample, CHECKED};
 use compare::tally::Tally;
 use second::generate::Family;
 
 /// Compares the calls on bytes of so many images; the tally says what came up.
 fn family(family: Family, count: u64) -> Tally {
-    let mut tally = Tally::default();
-    for seed in 0..count {
-        let sample = Sample { family, seed: 0xb17e_0000 + seed };
-        compare_bytes(sample, &mut tally).unwrap_or_else(|difference| panic!("{difference}"));
-    }
-    assert!(tally.calls() >= 10 * count);
-    tally
-}
-
-/// Each of these came up, so often at least.
-fn reaches(tally: &Tally, refusals: &[u32], often: u64) {
-    for number in refusals {
-        assert!(tally.refused(*number) >= often, "{number} in\n{}", tally.text());
-    }
+    compared(compare_bytes, 0xb17e_0000, family, count, 10)
 }
 
 #[test]

@@ -1,25 +1,13 @@
 //! Every family of the generators, tens of thousands of images in all.
 
+use crate::helpers::{compared, reaches};
 use compare::sample::{compare_check, Sample, CHECKED};
 use compare::tally::Tally;
 use second::generate::Family;
 
 /// Compares so many images of a family; the tally says what came up.
 fn family(family: Family, count: u64) -> Tally {
-    let mut tally = Tally::default();
-    for seed in 0..count {
-        let sample = Sample { family, seed: 0xc0de_0000 + seed };
-        compare_check(sample, &mut tally).unwrap_or_else(|difference| panic!("{difference}"));
-    }
-    assert!(tally.calls() >= count);
-    tally
-}
-
-/// Each of these came up, so often at least.
-fn reaches(tally: &Tally, refusals: &[u32], often: u64) {
-    for number in refusals {
-        assert!(tally.refused(*number) >= often, "{number} in\n{}", tally.text());
-    }
+    compared(compare_check, 0xc0de_0000, family, count, 1)
 }
 
 #[test]

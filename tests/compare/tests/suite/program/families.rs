@@ -1,26 +1,14 @@
 //! Every family of the generators: some three thousand inputs in all, of which a
 //! third are changed ones.
 
+use crate::helpers::{compared, reaches};
 use compare::sample::{compare_program, Sample, RUN};
 use compare::tally::Tally;
 use second::generate::Family;
 
 /// Compares what the program prints for so many images.
 fn family(family: Family, count: u64) -> Tally {
-    let mut tally = Tally::default();
-    for seed in 0..count {
-        let sample = Sample { family, seed: 0xbead_0000 + seed };
-        compare_program(sample, &mut tally).unwrap_or_else(|difference| panic!("{difference}"));
-    }
-    assert!(tally.calls() >= count);
-    tally
-}
-
-/// Each of these came up, so often at least.
-fn reaches(tally: &Tally, refusals: &[u32], often: u64) {
-    for number in refusals {
-        assert!(tally.refused(*number) >= often, "{number} in\n{}", tally.text());
-    }
+    compared(compare_program, 0xbead_0000, family, count, 1)
 }
 
 #[test]

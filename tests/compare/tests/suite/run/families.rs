@@ -1,26 +1,14 @@
 //! Every family of the generators: some hundred thousand runs in all, short ones
 //! at every budget.
 
+use crate::helpers::{compared, reaches};
 use compare::sample::{compare_run, Sample, RUN};
 use compare::tally::Tally;
 use second::generate::Family;
 
 /// Compares the runs of so many images; the tally says what came up.
 fn family(family: Family, count: u64) -> Tally {
-    let mut tally = Tally::default();
-    for seed in 0..count {
-        let sample = Sample { family, seed: 0xfeed_0000 + seed };
-        compare_run(sample, &mut tally).unwrap_or_else(|difference| panic!("{difference}"));
-    }
-    assert!(tally.calls() >= 2 * count);
-    tally
-}
-
-/// Each of these came up, so often at least.
-fn reaches(tally: &Tally, refusals: &[u32], often: u64) {
-    for number in refusals {
-        assert!(tally.refused(*number) >= often, "{number} in\n{}", tally.text());
-    }
+    compared(compare_run, 0xfeed_0000, family, count, 2)
 }
 
 #[test]
