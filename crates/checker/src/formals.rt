@@ -8,10 +8,10 @@ ghost use Rattle.checker.specs.Rows.{rows-end, Rows};
 ghost use Rattle.checker.specs.Commands.{WritesRowsFrom, FormalsAt, FormalsJudgedAt};
 use crate::codes::Answer;
 use crate::refusals;
-use crate::scope::NAMES;
 use crate::scope::ROWS;
 use crate::scope::find_row;
 use crate::scope::row_word;
+use reader::NAMES;
 use reader::operand;
 
 // A row for each Formal from a node on, linked from `tail`; a name that has a row between `tail` and `scope` is refused there.

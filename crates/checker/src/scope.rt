@@ -9,6 +9,7 @@ ghost use Rattle.checker.specs.Answers.{NameFoundAt, MeaningJudgedAt};
 use crate::codes::Answer;
 use crate::refusals;
 use reader::MOST_NODES;
+use reader::NAMES;
 
 // Where the rows begin among the work words: a node's row stands at ROWS + its place. A pointer is one more than its row's node, so its
 // row stands at POINTERS + the pointer.
@@ -17,8 +18,6 @@ pub(crate) const ROWS: usize = MOST_NODES;
 const POINTERS: usize = ROWS - 1;
 
 // A row's word is its name + NAMES × the number of its meaning + LINK_FACTOR × the pointer of the row before it.
-pub(crate) const NAMES: usize = 64;
-
 const MEANING_NUMBERS: usize = 16;
 
 const LINK_FACTOR: usize = NAMES * MEANING_NUMBERS;

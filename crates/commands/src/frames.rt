@@ -15,7 +15,6 @@ use machine::layout::LABEL_UNIT;
 use machine::layout::LEAVE_MARK;
 use machine::layout::MOST_BINDINGS;
 use machine::layout::NAME_UNIT;
-use machine::layout::NAMES;
 use machine::layout::POINTER_UNIT;
 use machine::layout::ROW_PAYLOADS;
 use machine::layout::SECOND_PAYLOAD;
@@ -27,6 +26,7 @@ use machine::memory::put_row;
 use machine::memory::put_value;
 use machine::reasons;
 use machine::stacks::full_stack;
+use reader::NAMES;
 use reader::operand;
 
 // Bind's: a row for the name, on those that the declaration made before.

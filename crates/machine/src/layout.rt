@@ -1,4 +1,5 @@
 // Where the machine's regions stand in the work words, behind the tree's nodes, and how a word of each is made up. Layout.antt has the same.
+use reader::NAMES;
 use reader::kinds;
 
 // The paper's limits.
@@ -37,9 +38,7 @@ pub const TOP_LABEL: usize = VALUE_LABELS - 1;
 // A pointer is one more than the number of its row.
 pub const ROW_AT_POINTER: usize = ROW_LABELS - 1;
 
-// A name is the low part of an operand and of a row's label.
-pub const NAMES: usize = 64;
-
+// A name is the low part of a row's label.
 pub const NAME_UNIT: u64 = NAMES as u64;
 
 // A row's label: its name, the label of what it binds, and the pointer of the row below it.

@@ -5,12 +5,14 @@ use mathlib.Core.Path.{_≡_, refl}
 use mathlib.Core.Bool.{Bool}
 use mathlib.Core.List.{List}
 use native.Mathlib.Omega.{arith}
+use lib.ListN.{getD}
 use Rattle.rules.specs.paper.Kinds.{operator-number}
 use Rattle.rules.specs.paper.Tree.{Operator, Expression, Num, Boo, Id, DeRef, ValRef, Binary, Not, Command, Assign, Loop, CSeq, block, Call, Blk, Declaration, Bind, DSeq, Bound}
 use Rattle.reader.specs.KindNumbers.{num-number, boo-number, id-number, not-number, deref-number, valref-number, assign-number, loop-number, cseq-number, blk-number, call-number, bind-number, dseq-number, ref-number}
+use Rattle.reader.specs.Pack.{packed-kind}
 use Rattle.reader.specs.Stored.{StoredExpression, StoredCommand, StoredDeclaration}
 use Rattle.reader.specs.Stored as Stored
-use Rattle.reader.specs.StandingLaws.{operator-above, operator-below, expression-root, block-root, command-root, declaration-root}
+use Rattle.reader.specs.StandingLaws.{operator-above, operator-below, expression-root, block-root, command-root, declaration-root, root-kind}
 
 -- ---- Expressions.
 pub data ExpressionOf (place : ℕ) : ℕ → Expression → Type 0 where
@@ -97,6 +99,10 @@ expression-kinds is-negation = omega arith
 expression-kinds is-deref = omega arith
 expression-kinds is-valref = omega arith
 
+-- The same of the kind in the word where an expression is stored.
+pub stored-expression-kind : {words : List ℕ} {d i j : ℕ} {e : Expression} → StoredExpression words d i j e → packed-kind (getD words i 0) < assign-number
+stored-expression-kind s = omega (arith, root-kind (expression-root s), expression-kinds (expression-of s))
+
 -- ---- Commands.
 
 pub data CommandOf (i : ℕ) : (kind : ℕ) → Command → Type 0 where
@@ -156,6 +162,9 @@ command-kinds loop-at = (omega arith, omega arith)
 command-kinds sequence-at = (omega arith, omega arith)
 command-kinds block-at = (omega arith, omega arith)
 command-kinds call-at = (omega arith, omega arith)
+
+pub stored-command-kind : {words : List ℕ} {d i j : ℕ} {c : Command} → StoredCommand words d i j c → (assign-number ≤ packed-kind (getD words i 0)) × (packed-kind (getD words i 0) < bind-number)
+stored-command-kind s = let k = command-kinds (command-of s) in (omega (arith, root-kind (command-root s), k .0), omega (arith, root-kind (command-root s), k .1))
 
 -- ---- Declarations.
 

@@ -18,6 +18,9 @@ pub const MOST_NODES: usize = 2000;
 
 pub const MOST_REGISTERS: usize = 16;
 
+// How many names there are: a name is the low part of an operand that has a count or a code too.
+pub const NAMES: usize = 1 << tables::NAME_BITS;
+
 // What reading a node and its descendants comes to: the first node after them, or a refusal with its place.
 pub enum Scanned {
     Next(usize),

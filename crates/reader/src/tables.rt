@@ -72,7 +72,7 @@ const IS_FORMAL: u64 = 1 << FORMAL;
 // The limits on operands (rules, paper/Limits.antt): words, names, type codes, parameters.
 const WORD_BITS: u64 = 32;
 
-const NAME_BITS: u64 = 6;
+pub(crate) const NAME_BITS: u64 = 6;
 
 const NAMES: u64 = 1 << NAME_BITS;
 

@@ -11,7 +11,7 @@ use Rattle.rules.specs.paper.Checker.{Judged, fault, fine, _>>=_, Passed, expre
 use Rattle.reader.specs.Pack.{packed-kind}
 use Rattle.reader.specs.Stored.{kind-is, StoredExpression, StoredBlock, StoredCommand, StoredRoot, root-expression, root-command, RootAt}
 use Rattle.reader.specs.Stored as Stored
-use Rattle.reader.specs.StandingLaws.{operator-below}
+use Rattle.reader.specs.KindTrees.{stored-expression-kind, stored-command-kind}
 use Rattle.checker.specs.Rows.{ScopeAt, no-rows}
 use Rattle.checker.specs.Answers.{code-answer, fine-answer, ExpressionAt, ExpressionJudgedAt}
 use Rattle.checker.specs.Commands.{CommandAt, CommandJudgedAt, command-number, root-number, root-answer, RootJudgedAt}
@@ -24,38 +24,19 @@ use Rattle.checker.proofs.laws.expressions.CodeRangeLaws.{code-low}
 pub register-scope-at : (words : List ℕ) (registers : ℕ) → ScopeAt words registers 0 (register-scope registers)
 register-scope-at words registers = record { own = []; rows = no-rows; whole = refl }
 
-low-kind : {words : List ℕ} {d i j : ℕ} {e : Expression} → StoredExpression words d i j e → packed-kind (getD words i 0) < 20
-low-kind (Stored.num h) = omega (arith, kind-is h (omega arith))
-low-kind (Stored.boo h) = omega (arith, kind-is h (omega arith))
-low-kind (Stored.id l h) = omega (arith, kind-is h (omega arith))
-low-kind (Stored.deref l h) = omega (arith, kind-is h (omega arith))
-low-kind (Stored.valref l h) = omega (arith, kind-is h (omega arith))
-low-kind (Stored.binary {o = o} h a b) = omega (arith, kind-is h (omega (arith, operator-below o)), operator-below o)
-low-kind (Stored.negation h a) = omega (arith, kind-is h (omega arith))
-
-high-block : {words : List ℕ} {d i j : ℕ} {b : Block} → StoredBlock words d i j b → 20 ≤ packed-kind (getD words i 0)
-high-block (Stored.blk h a b) = omega (arith, kind-is h (omega arith))
-
-high-kind : {words : List ℕ} {d i j : ℕ} {c : Command} → StoredCommand words d i j c → 20 ≤ packed-kind (getD words i 0)
-high-kind (Stored.assign l h a) = omega (arith, kind-is h (omega arith))
-high-kind (Stored.loop h a b) = omega (arith, kind-is h (omega arith))
-high-kind (Stored.cseq h a b) = omega (arith, kind-is h (omega arith))
-high-kind (Stored.block-of a) = high-block a
-high-kind (Stored.call l g h a) = omega (arith, kind-is h (omega arith))
-
 module _ (words : List ℕ) (which : ℕ) (known : which ≡ packed-kind (getD words 0 0)) where
   pub expression-root : which < 20 → ((t : Root) × RootAt words t) → (e : Expression) × ExpressionAt words 0 e
   expression-root low t = by (t .1 .stored)
     where
       by : {d j : ℕ} {t : Root} → StoredRoot words d 0 j t → (e : Expression) × ExpressionAt words 0 e
       by {d = d} {j = j} (root-expression {e = e} s) = (e, record { depth = d; next = j; stored = s })
-      by (root-command s) = absurd (omega (arith, low, known, high-kind s))
+      by (root-command s) = absurd (omega (arith, low, known, stored-command-kind s .0))
 
   pub command-root : 20 ≤ which → ((t : Root) × RootAt words t) → (c : Command) × CommandAt words 0 c
   command-root high t = by (t .1 .stored)
     where
       by : {d j : ℕ} {t : Root} → StoredRoot words d 0 j t → (c : Command) × CommandAt words 0 c
-      by (root-expression s) = absurd (omega (arith, high, known, low-kind s))
+      by (root-expression s) = absurd (omega (arith, high, known, stored-expression-kind s))
       by {d = d} {j = j} (root-command {c = c} s) = (c, record { depth = d; next = j; stored = s })
 
   module _ (registers : ℕ) (r : Answer) where
@@ -70,7 +51,7 @@ module _ (words : List ℕ) (which : ℕ) (known : which ≡ packed-kind (getD w
         by : {d j : ℕ} {t : Root} → StoredRoot words d 0 j t → r ≡ root-answer (root-is (register-scope registers) t)
         by {d = d} {j = j} (root-expression {e = e} s) =
             judged e (register-scope registers) (record { depth = d; next = j; stored = s }) (register-scope-at words registers) ∙ passes (expression-code (register-scope registers) e)
-        by (root-command s) = absurd (omega (arith, low, known, high-kind s))
+        by (root-command s) = absurd (omega (arith, low, known, stored-command-kind s .0))
 
     module _ (high : 20 ≤ which) (judged : CommandJudgedAt words registers 0 0 r) where
       of-command : (a : Answer) → ((c : Command) → r ≡ fine-answer (command-ok (register-scope registers) c) →
@@ -79,7 +60,7 @@ module _ (words : List ℕ) (which : ℕ) (known : which ≡ packed-kind (getD w
       of-command a done t at = by (at .stored)
         where
           by : {d j : ℕ} {t : Root} → StoredRoot words d 0 j t → a ≡ root-answer (root-is (register-scope registers) t)
-          by (root-expression s) = absurd (omega (arith, high, known, low-kind s))
+          by (root-expression s) = absurd (omega (arith, high, known, stored-expression-kind s))
           by {d = d} {j = j} (root-command {c = c} s) = done c (judged c (register-scope registers) (record { depth = d; next = j; stored = s }) (register-scope-at words registers))
 
       pub command-fails : (x p : ℕ) → r ≡ Fault x p → RootJudgedAt words registers r

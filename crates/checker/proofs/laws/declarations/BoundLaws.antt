@@ -11,7 +11,8 @@ use Rattle.rules.specs.paper.Tree.{Expression, Formal, Block, Bound, plain, Ref
 use Rattle.rules.specs.paper.Checker.{Meaning, code, function, Scope, Judged, fault, fine, _>>=_, Fine, expression-code, distinct, with-formals, ref-code, block-ok, bound-means}
 use Rattle.reader.specs.Pack.{packed-kind, packed-operand}
 use Rattle.reader.specs.Stored.{HasWord, kind-is, operand-is, StoredExpression, num, boo, id, deref, valref, binary, negation, StoredFormals, no-formals, one-formal, StoredBlock, blk, StoredBound, plain-of, ref, abs}
-use Rattle.reader.specs.StandingLaws.{operator-below, expression-low, after-node}
+use Rattle.reader.specs.StandingLaws.{expression-low, block-low, after-node}
+use Rattle.reader.specs.KindTrees.{stored-expression-kind}
 use Rattle.checker.specs.Rows.{function-number, meaning-numbers, meaning-number, MeaningAt, code-at, function-at, Rows, no-rows, ScopeAt}
 use Rattle.checker.specs.Answers.{code-answer, fine-answer, meaning-answer, ExpressionAt, ExpressionJudgedAt}
 use Rattle.checker.specs.Commands.{formals-give, FormalsJudgedAt, WritesRowsFrom, FormalsAt, BlockAt, BoundAt, NamesFrom, names-from, names-fault, BlockJudgedAt, BoundJudgedAt}
@@ -64,18 +65,6 @@ formals-next : {words : List ℕ} {i j : ℕ} {fs : List Formal} → StoredForma
 formals-next no-formals = omega arith
 formals-next (one-formal p l c h s) = omega (arith, formals-next s)
 
-block-low : {words : List ℕ} {d i j : ℕ} {b : Block} → StoredBlock words d i j b → i < most-nodes
-block-low (blk h d c) = h .place-low
-
-expression-kind : {words : List ℕ} {d i j : ℕ} {e : Expression} → StoredExpression words d i j e → packed-kind (getD words i 0) < 40
-expression-kind (num h) = omega (arith, kind-is h (omega arith))
-expression-kind (boo h) = omega (arith, kind-is h (omega arith))
-expression-kind (id l h) = omega (arith, kind-is h (omega arith))
-expression-kind (deref l h) = omega (arith, kind-is h (omega arith))
-expression-kind (valref l h) = omega (arith, kind-is h (omega arith))
-expression-kind (binary {o = o} h a b) = omega (arith, operator-below o, kind-is h (omega (arith, operator-below o)))
-expression-kind (negation h a) = omega (arith, kind-is h (omega arith))
-
 pub bound-low : {words : List ℕ} {node : ℕ} {b : Bound} → BoundAt words node b → node < most-nodes
 bound-low {words} at = by (at .stored)
   where
@@ -107,7 +96,7 @@ seen-bound words node which b known at = by (at .stored)
     last i j n c p q = omega arith
 
     by : {d j : ℕ} {b : Bound} → StoredBound words d node j b → SeenBound words node which b
-    by {d = d} {j = j} (plain-of h) = seen-plain {w = which} (omega (arith, known, expression-kind h)) (record { depth = d; next = j; stored = h })
+    by {d = d} {j = j} (plain-of h) = seen-plain {w = which} (omega (arith, known, stored-expression-kind h)) (record { depth = d; next = j; stored = h })
     by {d = suc d} {j = j} (ref {e = e} w h) =
         of-kind (kind-is w (omega arith)) (seen-ref (record { depth = d; next = j; stored = subst (λ i. StoredExpression words d i j e) (after-node node) h }))
     by {d = suc d} (abs {j = j} {k = k} {fs = fs} {b = b} l w f h) =
