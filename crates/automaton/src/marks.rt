@@ -1,11 +1,6 @@
 // Which rule a mark has.
 ghost use Rattle.rules.specs.paper.States.{Mark, mark};
 ghost use Rattle.machine.specs.Steps.{Applicable, Steps};
-use commands::frames::bind_mark;
-use commands::frames::call_mark;
-use commands::frames::dseq_mark;
-use commands::frames::extend_mark;
-use commands::frames::leave_mark;
 use commands::marks::assign_mark;
 use commands::marks::loop_mark;
 use commands::marks::ref_mark;
@@ -14,6 +9,11 @@ use expressions::marks::equal_mark;
 use expressions::marks::logic_mark;
 use expressions::marks::not_mark;
 use expressions::marks::order_mark;
+use frames::blocks::extend_mark;
+use frames::blocks::leave_mark;
+use frames::calls::call_mark;
+use frames::declarations::bind_mark;
+use frames::declarations::dseq_mark;
 use machine::Machine;
 use machine::Stepped;
 use machine::layout::EXTEND;

@@ -1,3 +1,2 @@
 pub mod command_laws
-pub mod call_laws
 pub mod declaration_laws

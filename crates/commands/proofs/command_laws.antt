@@ -3,4 +3,4 @@ pub mod KindLaws
 pub mod AssignLaws
 pub mod LoopLaws
 pub mod BlockLaws
-pub mod BlockMarkLaws
+pub mod CallLaws

@@ -1,3 +1,2 @@
 pub mod DeclarationLaws
 pub mod RefLaws
-pub mod FrameLaws

@@ -1,5 +1,4 @@
 // The rules of commands and declarations, and of their marks.
 pub mod declarations;
-pub mod frames;
 pub mod marks;
 pub mod nodes;

@@ -8,11 +8,11 @@ use Rattle.automaton.proofs.marks.mark_rule.Statement.{statement}
 use Rattle.automaton.proofs.marks.mark_rule.Tie as tie
 use Rattle.automaton.proofs.marks.mark_rule.Reads as reads
 use Rattle.automaton.proofs.marks.mark_rule.Lts as lts
-use Rattle.commands.proofs.frames.bind_mark.Reads as bind-mark-reads
-use Rattle.commands.proofs.frames.call_mark.Reads as call-mark-reads
-use Rattle.commands.proofs.frames.dseq_mark.Reads as dseq-mark-reads
-use Rattle.commands.proofs.frames.extend_mark.Reads as extend-mark-reads
-use Rattle.commands.proofs.frames.leave_mark.Reads as leave-mark-reads
+use Rattle.frames.proofs.declarations.bind_mark.Reads as bind-mark-reads
+use Rattle.frames.proofs.calls.call_mark.Reads as call-mark-reads
+use Rattle.frames.proofs.declarations.dseq_mark.Reads as dseq-mark-reads
+use Rattle.frames.proofs.blocks.extend_mark.Reads as extend-mark-reads
+use Rattle.frames.proofs.blocks.leave_mark.Reads as leave-mark-reads
 use Rattle.commands.proofs.marks.assign_mark.Reads as assign-mark-reads
 use Rattle.commands.proofs.marks.loop_mark.Reads as loop-mark-reads
 use Rattle.commands.proofs.marks.ref_mark.Reads as ref-mark-reads

@@ -4,7 +4,7 @@ use native.Mathlib.Omega.{arith}
 use borrow.Author.Needs.{needs}
 use Rattle.machine.proofs.stack_laws.RoomLaws.{room-for, was-put}
 use Rattle.commands.proofs.command_laws.CommandLaws.{command-low}
-use Rattle.commands.proofs.call_laws.CallLaws.{operand-low, call-withheld, Goes, goes-first, goes-again, room-left, actual-low, same-size, begun, first-room, call-made}
+use Rattle.commands.proofs.command_laws.CallLaws.{operand-low, call-withheld, Goes, goes-first, goes-again, room-left, actual-low, same-size, begun, first-room, call-made}
 use Rattle.commands.proofs.nodes.call.Statement.{statement}
 use Rattle.commands.proofs.nodes.call.Tie as tie
 use Rattle.commands.proofs.nodes.call.Reads as reads

@@ -11,10 +11,10 @@ use Rattle.machine.specs.Layout.{top-payload, top-label}
 use Rattle.reader.specs.Pack.{packed-operand}
 use Rattle.machine.specs.Regions.{Slot, slot, Regions, regions, Fits, with-row, raised-rows}
 use Rattle.machine.specs.Represents.{Mode}
-use Rattle.commands.specs.Formals.{machine-with-formals, Binding, CanBind, Binds}
+use Rattle.frames.specs.Formals.{machine-with-formals, Binding, CanBind, Binds}
 use Rattle.machine.specs.declared.Machine.{Machine}
 use Rattle.machine.proofs.state_laws.ModelLaws.{fits-still}
-use Rattle.commands.proofs.call_laws.FormalsLaws.{Numbers, formals-end, NextFormal, next-formal, formal-numbers, formal-link, one-bound, formal-bound}
+use Rattle.frames.proofs.call_laws.FormalsLaws.{Numbers, formals-end, NextFormal, next-formal, formal-numbers, formal-link, one-bound, formal-bound}
 
 build : (c v e d s b n : ℕ) → Machine
 build c v e d s b n = record { control = c; values = v; environment = e; declared = d; cells = s; base = b; bindings = n }

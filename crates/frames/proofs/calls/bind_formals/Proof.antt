@@ -3,12 +3,12 @@ use Prim.Native.Nat.{_+_, _-_, _*_, _<_, _≤_}
 use native.Mathlib.Omega.{arith}
 use denote.Ref.{now}
 use borrow.Author.Needs.{needs}
-use Rattle.commands.proofs.call_laws.FormalsLaws.{Numbers}
-use Rattle.commands.proofs.call_laws.FormalsLoopLaws.{Around, around-first, around-numbers, some-rows-left, around-again, around-last}
-use Rattle.commands.proofs.frames.bind_formals.Statement.{statement}
-use Rattle.commands.proofs.frames.bind_formals.Tie as tie
-use Rattle.commands.proofs.frames.bind_formals.Reads as reads
-use Rattle.commands.proofs.frames.bind_formals.Lts as lts
+use Rattle.frames.proofs.call_laws.FormalsLaws.{Numbers}
+use Rattle.frames.proofs.call_laws.FormalsLoopLaws.{Around, around-first, around-numbers, some-rows-left, around-again, around-last}
+use Rattle.frames.proofs.calls.bind_formals.Statement.{statement}
+use Rattle.frames.proofs.calls.bind_formals.Tie as tie
+use Rattle.frames.proofs.calls.bind_formals.Reads as reads
+use Rattle.frames.proofs.calls.bind_formals.Lts as lts
 use Rattle.machine.proofs.memory.put_row.Reads as put-row-reads
 use Rattle.reader.proofs.operand.Reads as operand-reads
 

@@ -5,12 +5,12 @@ use native.Mathlib.Omega.{arith}
 use denote.Ref.{now}
 use Rattle.machine.specs.Regions.{Fits}
 use Rattle.machine.proofs.stack_laws.SharedLaws.{Put, put-fits}
-use Rattle.commands.proofs.call_laws.CallFrameLaws.{PutValue, put-value-fits, frame-put}
+use Rattle.frames.proofs.call_laws.CallFrameLaws.{PutValue, put-value-fits, frame-put}
 use borrow.Author.Needs.{needs}
-use Rattle.commands.proofs.frames.put_frame.Statement.{statement}
-use Rattle.commands.proofs.frames.put_frame.Tie as tie
-use Rattle.commands.proofs.frames.put_frame.Reads as reads
-use Rattle.commands.proofs.frames.put_frame.Lts as lts
+use Rattle.frames.proofs.calls.put_frame.Statement.{statement}
+use Rattle.frames.proofs.calls.put_frame.Tie as tie
+use Rattle.frames.proofs.calls.put_frame.Reads as reads
+use Rattle.frames.proofs.calls.put_frame.Lts as lts
 use Rattle.machine.proofs.memory.put_control.Reads as put-control-reads
 use Rattle.machine.proofs.memory.put_value.Reads as put-value-reads
 

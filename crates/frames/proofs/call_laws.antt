@@ -1,4 +1,3 @@
-pub mod CallLaws
 pub mod CallMarkLaws
 pub mod CallFrameLaws
 pub mod FormalsLaws

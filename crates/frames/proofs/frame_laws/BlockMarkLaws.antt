@@ -17,7 +17,7 @@ use Rattle.machine.proofs.memory_laws.RegionLaws.{slots-length}
 use Rattle.machine.proofs.state_laws.ModelLaws.{step-made, fits-still}
 use Rattle.machine.proofs.state_laws.TopLaws.{at-height, OneOnTop, one-on-top, TwoOnTop, two-on-top}
 use Rattle.machine.proofs.memory_laws.EnvironmentLaws.{segment-join, values-running, Cut, cut, since-low, removed-since}
-use Rattle.commands.proofs.declaration_laws.FrameLaws.{pointed, with-pointers, environment-is, base-is, cells-height, answered, DeclaredTop, declared-top}
+use Rattle.frames.proofs.frame_laws.FrameLaws.{pointed, with-pointers, environment-is, base-is, cells-height, answered, DeclaredTop, declared-top}
 
 -- ---- By entries.
 

@@ -16,14 +16,14 @@ use Rattle.machine.specs.Regions.{Slot, Regions, regions, Fits, with-control}
 use Rattle.machine.specs.Represents.{SegmentAs, BindableAs, closure-as, Extends, no-more, Mode, running, ControlAs, call-on, ValuesAs, Models}
 use Rattle.machine.specs.Lookup.{RowOf}
 use Rattle.machine.specs.Steps.{Ready, Applicable, Steps}
-use Rattle.commands.specs.Formals.{Binding, CanBind}
+use Rattle.frames.specs.Formals.{Binding, CanBind}
 use Rattle.machine.specs.declared.Machine.{Machine}
 use Rattle.machine.specs.declared.Stepped.the-variants.{Withheld}
 use Rattle.machine.specs.Room.{full-stack}
 use Rattle.machine.proofs.state_laws.JudgeLaws.{judged-bindings}
 use Rattle.machine.proofs.state_laws.ModelLaws.{Sizes, sizes, step-withheld, step-withheld-for-room}
-use Rattle.commands.proofs.declaration_laws.FrameLaws.{pointed, with-pointers, answered, with-stacks, environment-is, rows-height}
-use Rattle.commands.proofs.call_laws.FormalsLaws.{formals-end, Counted, counted}
+use Rattle.frames.proofs.frame_laws.FrameLaws.{pointed, with-pointers, answered, with-stacks, environment-is, rows-height}
+use Rattle.frames.proofs.call_laws.FormalsLaws.{formals-end, Counted, counted}
 
 -- ---- A closure.
 

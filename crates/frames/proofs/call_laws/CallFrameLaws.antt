@@ -16,15 +16,15 @@ use Rattle.reader.specs.Stored.{StoredCommand, block-of}
 use Rattle.machine.specs.Regions.{Slot, slot, slots, Regions, regions, Fits, with-control, with-values, raised-control, raised-values}
 use Rattle.machine.specs.Represents.{SegmentAs, Since, none-since, Extends, Mode, running, ControlAs, command-on, leave-on, ValuesAs, frame-on, Models}
 use Rattle.machine.specs.Steps.{StepAnswer, Ready}
-use Rattle.commands.specs.Formals.{with-bound, machine-with-formals, Binding, Binds, framed, with-frame}
+use Rattle.frames.specs.Formals.{with-bound, machine-with-formals, Binding, Binds, framed, with-frame}
 use Rattle.machine.specs.declared.Machine.{Machine}
 use Rattle.machine.specs.declared.Stepped.the-variants.{Made}
 use Rattle.machine.proofs.memory_laws.RegionLaws.{slots-length}
 use Rattle.machine.proofs.state_laws.ModelLaws.{step-made, fits-still}
 use Rattle.machine.proofs.stack_laws.SharedLaws.{Put, put-regions, put-fits, value-fits}
-use Rattle.commands.proofs.declaration_laws.FrameLaws.{with-pointers, environment-is, base-is, cells-height, answered, rows-height}
-use Rattle.commands.proofs.call_laws.FormalsLaws.{formals-end, counted}
-use Rattle.commands.proofs.call_laws.CallMarkLaws.{CallTop, call-top, call-numbers, RowFound, formal-first, called, regions-called, ClosureAt, called-closure, block-is, call-binding}
+use Rattle.frames.proofs.frame_laws.FrameLaws.{with-pointers, environment-is, base-is, cells-height, answered, rows-height}
+use Rattle.frames.proofs.call_laws.FormalsLaws.{formals-end, counted}
+use Rattle.frames.proofs.call_laws.CallMarkLaws.{CallTop, call-top, call-numbers, RowFound, formal-first, called, regions-called, ClosureAt, called-closure, block-is, call-binding}
 
 -- ---- put_frame.
 

@@ -1,10 +1,10 @@
 -- extend_mark: the environment is saved and the declared names join it.
-use Rattle.commands.proofs.command_laws.BlockMarkLaws.{first-some, first-made}
+use Rattle.frames.proofs.frame_laws.BlockMarkLaws.{first-some, first-made}
 use borrow.Author.Needs.{needs}
-use Rattle.commands.proofs.frames.extend_mark.Statement.{statement}
-use Rattle.commands.proofs.frames.extend_mark.Tie as tie
-use Rattle.commands.proofs.frames.extend_mark.Reads as reads
-use Rattle.commands.proofs.frames.extend_mark.Lts as lts
+use Rattle.frames.proofs.blocks.extend_mark.Statement.{statement}
+use Rattle.frames.proofs.blocks.extend_mark.Tie as tie
+use Rattle.frames.proofs.blocks.extend_mark.Reads as reads
+use Rattle.frames.proofs.blocks.extend_mark.Lts as lts
 use Rattle.machine.proofs.memory.put_value.Reads as put-value-reads
 
 sub-m : tie.Need-sub-m

@@ -7,15 +7,15 @@ use Rattle.rules.specs.paper.Limits.{most-value-entries, most-control-entries}
 use Rattle.machine.specs.Layout.{count-unit}
 use Rattle.machine.specs.Regions.{Fits}
 use Rattle.machine.proofs.state_laws.JudgeLaws.{room-left}
-use Rattle.commands.proofs.call_laws.CallMarkLaws.{CallNumbers, call-numbers, call-bindings-withheld, call-actuals, call-withheld-for-room, RowFound, called-fits, call-looked, row-low, call-can-bind}
-use Rattle.commands.proofs.call_laws.CallFrameLaws.{Formed, call-formed, call-made}
+use Rattle.frames.proofs.call_laws.CallMarkLaws.{CallNumbers, call-numbers, call-bindings-withheld, call-actuals, call-withheld-for-room, RowFound, called-fits, call-looked, row-low, call-can-bind}
+use Rattle.frames.proofs.call_laws.CallFrameLaws.{Formed, call-formed, call-made}
 use borrow.Author.Needs.{needs}
-use Rattle.commands.proofs.frames.call_mark.Statement.{statement}
-use Rattle.commands.proofs.frames.call_mark.Tie as tie
-use Rattle.commands.proofs.frames.call_mark.Reads as reads
-use Rattle.commands.proofs.frames.call_mark.Lts as lts
-use Rattle.commands.proofs.frames.bind_formals.Reads as bind-formals-reads
-use Rattle.commands.proofs.frames.put_frame.Reads as put-frame-reads
+use Rattle.frames.proofs.calls.call_mark.Statement.{statement}
+use Rattle.frames.proofs.calls.call_mark.Tie as tie
+use Rattle.frames.proofs.calls.call_mark.Reads as reads
+use Rattle.frames.proofs.calls.call_mark.Lts as lts
+use Rattle.frames.proofs.calls.bind_formals.Reads as bind-formals-reads
+use Rattle.frames.proofs.calls.put_frame.Reads as put-frame-reads
 use Rattle.machine.proofs.lookup.row_of.Reads as row-of-reads
 use Rattle.machine.proofs.stacks.full_stack.Reads as full-stack-reads
 

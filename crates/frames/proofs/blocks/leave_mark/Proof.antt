@@ -1,10 +1,10 @@
 -- leave_mark: what was saved is taken back.
-use Rattle.commands.proofs.command_laws.BlockMarkLaws.{second-some, second-made}
+use Rattle.frames.proofs.frame_laws.BlockMarkLaws.{second-some, second-made}
 use borrow.Author.Needs.{needs}
-use Rattle.commands.proofs.frames.leave_mark.Statement.{statement}
-use Rattle.commands.proofs.frames.leave_mark.Tie as tie
-use Rattle.commands.proofs.frames.leave_mark.Reads as reads
-use Rattle.commands.proofs.frames.leave_mark.Lts as lts
+use Rattle.frames.proofs.blocks.leave_mark.Statement.{statement}
+use Rattle.frames.proofs.blocks.leave_mark.Tie as tie
+use Rattle.frames.proofs.blocks.leave_mark.Reads as reads
+use Rattle.frames.proofs.blocks.leave_mark.Lts as lts
 
 sub-m : tie.Need-sub-m
 sub-m c = second-some _ _ _ _ _ (c .pre .2 .ready)

@@ -2,12 +2,12 @@
 use Prim.Native.Nat.{_+_, _*_, _<_, _≤_}
 use native.Mathlib.Omega.{arith}
 use denote.Ref.{now}
-use Rattle.commands.proofs.declaration_laws.FrameLaws.{BindNumbers, bind-numbers, bind-withheld, bind-made}
+use Rattle.frames.proofs.frame_laws.FrameLaws.{BindNumbers, bind-numbers, bind-withheld, bind-made}
 use borrow.Author.Needs.{needs}
-use Rattle.commands.proofs.frames.bind_mark.Statement.{statement}
-use Rattle.commands.proofs.frames.bind_mark.Tie as tie
-use Rattle.commands.proofs.frames.bind_mark.Reads as reads
-use Rattle.commands.proofs.frames.bind_mark.Lts as lts
+use Rattle.frames.proofs.declarations.bind_mark.Statement.{statement}
+use Rattle.frames.proofs.declarations.bind_mark.Tie as tie
+use Rattle.frames.proofs.declarations.bind_mark.Reads as reads
+use Rattle.frames.proofs.declarations.bind_mark.Lts as lts
 use Rattle.machine.proofs.memory.put_row.Reads as put-row-reads
 
 numbers : (c : lts.Start (put-row-reads.Asked, put-row-reads.Learnt) reads.Pre reads.Post) → BindNumbers (now (c .args .work)) (c .args .m)

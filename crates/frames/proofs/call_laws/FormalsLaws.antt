@@ -15,12 +15,12 @@ use Rattle.reader.specs.Pack.{packed-operand}
 use Rattle.reader.specs.Stored.{HasWord, operand-is, StoredFormals, no-formals, one-formal}
 use Rattle.machine.specs.Regions.{Slot, slot, Regions, regions, Fits, with-values, with-row, raised-rows}
 use Rattle.machine.specs.Represents.{SegmentAs, BindableAs, value-as, Extends, no-more, one-more, Mode, ValuesAs}
-use Rattle.commands.specs.Formals.{with-bound, Binding}
+use Rattle.frames.specs.Formals.{with-bound, Binding}
 use Rattle.machine.specs.declared.Machine.{Machine}
 use Rattle.machine.proofs.state_laws.NodeLaws.{node-word}
 use Rattle.machine.proofs.state_laws.TopLaws.{at-height, OneOnTop, one-on-top, BindableTop, bindable-top}
 use Rattle.machine.proofs.memory_laws.EnvironmentLaws.{segment-new, pointer-low}
-use Rattle.commands.proofs.declaration_laws.FrameLaws.{pointed, with-pointers, rows-height, value-label-low}
+use Rattle.frames.proofs.frame_laws.FrameLaws.{pointed, with-pointers, rows-height, value-label-low}
 
 -- ---- The lists.
 

@@ -1,11 +1,11 @@
-// The rules of the marks that make, save and restore environments: those of Bind, DSeq, blocks and calls.
+// A Call's mark: the closure's environment with the Formals bound to the actuals, and its block to run.
 ghost use mathlib.Core.Path.{_≡_};
 ghost use Prim.Native.Nat.{ℕ, _+_, _-_, _≤_};
-ghost use Rattle.rules.specs.paper.States.{bind-mark, dseq-mark, extend-mark, leave-mark, call-mark, mark};
-ghost use Rattle.rules.specs.paper.Limits.{most-bindings, names, most-value-entries, most-control-entries};
+ghost use Rattle.rules.specs.paper.States.{call-mark, mark};
+ghost use Rattle.rules.specs.paper.Limits.{most-bindings, most-value-entries, most-control-entries};
 ghost use Rattle.machine.specs.Regions.{regions, Fits};
 ghost use Rattle.machine.specs.Steps.{Applicable, Steps};
-ghost use Rattle.commands.specs.Formals.{machine-with-formals, CanBind, Binds, framed, with-frame};
+ghost use Rattle.frames.specs.Formals.{machine-with-formals, CanBind, Binds, framed, with-frame};
 use machine::Machine;
 use machine::Stepped;
 use machine::layout::CARRIED_UNIT;
@@ -17,7 +17,6 @@ use machine::layout::MOST_BINDINGS;
 use machine::layout::NAME_UNIT;
 use machine::layout::POINTER_UNIT;
 use machine::layout::ROW_PAYLOADS;
-use machine::layout::SECOND_PAYLOAD;
 use machine::layout::TOP_LABEL;
 use machine::layout::TOP_PAYLOAD;
 use machine::lookup::row_of;
@@ -28,63 +27,6 @@ use machine::reasons;
 use machine::stacks::full_stack;
 use reader::NAMES;
 use reader::operand;
-
-// Bind's: a row for the name, on those that the declaration made before.
-pub fn bind_mark(work: &mut [u64], m: Machine, word: u64) -> Stepped
-    requires { ⌜ Applicable (now work) m word (mark bind-mark) ⌝ }
-    ensures { λ r. ⌜ Steps (now (work .entry)) m word (mark bind-mark) r (now (work .exit)) ⌝ }
-{
-    if m.bindings == MOST_BINDINGS {
-        return Stepped::Withheld(reasons::BINDINGS);
-    }
-    let height = m.values;
-    let label = work[TOP_LABEL + height];
-    let payload = work[TOP_PAYLOAD + height];
-    let name = work[SECOND_PAYLOAD + height];
-    let mut next = put_row(
-        work,
-        m,
-        name + LABEL_UNIT * label + POINTER_UNIT * m.declared as u64,
-        payload,
-    );
-    next.declared = next.bindings;
-    next.values = height - 1;
-    Stepped::Made(next)
-}
-
-// DSeq's: the second declaration's rows stand on the first's already.
-pub fn dseq_mark(work: &mut [u64], mut m: Machine, word: u64) -> Stepped
-    requires { ⌜ Applicable (now work) m word (mark dseq-mark) ⌝ }
-    ensures { λ r. ⌜ Steps (now (work .entry)) m word (mark dseq-mark) r (now (work .exit)) ⌝ }
-{
-    m.values = m.values - 1;
-    Stepped::Made(m)
-}
-
-// A block's first: the environment is saved, and the declared names are added to it.
-pub fn extend_mark(work: &mut [u64], mut m: Machine, word: u64) -> Stepped
-    requires { ⌜ Applicable (now work) m word (mark extend-mark) ⌝ }
-    ensures { λ r. ⌜ Steps (now (work .entry)) m word (mark extend-mark) r (now (work .exit)) ⌝ }
-{
-    let outer = m.environment;
-    m.environment = m.declared;
-    m.values = m.values - 1;
-    Stepped::Made(put_value(work, m, 0, outer as u64))
-}
-
-// A block's second, and a call's: what was saved is taken back, and the block's own cells are removed.
-pub fn leave_mark(work: &mut [u64], mut m: Machine, word: u64) -> Stepped
-    requires { ⌜ ((p n : ℕ) × Applicable (now work) m word (mark (leave-mark p n))) ⌝ }
-    ensures { λ r. ⌜ ((p n : ℕ) → Steps (now (work .entry)) m word (mark (leave-mark p n)) r (now (work .exit))) ⌝ }
-{
-    let height = m.values;
-    m.values = height - 2;
-    m.environment = work[TOP_PAYLOAD + height] as usize;
-    m.cells = m.base;
-    m.base = work[SECOND_PAYLOAD + height] as usize;
-    m.bindings = (word / CARRIED_UNIT) as usize;
-    Stepped::Made(m)
-}
 
 // A row for each Formal from the first one to the block, with the values on top of the value stack, on the closure's environment.
 fn bind_formals(work: &mut [u64], mut m: Machine, first: usize, block: usize) -> Machine

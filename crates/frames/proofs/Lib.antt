@@ -1,0 +1,2 @@
+pub mod frame_laws
+pub mod call_laws
