@@ -8,11 +8,11 @@ use Rattle.rules.specs.paper.Limits.{names, most-parameters}
 use Rattle.rules.specs.paper.Tree.{Formal, Expression, Command, Assign, Call, Block, Declaration, Bound, Root}
 use Rattle.rules.specs.paper.Checker.{Scope, Judged, fault, fine, _>>=_, same-codes, distinct, with-formals, expression-codes, command-ok, block-ok, declaration-gives, bound-means, Passed, expression-of-code, a-command, register-scope, root-is}
 use Rattle.reader.specs.Stored.{HasWord, StoredActuals, StoredFormals, StoredCommand, StoredBlock, StoredDeclaration, StoredBound, RootAt}
-use Rattle.checker.specs.Rows.{rows-from, rows-end, Rows, ScopeAt}
-use Rattle.checker.specs.Answers.{answer, fine-answer, meaning-answer, ExpressionAt}
+use Rattle.typing.specs.Rows.{rows-from, rows-end, Rows, ScopeAt}
+use Rattle.typing.specs.Answers.{answer, fine-answer, meaning-answer, ExpressionAt}
 use Rattle.checker.specs.Packing.{packed-codes, AllCodes}
-use Rattle.checker.specs.declared.codes.Answer.{Answer}
-use Rattle.checker.specs.declared.codes.Answer.the-variants.{Is, Fault}
+use Rattle.typing.specs.declared.codes.Answer.{Answer}
+use Rattle.typing.specs.declared.codes.Answer.the-variants.{Is, Fault}
 
 -- Only rows of nodes from this one on are written: the words below its row and those from `rows-end` on are as they were.
 pub record WritesRowsFrom (words words′ : List ℕ) (node : ℕ) : Type 0 where

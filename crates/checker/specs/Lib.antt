@@ -1,4 +1,2 @@
-pub mod Rows
-pub mod Answers
 pub mod Packing
 pub mod Commands

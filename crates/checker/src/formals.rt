@@ -4,15 +4,15 @@ ghost use Prim.Native.Nat.{_≤_};
 ghost use lib.ListN.{length};
 ghost use Rattle.rules.specs.paper.Tree.{Formal};
 ghost use Rattle.rules.specs.paper.Checker.{Scope};
-ghost use Rattle.checker.specs.Rows.{rows-end, Rows};
+ghost use Rattle.typing.specs.Rows.{rows-end, Rows};
 ghost use Rattle.checker.specs.Commands.{WritesRowsFrom, FormalsAt, FormalsJudgedAt};
-use crate::codes::Answer;
-use crate::refusals;
-use crate::scope::ROWS;
-use crate::scope::find_row;
-use crate::scope::row_word;
 use reader::NAMES;
 use reader::operand;
+use typing::codes::Answer;
+use typing::refusals;
+use typing::scope::ROWS;
+use typing::scope::find_row;
+use typing::scope::row_word;
 
 // A row for each Formal from a node on, linked from `tail`; a name that has a row between `tail` and `scope` is refused there.
 pub(crate) fn formals(

@@ -1,22 +1,18 @@
 // Scope and types of an image that was read: what its root is.
-mod codes;
 mod commands;
-mod expressions;
 mod formals;
-mod refusals;
-mod scope;
 
 ghost use Prim.Native.Nat.{_≤_};
 ghost use lib.ListN.{length};
 ghost use Rattle.rules.specs.paper.Tree.{Root};
 ghost use Rattle.reader.specs.Stored.{RootAt};
-ghost use Rattle.checker.specs.Rows.{rows-end};
+ghost use Rattle.typing.specs.Rows.{rows-end};
 ghost use Rattle.checker.specs.Commands.{WritesRowsFrom, RootJudgedAt};
-pub use crate::codes::Answer;
 use crate::commands::command;
-use crate::expressions::expression;
 use reader::kind;
 use reader::kinds;
+use typing::codes::Answer;
+use typing::expressions::expression;
 
 // The root's number where it is a command; that of an expression is its code.
 pub const COMMAND: usize = 8;

@@ -5,10 +5,10 @@ ghost use lib.ListN.{length};
 ghost use Rattle.rules.specs.paper.Limits.{work-words};
 ghost use Rattle.rules.specs.paper.Engine.{cleared, check-image};
 ghost use Rattle.loader.specs.Answers.{LoadAnswer};
-use checker::Answer;
 use checker::root;
 use reader::Shape;
 use reader::read_image;
+use typing::codes::Answer;
 
 // The work words that a call may write: a caller lends at least as many.
 pub const WORK_WORDS: usize = 8192;

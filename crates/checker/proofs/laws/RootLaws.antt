@@ -12,13 +12,13 @@ use Rattle.reader.specs.Pack.{packed-kind}
 use Rattle.reader.specs.Stored.{kind-is, StoredExpression, StoredBlock, StoredCommand, StoredRoot, root-expression, root-command, RootAt}
 use Rattle.reader.specs.Stored as Stored
 use Rattle.reader.specs.KindTrees.{stored-expression-kind, stored-command-kind}
-use Rattle.checker.specs.Rows.{ScopeAt, no-rows}
-use Rattle.checker.specs.Answers.{code-answer, fine-answer, ExpressionAt, ExpressionJudgedAt}
+use Rattle.typing.specs.Rows.{ScopeAt, no-rows}
+use Rattle.typing.specs.Answers.{code-answer, fine-answer, ExpressionAt, ExpressionJudgedAt}
 use Rattle.checker.specs.Commands.{CommandAt, CommandJudgedAt, command-number, root-number, root-answer, RootJudgedAt}
-use Rattle.checker.specs.declared.codes.Answer.{Answer}
-use Rattle.checker.specs.declared.codes.Answer.the-variants.{Is, Fault}
-use Rattle.checker.proofs.laws.codes.AnswerLaws.{then-fault, then-fine, then-inverse}
-use Rattle.checker.proofs.laws.expressions.CodeRangeLaws.{code-low}
+use Rattle.typing.specs.declared.codes.Answer.{Answer}
+use Rattle.typing.specs.declared.codes.Answer.the-variants.{Is, Fault}
+use Rattle.typing.proofs.laws.codes.AnswerLaws.{then-fault, then-fine, then-inverse}
+use Rattle.typing.proofs.laws.expressions.CodeRangeLaws.{code-low}
 
 -- Before any declaration the scope is the registers.
 pub register-scope-at : (words : List ℕ) (registers : ℕ) → ScopeAt words registers 0 (register-scope registers)

@@ -1,3 +1,5 @@
+pub mod PackingLaws
+pub mod KeptLaws
 -- Commands by their kinds, with Assign, Call and blocks.
 pub mod AssignLaws
 pub mod ActualLaws

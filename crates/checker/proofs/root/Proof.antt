@@ -1,6 +1,6 @@
 -- The root: its kind says whether it is an expression or a command.
 use native.Mathlib.Omega.{arith}
-use Rattle.checker.proofs.laws.scope.KeptLaws.{kept-nothing}
+use Rattle.checker.proofs.laws.commands.KeptLaws.{kept-nothing}
 use Rattle.checker.proofs.laws.RootLaws.{register-scope-at, expression-root, command-root, expression-judged, command-fails, command-passes}
 use borrow.Author.Needs.{needs}
 use Rattle.checker.proofs.root.Statement.{statement}
@@ -8,7 +8,7 @@ use Rattle.checker.proofs.root.Tie as tie
 use Rattle.checker.proofs.root.Reads as reads
 use Rattle.checker.proofs.root.Lts as lts
 use Rattle.checker.proofs.commands.command.Reads as command-reads
-use Rattle.checker.proofs.expressions.expression.Reads as expression-reads
+use Rattle.typing.proofs.expressions.expression.Reads as expression-reads
 use Rattle.reader.proofs.kind.Reads as kind-reads
 
 kind-requires : tie.Need-kind-requires

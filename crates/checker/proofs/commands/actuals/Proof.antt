@@ -1,13 +1,13 @@
 -- A Call's actuals one after the other, their codes packed. The loop's measure is how many are left.
 use native.Mathlib.Omega.{arith}
 use borrow.Author.Needs.{needs}
-use Rattle.checker.proofs.laws.codes.PackingLaws.{packed-room}
+use Rattle.checker.proofs.laws.commands.PackingLaws.{packed-room}
 use Rattle.checker.proofs.laws.commands.ActualLaws.{first-actual, first-actual-low, actuals-none, actual-fault, actual-code-low, CodedSoFar, none-coded, one-coded}
 use Rattle.checker.proofs.commands.actuals.Statement.{statement}
 use Rattle.checker.proofs.commands.actuals.Tie as tie
 use Rattle.checker.proofs.commands.actuals.Reads as reads
 use Rattle.checker.proofs.commands.actuals.Lts as lts
-use Rattle.checker.proofs.expressions.expression.Reads as expression-reads
+use Rattle.typing.proofs.expressions.expression.Reads as expression-reads
 use Rattle.reader.proofs.end.Reads as end-reads
 
 abbrev Inv-loop : tie.InvT-loop

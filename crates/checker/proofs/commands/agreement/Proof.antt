@@ -1,14 +1,14 @@
 -- The Formals' codes, packed one after the other, then compared with those that are given. The loop's measure is how many are left.
 use native.Mathlib.Omega.{arith}
 use borrow.Author.Needs.{needs}
-use Rattle.checker.proofs.laws.codes.PackingLaws.{packed-room}
+use Rattle.checker.proofs.laws.commands.PackingLaws.{packed-room}
 use Rattle.checker.proofs.laws.declarations.FormalLaws.{formal-node-low}
 use Rattle.checker.proofs.laws.commands.AgreementLaws.{WantedSoFar, none-wanted, wanted-code-low, one-wanted, all-agree}
 use Rattle.checker.proofs.commands.agreement.Statement.{statement}
 use Rattle.checker.proofs.commands.agreement.Tie as tie
 use Rattle.checker.proofs.commands.agreement.Reads as reads
 use Rattle.checker.proofs.commands.agreement.Lts as lts
-use Rattle.checker.proofs.codes.same.Reads as same-reads
+use Rattle.typing.proofs.codes.same.Reads as same-reads
 use Rattle.reader.proofs.operand.Reads as operand-reads
 
 abbrev Inv-loop : tie.InvT-loop

@@ -6,10 +6,10 @@ use Rattle.checker.proofs.commands.assignment.Statement.{statement}
 use Rattle.checker.proofs.commands.assignment.Tie as tie
 use Rattle.checker.proofs.commands.assignment.Reads as reads
 use Rattle.checker.proofs.commands.assignment.Lts as lts
-use Rattle.checker.proofs.codes.assigned_code.Reads as assigned-code-reads
-use Rattle.checker.proofs.codes.same.Reads as same-reads
-use Rattle.checker.proofs.expressions.expression.Reads as expression-reads
-use Rattle.checker.proofs.scope.meaning.Reads as meaning-reads
+use Rattle.typing.proofs.codes.assigned_code.Reads as assigned-code-reads
+use Rattle.typing.proofs.codes.same.Reads as same-reads
+use Rattle.typing.proofs.expressions.expression.Reads as expression-reads
+use Rattle.typing.proofs.scope.meaning.Reads as meaning-reads
 use Rattle.reader.proofs.operand.Reads as operand-reads
 
 add-expression : tie.Need-add-expression

@@ -8,7 +8,7 @@ use Rattle.checker.proofs.commands.call.Reads as reads
 use Rattle.checker.proofs.commands.call.Lts as lts
 use Rattle.checker.proofs.commands.actuals.Reads as actuals-reads
 use Rattle.checker.proofs.commands.agreement.Reads as agreement-reads
-use Rattle.checker.proofs.scope.lookup.Reads as lookup-reads
+use Rattle.typing.proofs.scope.lookup.Reads as lookup-reads
 use Rattle.reader.proofs.operand.Reads as operand-reads
 
 operand-requires : tie.Need-operand-requires

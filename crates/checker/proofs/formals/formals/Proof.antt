@@ -6,8 +6,8 @@ use Rattle.checker.proofs.formals.formals.Statement.{statement}
 use Rattle.checker.proofs.formals.formals.Tie as tie
 use Rattle.checker.proofs.formals.formals.Reads as reads
 use Rattle.checker.proofs.formals.formals.Lts as lts
-use Rattle.checker.proofs.scope.find_row.Reads as find-row-reads
-use Rattle.checker.proofs.scope.row_word.Reads as row-word-reads
+use Rattle.typing.proofs.scope.find_row.Reads as find-row-reads
+use Rattle.typing.proofs.scope.row_word.Reads as row-word-reads
 use Rattle.reader.proofs.operand.Reads as operand-reads
 
 abbrev Inv-loop : tie.InvT-loop

@@ -10,15 +10,15 @@ use Rattle.rules.specs.paper.Checker.{Scope, Judged, fault, fine, _>>=_, expres
 use Rattle.reader.specs.Pack.{packed-end}
 use Rattle.reader.specs.Stored.{StoredActuals, no-actuals, one-actual}
 use Rattle.reader.specs.StandingLaws.{expression-low, expression-end}
-use Rattle.checker.specs.Rows.{ScopeAt}
-use Rattle.checker.specs.Answers.{answer, ExpressionAt, ExpressionJudgedAt}
+use Rattle.typing.specs.Rows.{ScopeAt}
+use Rattle.typing.specs.Answers.{answer, ExpressionAt, ExpressionJudgedAt}
 use Rattle.checker.specs.Packing.{packed-onto, AllCodes}
 use Rattle.checker.specs.Commands.{ActualsAt, ActualsJudgedAt}
-use Rattle.checker.specs.declared.codes.Answer.{Answer}
-use Rattle.checker.specs.declared.codes.Answer.the-variants.{Is, Fault}
-use Rattle.checker.proofs.laws.codes.AnswerLaws.{same-fine, then-inverse, then-fault, then-code}
-use Rattle.checker.proofs.laws.codes.PackingLaws.{PackedSoFar, none-packed, one-packed}
-use Rattle.checker.proofs.laws.expressions.CodeRangeLaws.{code-low, judged-low}
+use Rattle.typing.specs.declared.codes.Answer.{Answer}
+use Rattle.typing.specs.declared.codes.Answer.the-variants.{Is, Fault}
+use Rattle.typing.proofs.laws.codes.AnswerLaws.{same-fine, then-inverse, then-fault, then-code}
+use Rattle.checker.proofs.laws.commands.PackingLaws.{PackedSoFar, none-packed, one-packed}
+use Rattle.typing.proofs.laws.expressions.CodeRangeLaws.{code-low, judged-low}
 
 -- ---- The first of some.
 

@@ -9,11 +9,11 @@ use Rattle.rules.specs.paper.Tree.{Formal}
 use Rattle.rules.specs.paper.Checker.{same-code}
 use Rattle.reader.specs.Pack.{packed-operand}
 use Rattle.reader.specs.Stored.{StoredFormals, no-formals, one-formal}
-use Rattle.checker.specs.Answers.{fine-answer}
+use Rattle.typing.specs.Answers.{fine-answer}
 use Rattle.checker.specs.Packing.{packed-onto, packed-codes, AllCodes, formal-codes}
 use Rattle.checker.specs.Commands.{FormalsAt, AgreementJudgedAt}
-use Rattle.checker.specs.declared.codes.Answer.{Answer}
-use Rattle.checker.proofs.laws.codes.PackingLaws.{PackedSoFar, none-packed, one-packed, same-packed}
+use Rattle.typing.specs.declared.codes.Answer.{Answer}
+use Rattle.checker.proofs.laws.commands.PackingLaws.{PackedSoFar, none-packed, one-packed, same-packed}
 use Rattle.checker.proofs.laws.declarations.FormalLaws.{first-formal, formal-code}
 
 formals-low : {words : List ℕ} {i j : ℕ} {fs : List Formal} → StoredFormals words i j fs → AllCodes (formal-codes fs)

@@ -9,13 +9,13 @@ use Rattle.rules.specs.paper.Tree.{Expression}
 use Rattle.rules.specs.paper.Checker.{Meaning, Scope, Judged, _>>=_, Fine, meaning-of, bound-name, assignable, same-code, expression-code, command-ok}
 use Rattle.reader.specs.Pack.{packed-operand}
 use Rattle.reader.specs.Stored.{operand-is}
-use Rattle.checker.specs.Rows.{meaning-number, ScopeAt}
-use Rattle.checker.specs.Answers.{code-answer, fine-answer, meaning-answer, Numbered, ExpressionJudgedAt}
+use Rattle.typing.specs.Rows.{meaning-number, ScopeAt}
+use Rattle.typing.specs.Answers.{code-answer, fine-answer, meaning-answer, Numbered, ExpressionJudgedAt}
 use Rattle.checker.specs.Commands.{AssignAt, AssignJudgedAt}
-use Rattle.checker.specs.declared.codes.Answer.{Answer}
-use Rattle.checker.specs.declared.codes.Answer.the-variants.{Is, Fault}
-use Rattle.checker.proofs.laws.codes.AnswerLaws.{then-fault, then-fine, then-code}
-use Rattle.checker.proofs.laws.expressions.NameLaws.{scope-numbered}
+use Rattle.typing.specs.declared.codes.Answer.{Answer}
+use Rattle.typing.specs.declared.codes.Answer.the-variants.{Is, Fault}
+use Rattle.typing.proofs.laws.codes.AnswerLaws.{then-fault, then-fine, then-code}
+use Rattle.typing.proofs.laws.expressions.NameLaws.{scope-numbered}
 
 unfoldable after-meaning : (p c : ℕ) → Meaning → Judged Fine
 after-meaning p c m = assignable p m >>= λ w. same-code p w c

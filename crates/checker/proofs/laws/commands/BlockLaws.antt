@@ -11,13 +11,13 @@ use Rattle.rules.specs.paper.Checker.{Scope, Judged, fine, _>>=_, command-ok, b
 use Rattle.reader.specs.Pack.{packed-end}
 use Rattle.reader.specs.Stored.{StoredCommand, StoredBlock, blk, StoredDeclaration}
 use Rattle.reader.specs.StandingLaws.{command-low, declaration-low, declaration-on, declaration-end, after-node}
-use Rattle.checker.specs.Rows.{Rows, ScopeAt}
-use Rattle.checker.specs.Answers.{answer, fine-answer}
+use Rattle.typing.specs.Rows.{Rows, ScopeAt}
+use Rattle.typing.specs.Answers.{answer, fine-answer}
 use Rattle.checker.specs.Commands.{WritesRowsFrom, CommandAt, BlockAt, DeclarationAt, NamesFrom, names-from, names-fault, CommandJudgedAt, BlockJudgedAt, DeclarationJudgedAt}
-use Rattle.checker.specs.declared.codes.Answer.{Answer}
-use Rattle.checker.specs.declared.codes.Answer.the-variants.{Is, Fault}
-use Rattle.checker.proofs.laws.codes.AnswerLaws.{two-answers, same-is}
-use Rattle.checker.proofs.laws.scope.KeptLaws.{kept-command, kept-scope, scope-with, kept-end}
+use Rattle.typing.specs.declared.codes.Answer.{Answer}
+use Rattle.typing.specs.declared.codes.Answer.the-variants.{Is, Fault}
+use Rattle.typing.proofs.laws.codes.AnswerLaws.{two-answers, same-is}
+use Rattle.checker.proofs.laws.commands.KeptLaws.{kept-command, kept-scope, scope-with, kept-end}
 
 -- ---- Names that were declared.
 

@@ -12,16 +12,16 @@ use Rattle.rules.specs.paper.Checker.{Meaning, function, Scope, Judged, fault, 
 use Rattle.reader.specs.Pack.{packed-operand}
 use Rattle.reader.specs.Stored.{operand-is, StoredFormals}
 use Rattle.reader.specs.StandingLaws.{after-node, operand-name, operand-number}
-use Rattle.checker.specs.Rows.{function-number, meaning-number, MeaningAt, code-at, function-at, ScopeAt}
-use Rattle.checker.specs.Answers.{FoundAs, found-nothing, found-binding, found-register, answer, fine-answer}
+use Rattle.typing.specs.Rows.{function-number, meaning-number, MeaningAt, code-at, function-at, ScopeAt}
+use Rattle.typing.specs.Answers.{FoundAs, found-nothing, found-binding, found-register, answer, fine-answer}
 use Rattle.checker.specs.Packing.{packed-codes}
 use Rattle.checker.specs.Commands.{ActualsAt, FormalsAt, CallAt, CallJudgedAt, ActualsJudgedAt, AgreementJudgedAt}
-use Rattle.checker.specs.declared.scope.Found.{Found}
-use Rattle.checker.specs.declared.scope.Found.the-variants.{Bound, Nothing}
-use Rattle.checker.specs.declared.codes.Answer.{Answer}
-use Rattle.checker.specs.declared.codes.Answer.the-variants.{Is, Fault}
+use Rattle.typing.specs.declared.scope.Found.{Found}
+use Rattle.typing.specs.declared.scope.Found.the-variants.{Bound, Nothing}
+use Rattle.typing.specs.declared.codes.Answer.{Answer}
+use Rattle.typing.specs.declared.codes.Answer.the-variants.{Is, Fault}
 use Rattle.checker.proofs.laws.commands.ActualLaws.{codes-parted, all-low}
-use Rattle.checker.proofs.laws.codes.AnswerLaws.{nothing-bound, same-number, same-pointer, same-fine, then-fault, then-fine}
+use Rattle.typing.proofs.laws.codes.AnswerLaws.{nothing-bound, same-number, same-pointer, same-fine, then-fault, then-fine}
 
 -- ---- The node's word: the name and the count.
 

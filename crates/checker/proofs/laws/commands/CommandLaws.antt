@@ -10,13 +10,13 @@ use Rattle.reader.specs.Pack.{packed-kind, packed-end}
 use Rattle.reader.specs.Stored.{kind-is, StoredExpression, StoredActuals, StoredCommand, StoredBlock}
 use Rattle.reader.specs.Stored as Stored
 use Rattle.reader.specs.StandingLaws.{expression-on, expression-end, command-on, command-end, after-node}
-use Rattle.checker.specs.Rows.{ScopeAt}
-use Rattle.checker.specs.Answers.{code-answer, fine-answer, ExpressionAt, ExpressionJudgedAt}
+use Rattle.typing.specs.Rows.{ScopeAt}
+use Rattle.typing.specs.Answers.{code-answer, fine-answer, ExpressionAt, ExpressionJudgedAt}
 use Rattle.checker.specs.Commands.{WritesRowsFrom, AssignAt, AssignJudgedAt, CallAt, CallJudgedAt, CommandAt, BlockAt, CommandJudgedAt, BlockJudgedAt}
-use Rattle.checker.specs.declared.codes.Answer.{Answer}
-use Rattle.checker.specs.declared.codes.Answer.the-variants.{Is, Fault}
-use Rattle.checker.proofs.laws.codes.AnswerLaws.{then-fault, then-fine, then-code, truth-fine}
-use Rattle.checker.proofs.laws.scope.KeptLaws.{kept-command, kept-scope}
+use Rattle.typing.specs.declared.codes.Answer.{Answer}
+use Rattle.typing.specs.declared.codes.Answer.the-variants.{Is, Fault}
+use Rattle.typing.proofs.laws.codes.AnswerLaws.{then-fault, then-fine, then-code, truth-fine}
+use Rattle.checker.proofs.laws.commands.KeptLaws.{kept-command, kept-scope}
 
 -- ---- Which command it is.
 

@@ -13,14 +13,14 @@ use Rattle.rules.specs.paper.Checker.{Meaning, Scope, Judged, fault, fine, _>>=
 use Rattle.reader.specs.Pack.{packed-kind, packed-end, packed-operand}
 use Rattle.reader.specs.Stored.{HasWord, kind-is, operand-is, StoredDeclaration, bind, dseq, StoredBound}
 use Rattle.reader.specs.StandingLaws.{declaration-on, bound-on, after-node}
-use Rattle.checker.specs.Rows.{meaning-numbers, rows-from, rows-end, row-word, meaning-number, MeaningAt, HasRow, Rows, no-rows, one-row, ScopeAt}
-use Rattle.checker.specs.Answers.{meaning-answer}
+use Rattle.typing.specs.Rows.{meaning-numbers, rows-from, rows-end, row-word, meaning-number, MeaningAt, HasRow, Rows, no-rows, one-row, ScopeAt}
+use Rattle.typing.specs.Answers.{meaning-answer}
 use Rattle.checker.specs.Commands.{WritesRowsFrom, BoundAt, DeclarationAt, NamesFrom, names-from, names-fault, DeclarationJudgedAt, BoundJudgedAt}
-use Rattle.checker.specs.declared.codes.Answer.{Answer}
-use Rattle.checker.specs.declared.codes.Answer.the-variants.{Is, Fault}
-use Rattle.checker.proofs.laws.codes.AnswerLaws.{two-answers, same-is}
+use Rattle.typing.specs.declared.codes.Answer.{Answer}
+use Rattle.typing.specs.declared.codes.Answer.the-variants.{Is, Fault}
+use Rattle.typing.proofs.laws.codes.AnswerLaws.{two-answers, same-is}
 use Rattle.reader.specs.StandingLaws as Standing
-use Rattle.checker.proofs.laws.scope.KeptLaws.{kept-lower, kept-then, kept-declaration, kept-meaning, kept-rows, kept-scope, kept-row, row-there, rows-append}
+use Rattle.checker.proofs.laws.commands.KeptLaws.{kept-lower, kept-then, kept-declaration, kept-meaning, kept-rows, kept-scope, kept-row, row-there, rows-append}
 use Rattle.checker.proofs.laws.declarations.BoundLaws.{bound-low, bound-meaning, meaning-low}
 
 -- ---- Where they stand and end.

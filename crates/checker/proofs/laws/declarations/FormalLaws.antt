@@ -12,12 +12,12 @@ use Rattle.rules.specs.paper.Checker.{code, Named, Scope, fault, has-name, dist
 use Rattle.reader.specs.Pack.{packed-operand}
 use Rattle.reader.specs.Stored.{HasWord, StoredFormals, no-formals, one-formal, operand-is}
 use Rattle.reader.specs.StandingLaws.{after-node, operand-name, operand-number}
-use Rattle.checker.specs.Rows.{meaning-numbers, rows-from, rows-end, row-word, code-at, Rows, one-row, RowFound}
+use Rattle.typing.specs.Rows.{meaning-numbers, rows-from, rows-end, row-word, code-at, Rows, one-row, RowFound}
 use Rattle.checker.specs.Commands.{WritesRowsFrom, FormalsAt, NamesFrom, names-from, names-fault, formals-give, FormalsJudgedAt}
-use Rattle.checker.specs.declared.codes.Answer.{Answer}
-use Rattle.checker.specs.declared.codes.Answer.the-variants.{Is, Fault}
-use Rattle.checker.proofs.laws.scope.RowLaws.{row-has, row-has-not}
-use Rattle.checker.proofs.laws.scope.KeptLaws.{kept-nothing, kept-then, kept-rows, kept-formals, kept-row, row-there}
+use Rattle.typing.specs.declared.codes.Answer.{Answer}
+use Rattle.typing.specs.declared.codes.Answer.the-variants.{Is, Fault}
+use Rattle.typing.proofs.laws.scope.RowLaws.{row-has, row-has-not}
+use Rattle.checker.proofs.laws.commands.KeptLaws.{kept-nothing, kept-then, kept-rows, kept-formals, kept-row, row-there}
 
 abbrev pub named : Formal → Named
 named f = record { name = f .name; meaning = code (f .code) }

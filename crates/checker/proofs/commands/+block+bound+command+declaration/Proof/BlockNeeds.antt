@@ -5,7 +5,7 @@ use native.Mathlib.Omega.{arith}
 use mathlib.Core.Path.{_∙_}
 use borrow.Author.Needs.{needs}
 use Rattle.checker.proofs.laws.commands.BlockLaws.{block-parts, block-first-low, block-fault, block-inside, block-fine}
-use Rattle.checker.proofs.laws.scope.KeptLaws.{kept-then, kept-lower}
+use Rattle.checker.proofs.laws.commands.KeptLaws.{kept-then, kept-lower}
 use Rattle.checker.proofs.commands.block.Reads as block
 use Rattle.checker.proofs.commands.+block+bound+command+declaration.Lts-block as block-lts
 use Rattle.checker.proofs.commands.+block+bound+command+declaration.Proof.TreeCalls.{block-at, block-calls}

@@ -6,8 +6,8 @@ use denote.Ref.{now}
 use borrow.Author.Needs.{needs}
 use mathlib.Core.Path.{_∙_}
 use mathlib.Core.List.{[]}
-use Rattle.checker.specs.Rows.{no-rows}
-use Rattle.checker.proofs.laws.scope.KeptLaws.{kept-nothing, kept-lower}
+use Rattle.typing.specs.Rows.{no-rows}
+use Rattle.checker.proofs.laws.commands.KeptLaws.{kept-nothing, kept-lower}
 use Rattle.checker.proofs.laws.declarations.BoundLaws.{bound-low, ref-child, ref-fault, ref-fine, plain-there, plain-means, abs-there, abs-formals-fault, inner-low, inner-scope, inner-block, abs-body-fault, abs-body-fine, abs-kept}
 use Rattle.checker.proofs.commands.bound.Reads as bound
 use Rattle.checker.proofs.commands.+block+bound+command+declaration.Lts-bound as bound-lts

@@ -7,7 +7,7 @@ use mathlib.Core.Path.{sym, subst, _∙_}
 use borrow.Author.Needs.{needs}
 use Rattle.checker.specs.Commands.{CommandAt}
 use Rattle.checker.proofs.laws.commands.CommandLaws.{assign-there, block-there, call-there, loop-there, commands-there, command-assign, command-block, command-call, loop-test-fault, loop-body-fault, loop-fine, commands-fault, commands-fine, fine-before}
-use Rattle.checker.proofs.laws.scope.KeptLaws.{kept-then, kept-command, kept-scope, kept-nothing, kept-lower, kept-end}
+use Rattle.checker.proofs.laws.commands.KeptLaws.{kept-then, kept-command, kept-scope, kept-nothing, kept-lower, kept-end}
 use Rattle.checker.proofs.commands.command.Reads as command
 use Rattle.checker.proofs.commands.+block+bound+command+declaration.Lts-command as command-lts
 use Rattle.checker.proofs.commands.+block+bound+command+declaration.Proof.TreeCalls.{command-at, command-calls}

@@ -6,7 +6,7 @@ use denote.Ref.{now}
 use borrow.Author.Needs.{needs}
 use mathlib.Core.Path.{_∙_}
 use lib.ListN.{length-set}
-use Rattle.checker.proofs.laws.scope.KeptLaws.{kept-lower}
+use Rattle.checker.proofs.laws.commands.KeptLaws.{kept-lower}
 use Rattle.checker.proofs.laws.declarations.DeclarationLaws.{declaration-low, first-declaration, first-declaration-low, sequence-first-fault, second-scope, second-declaration, second-after, second-tail, sequence-second-fault, sequence-kept, first-rows, second-rows, sequence-repeated, sequence-fine, bind-child, bind-low, bind-name, bind-fault, bind-number, bind-kept, bind-fine}
 use Rattle.checker.proofs.commands.declaration.Reads as declaration
 use Rattle.checker.proofs.commands.+block+bound+command+declaration.Lts-declaration as declaration-lts

@@ -1,4 +1,0 @@
--- Names, and expressions by their kinds.
-pub mod NameLaws
-pub mod ExpressionLaws
-pub mod CodeRangeLaws
