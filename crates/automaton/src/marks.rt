@@ -4,11 +4,8 @@ ghost use Rattle.machine.specs.Steps.{Applicable, Steps};
 use commands::marks::assign_mark;
 use commands::marks::loop_mark;
 use commands::marks::ref_mark;
-use expressions::marks::arithmetic_mark;
-use expressions::marks::equal_mark;
-use expressions::marks::logic_mark;
 use expressions::marks::not_mark;
-use expressions::marks::order_mark;
+use expressions::marks::operator_mark;
 use frames::blocks::extend_mark;
 use frames::blocks::leave_mark;
 use frames::calls::call_mark;
@@ -28,17 +25,6 @@ pub fn mark_rule(work: &mut [u64], m: Machine, word: u64) -> Stepped
 {
     let number = (word % MARK_NUMBERS) as usize;
     match number {
-        kinds::SUM => arithmetic_mark(work, m, word),
-        kinds::SUB => arithmetic_mark(work, m, word),
-        kinds::MUL => arithmetic_mark(work, m, word),
-        kinds::DIV => arithmetic_mark(work, m, word),
-        kinds::EQ => equal_mark(work, m, word),
-        kinds::LT => order_mark(work, m, word),
-        kinds::LE => order_mark(work, m, word),
-        kinds::GT => order_mark(work, m, word),
-        kinds::GE => order_mark(work, m, word),
-        kinds::AND => logic_mark(work, m, word),
-        kinds::OR => logic_mark(work, m, word),
         kinds::NOT => not_mark(work, m, word),
         kinds::ASSIGN => assign_mark(work, m, word),
         kinds::LOOP => loop_mark(work, m, word),
@@ -47,6 +33,7 @@ pub fn mark_rule(work: &mut [u64], m: Machine, word: u64) -> Stepped
         kinds::CALL => call_mark(work, m, word),
         kinds::BIND => bind_mark(work, m, word),
         kinds::DSEQ => dseq_mark(work, m, word),
-        _ => ref_mark(work, m, word),
+        kinds::REF => ref_mark(work, m, word),
+        _ => operator_mark(work, m, word),
     }
 }

@@ -1,2 +1,3 @@
 pub mod OperatorLaws
 pub mod OperatorNumberLaws
+pub mod OperatorClassLaws

@@ -2,7 +2,7 @@
 ghost use mathlib.Core.Path.{_≡_};
 ghost use Prim.Native.Nat.{_+_, _≤_};
 ghost use Rattle.rules.specs.paper.Kinds.{operator-number};
-ghost use Rattle.rules.specs.paper.Tree.{Arithmetic, Order, Logic, arithmetic, Eq, order, logic};
+ghost use Rattle.rules.specs.paper.Tree.{Operator, Arithmetic, Order, Logic, arithmetic, Eq, order, logic};
 ghost use Rattle.rules.specs.paper.Integers.{compute, compare};
 ghost use Rattle.rules.specs.paper.States.{operator-mark, not-mark, mark};
 ghost use Rattle.machine.specs.Layout.{mark-base};
@@ -14,6 +14,7 @@ use integers::Computed;
 use machine::Machine;
 use machine::Stepped;
 use machine::layout::AND_MARK;
+use machine::layout::EQ_MARK;
 use machine::layout::GT_MARK;
 use machine::layout::LE_MARK;
 use machine::layout::LT_MARK;
@@ -51,7 +52,7 @@ fn replace_two(work: &mut [u64], mut m: Machine, payload: u64) -> Stepped
 }
 
 // Sum to Div.
-pub fn arithmetic_mark(work: &mut [u64], m: Machine, word: u64) -> Stepped
+fn arithmetic_mark(work: &mut [u64], m: Machine, word: u64) -> Stepped
     requires { ⌜ ((o : Arithmetic) × (word ≡ mark-base + operator-number (arithmetic o)) × Applicable (now work) m word (mark (operator-mark (arithmetic o)))) ⌝ }
     ensures { λ r. ⌜ ((o : Arithmetic) → word ≡ mark-base + operator-number (arithmetic o) → Steps (now (work .entry)) m word (mark (operator-mark (arithmetic o))) r (now (work .exit))) ⌝ }
 {
@@ -65,7 +66,7 @@ pub fn arithmetic_mark(work: &mut [u64], m: Machine, word: u64) -> Stepped
 }
 
 // Eq.
-pub fn equal_mark(work: &mut [u64], m: Machine, word: u64) -> Stepped
+fn equal_mark(work: &mut [u64], m: Machine, word: u64) -> Stepped
     requires { ⌜ Applicable (now work) m word (mark (operator-mark Eq)) ⌝ }
     ensures { λ r. ⌜ Steps (now (work .entry)) m word (mark (operator-mark Eq)) r (now (work .exit)) ⌝ }
 {
@@ -79,7 +80,7 @@ pub fn equal_mark(work: &mut [u64], m: Machine, word: u64) -> Stepped
 }
 
 // Lt to Ge.
-pub fn order_mark(work: &mut [u64], m: Machine, word: u64) -> Stepped
+fn order_mark(work: &mut [u64], m: Machine, word: u64) -> Stepped
     requires { ⌜ ((o : Order) × (word ≡ mark-base + operator-number (order o)) × Applicable (now work) m word (mark (operator-mark (order o)))) ⌝ }
     ensures { λ r. ⌜ ((o : Order) → word ≡ mark-base + operator-number (order o) → Steps (now (work .entry)) m word (mark (operator-mark (order o))) r (now (work .exit))) ⌝ }
 {
@@ -110,7 +111,7 @@ fn compared(which: u64, first: u64, second: u64) -> bool
 }
 
 // And, Or.
-pub fn logic_mark(work: &mut [u64], m: Machine, word: u64) -> Stepped
+fn logic_mark(work: &mut [u64], m: Machine, word: u64) -> Stepped
     requires { ⌜ ((o : Logic) × (word ≡ mark-base + operator-number (logic o)) × Applicable (now work) m word (mark (operator-mark (logic o)))) ⌝ }
     ensures { λ r. ⌜ ((o : Logic) → word ≡ mark-base + operator-number (logic o) → Steps (now (work .entry)) m word (mark (operator-mark (logic o))) r (now (work .exit))) ⌝ }
 {
@@ -127,6 +128,23 @@ pub fn logic_mark(work: &mut [u64], m: Machine, word: u64) -> Stepped
         return replace_two(work, m, second);
     }
     replace_two(work, m, 1)
+}
+
+// The mark of an operator, by the operator's class.
+pub fn operator_mark(work: &mut [u64], m: Machine, word: u64) -> Stepped
+    requires { ⌜ ((o : Operator) × (word ≡ mark-base + operator-number o) × Applicable (now work) m word (mark (operator-mark o))) ⌝ }
+    ensures { λ r. ⌜ ((o : Operator) → word ≡ mark-base + operator-number o → Steps (now (work .entry)) m word (mark (operator-mark o)) r (now (work .exit))) ⌝ }
+{
+    if word < EQ_MARK {
+        return arithmetic_mark(work, m, word);
+    }
+    if word == EQ_MARK {
+        return equal_mark(work, m, word);
+    }
+    if word < AND_MARK {
+        return order_mark(work, m, word);
+    }
+    logic_mark(work, m, word)
 }
 
 // Not.

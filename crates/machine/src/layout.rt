@@ -71,6 +71,8 @@ pub const SUB_MARK: u64 = MARK + kinds::SUB as u64;
 
 pub const MUL_MARK: u64 = MARK + kinds::MUL as u64;
 
+pub const EQ_MARK: u64 = MARK + kinds::EQ as u64;
+
 pub const LT_MARK: u64 = MARK + kinds::LT as u64;
 
 pub const LE_MARK: u64 = MARK + kinds::LE as u64;

@@ -18,23 +18,12 @@ use Rattle.machine.specs.declared.Stepped.{Stepped}
 
 -- The rules of marks.
 pub data Arm : Type 0 where
-  on-arithmetic on-equal on-order on-logic on-not on-assign on-loop on-leave on-extend on-call on-bind on-dseq on-ref : Arm
+  on-operator on-not on-assign on-loop on-leave on-extend on-call on-bind on-dseq on-ref : Arm
 
 -- By the number, in the order of the code's arms.
 abbrev pub arm-of : ℕ → Arm
 arm-of k =
-    cond (eqb k 4) on-arithmetic
-    (cond (eqb k 5) on-arithmetic
-    (cond (eqb k 6) on-arithmetic
-    (cond (eqb k 7) on-arithmetic
-    (cond (eqb k 8) on-equal
-    (cond (eqb k 9) on-order
-    (cond (eqb k 10) on-order
-    (cond (eqb k 11) on-order
-    (cond (eqb k 12) on-order
-    (cond (eqb k 13) on-logic
-    (cond (eqb k 14) on-logic
-    (cond (eqb k 15) on-not
+    cond (eqb k 15) on-not
     (cond (eqb k 20) on-assign
     (cond (eqb k 21) on-loop
     (cond (eqb k 22) on-leave
@@ -42,14 +31,12 @@ arm-of k =
     (cond (eqb k 24) on-call
     (cond (eqb k 30) on-bind
     (cond (eqb k 31) on-dseq
-    on-ref))))))))))))))))))
+    (cond (eqb k 40) on-ref
+    on-operator))))))))
 
 -- Which marks have the rule.
 abbrev pub Has : (w : ℕ) → Arm → Mark → Type 0
-Has w on-arithmetic k = (o : Arithmetic) × (w ≡ mark-base + operator-number (arithmetic o)) × (k ≡ operator-mark (arithmetic o))
-Has w on-equal k = k ≡ operator-mark Eq
-Has w on-order k = (o : Order) × (w ≡ mark-base + operator-number (order o)) × (k ≡ operator-mark (order o))
-Has w on-logic k = (o : Logic) × (w ≡ mark-base + operator-number (logic o)) × (k ≡ operator-mark (logic o))
+Has w on-operator k = (o : Operator) × (w ≡ mark-base + operator-number o) × (k ≡ operator-mark o)
 Has w on-not k = k ≡ not-mark
 Has w on-assign k = k ≡ assign-mark
 Has w on-loop k = k ≡ loop-mark
@@ -66,17 +53,17 @@ by-kind : (w c : ℕ) (k : Mark) → w % 64 ≡ c → Has w (arm-of c) k → Has
 by-kind w c k q h = subst (λ n. Has w (arm-of n) k) (sym q) h
 
 operator-has : (w : ℕ) (o : Operator) → w ≡ mark-base + operator-number o → Has w (arm-of (w % 64)) (operator-mark o)
-operator-has w (arithmetic Sum) q = by-kind w 4 (operator-mark (arithmetic Sum)) (omega arith) (Sum, q, refl)
-operator-has w (arithmetic Sub) q = by-kind w 5 (operator-mark (arithmetic Sub)) (omega arith) (Sub, q, refl)
-operator-has w (arithmetic Mul) q = by-kind w 6 (operator-mark (arithmetic Mul)) (omega arith) (Mul, q, refl)
-operator-has w (arithmetic Div) q = by-kind w 7 (operator-mark (arithmetic Div)) (omega arith) (Div, q, refl)
-operator-has w Eq q = by-kind w 8 (operator-mark Eq) (omega arith) refl
-operator-has w (order Lt) q = by-kind w 9 (operator-mark (order Lt)) (omega arith) (Lt, q, refl)
-operator-has w (order Le) q = by-kind w 10 (operator-mark (order Le)) (omega arith) (Le, q, refl)
-operator-has w (order Gt) q = by-kind w 11 (operator-mark (order Gt)) (omega arith) (Gt, q, refl)
-operator-has w (order Ge) q = by-kind w 12 (operator-mark (order Ge)) (omega arith) (Ge, q, refl)
-operator-has w (logic And) q = by-kind w 13 (operator-mark (logic And)) (omega arith) (And, q, refl)
-operator-has w (logic Or) q = by-kind w 14 (operator-mark (logic Or)) (omega arith) (Or, q, refl)
+operator-has w (arithmetic Sum) q = by-kind w 4 (operator-mark (arithmetic Sum)) (omega arith) (arithmetic Sum, q, refl)
+operator-has w (arithmetic Sub) q = by-kind w 5 (operator-mark (arithmetic Sub)) (omega arith) (arithmetic Sub, q, refl)
+operator-has w (arithmetic Mul) q = by-kind w 6 (operator-mark (arithmetic Mul)) (omega arith) (arithmetic Mul, q, refl)
+operator-has w (arithmetic Div) q = by-kind w 7 (operator-mark (arithmetic Div)) (omega arith) (arithmetic Div, q, refl)
+operator-has w Eq q = by-kind w 8 (operator-mark Eq) (omega arith) (Eq, q, refl)
+operator-has w (order Lt) q = by-kind w 9 (operator-mark (order Lt)) (omega arith) (order Lt, q, refl)
+operator-has w (order Le) q = by-kind w 10 (operator-mark (order Le)) (omega arith) (order Le, q, refl)
+operator-has w (order Gt) q = by-kind w 11 (operator-mark (order Gt)) (omega arith) (order Gt, q, refl)
+operator-has w (order Ge) q = by-kind w 12 (operator-mark (order Ge)) (omega arith) (order Ge, q, refl)
+operator-has w (logic And) q = by-kind w 13 (operator-mark (logic And)) (omega arith) (logic And, q, refl)
+operator-has w (logic Or) q = by-kind w 14 (operator-mark (logic Or)) (omega arith) (logic Or, q, refl)
 
 leave-kind : (w m : ℕ) → w ≡ leave-word m → w % 64 ≡ 22
 leave-kind w m q = omega arith
@@ -99,30 +86,20 @@ has (call-on {w = w} {p = p} {x = x} {k = k} q l g h) = by-kind w 24 (call-mark 
 -- ---- The last arm: none of the numbers of the others.
 
 abbrev pub Others : ℕ → Type 0
-Others k = ((((((((((((((((((Unit {0} × (k ≡ 4 → ⊥)) × (k ≡ 5 → ⊥)) × (k ≡ 6 → ⊥)) × (k ≡ 7 → ⊥)) × (k ≡ 8 → ⊥)) × (k ≡ 9 → ⊥)) × (k ≡ 10 → ⊥)) × (k ≡ 11 → ⊥)) × (k ≡ 12 → ⊥)) × (k ≡ 13 → ⊥)) × (k ≡ 14 → ⊥)) × (k ≡ 15 → ⊥)) × (k ≡ 20 → ⊥)) × (k ≡ 21 → ⊥)) × (k ≡ 22 → ⊥)) × (k ≡ 23 → ⊥)) × (k ≡ 24 → ⊥)) × (k ≡ 30 → ⊥)) × (k ≡ 31 → ⊥)
+Others k = ((((((((Unit {0} × (k ≡ 15 → ⊥)) × (k ≡ 20 → ⊥)) × (k ≡ 21 → ⊥)) × (k ≡ 22 → ⊥)) × (k ≡ 23 → ⊥)) × (k ≡ 24 → ⊥)) × (k ≡ 30 → ⊥)) × (k ≡ 31 → ⊥)) × (k ≡ 40 → ⊥)
 
-pub is-ref : (k : ℕ) → Others k → arm-of k ≡ on-ref
-is-ref k h =
+pub is-operator : (k : ℕ) → Others k → arm-of k ≡ on-operator
+is-operator k h =
     rw (
-      ne-eqb k 4 (h .0 .0 .0 .0 .0 .0 .0 .0 .0 .0 .0 .0 .0 .0 .0 .0 .0 .0 .1),
-      ne-eqb k 5 (h .0 .0 .0 .0 .0 .0 .0 .0 .0 .0 .0 .0 .0 .0 .0 .0 .0 .1),
-      ne-eqb k 6 (h .0 .0 .0 .0 .0 .0 .0 .0 .0 .0 .0 .0 .0 .0 .0 .0 .1),
-      ne-eqb k 7 (h .0 .0 .0 .0 .0 .0 .0 .0 .0 .0 .0 .0 .0 .0 .0 .1),
-      ne-eqb k 8 (h .0 .0 .0 .0 .0 .0 .0 .0 .0 .0 .0 .0 .0 .0 .1),
-      ne-eqb k 9 (h .0 .0 .0 .0 .0 .0 .0 .0 .0 .0 .0 .0 .0 .1),
-      ne-eqb k 10 (h .0 .0 .0 .0 .0 .0 .0 .0 .0 .0 .0 .0 .1),
-      ne-eqb k 11 (h .0 .0 .0 .0 .0 .0 .0 .0 .0 .0 .0 .1),
-      ne-eqb k 12 (h .0 .0 .0 .0 .0 .0 .0 .0 .0 .0 .1),
-      ne-eqb k 13 (h .0 .0 .0 .0 .0 .0 .0 .0 .0 .1),
-      ne-eqb k 14 (h .0 .0 .0 .0 .0 .0 .0 .0 .1),
-      ne-eqb k 15 (h .0 .0 .0 .0 .0 .0 .0 .1),
-      ne-eqb k 20 (h .0 .0 .0 .0 .0 .0 .1),
-      ne-eqb k 21 (h .0 .0 .0 .0 .0 .1),
-      ne-eqb k 22 (h .0 .0 .0 .0 .1),
-      ne-eqb k 23 (h .0 .0 .0 .1),
-      ne-eqb k 24 (h .0 .0 .1),
-      ne-eqb k 30 (h .0 .1),
-      ne-eqb k 31 (h .1),
+      ne-eqb k 15 (h .0 .0 .0 .0 .0 .0 .0 .0 .1),
+      ne-eqb k 20 (h .0 .0 .0 .0 .0 .0 .0 .1),
+      ne-eqb k 21 (h .0 .0 .0 .0 .0 .0 .1),
+      ne-eqb k 22 (h .0 .0 .0 .0 .0 .1),
+      ne-eqb k 23 (h .0 .0 .0 .0 .1),
+      ne-eqb k 24 (h .0 .0 .0 .1),
+      ne-eqb k 30 (h .0 .0 .1),
+      ne-eqb k 31 (h .0 .1),
+      ne-eqb k 40 (h .1),
     )
 
 -- ---- What the rule's function needs.
@@ -137,14 +114,8 @@ module _ (words : List ℕ) (m : Machine) (w : ℕ) (s : (k : Mark) × Applicabl
   pub plain-needs : (a : Arm) (k : Mark) → ((j : Mark) → Has w a j → j ≡ k) → arm-of (w % 64) ≡ a → Applicable words m w (mark k)
   plain-needs a k only q = as-mark (only (s .0) (has-there a q))
 
-  pub arithmetic-needs : arm-of (w % 64) ≡ on-arithmetic → (o : Arithmetic) × (w ≡ mark-base + operator-number (arithmetic o)) × Applicable words m w (mark (operator-mark (arithmetic o)))
-  arithmetic-needs q = let h = has-there on-arithmetic q in (h .0, h .1, as-mark (h .2))
-
-  pub order-needs : arm-of (w % 64) ≡ on-order → (o : Order) × (w ≡ mark-base + operator-number (order o)) × Applicable words m w (mark (operator-mark (order o)))
-  order-needs q = let h = has-there on-order q in (h .0, h .1, as-mark (h .2))
-
-  pub logic-needs : arm-of (w % 64) ≡ on-logic → (o : Logic) × (w ≡ mark-base + operator-number (logic o)) × Applicable words m w (mark (operator-mark (logic o)))
-  logic-needs q = let h = has-there on-logic q in (h .0, h .1, as-mark (h .2))
+  pub operator-needs : arm-of (w % 64) ≡ on-operator → (o : Operator) × (w ≡ mark-base + operator-number o) × Applicable words m w (mark (operator-mark o))
+  operator-needs q = let h = has-there on-operator q in (h .0, h .1, as-mark (h .2))
 
   pub leave-needs : arm-of (w % 64) ≡ on-leave → (p n : ℕ) × Applicable words m w (mark (leave-mark p n))
   leave-needs q = let h = has-there on-leave q in (h .0, h .1, as-mark (h .2))
@@ -164,14 +135,8 @@ module _ (before : List ℕ) (m : Machine) (w : ℕ) (answer : Stepped) (after :
   pub plain-steps : (a : Arm) (k : Mark) → ((j : Mark) → Has w a j → j ≡ k) → arm-of (w % 64) ≡ a → At k → (j : Mark) → At j
   plain-steps a k only q h = steps-by a q (λ j e. subst At (sym (only j e)) h)
 
-  pub arithmetic-steps : arm-of (w % 64) ≡ on-arithmetic → ((o : Arithmetic) → w ≡ mark-base + operator-number (arithmetic o) → At (operator-mark (arithmetic o))) → (k : Mark) → At k
-  arithmetic-steps q h = steps-by on-arithmetic q (λ k e. subst At (sym (e .2)) (h (e .0) (e .1)))
-
-  pub order-steps : arm-of (w % 64) ≡ on-order → ((o : Order) → w ≡ mark-base + operator-number (order o) → At (operator-mark (order o))) → (k : Mark) → At k
-  order-steps q h = steps-by on-order q (λ k e. subst At (sym (e .2)) (h (e .0) (e .1)))
-
-  pub logic-steps : arm-of (w % 64) ≡ on-logic → ((o : Logic) → w ≡ mark-base + operator-number (logic o) → At (operator-mark (logic o))) → (k : Mark) → At k
-  logic-steps q h = steps-by on-logic q (λ k e. subst At (sym (e .2)) (h (e .0) (e .1)))
+  pub operator-steps : arm-of (w % 64) ≡ on-operator → ((o : Operator) → w ≡ mark-base + operator-number o → At (operator-mark o)) → (k : Mark) → At k
+  operator-steps q h = steps-by on-operator q (λ k e. subst At (sym (e .2)) (h (e .0) (e .1)))
 
   pub leave-steps : arm-of (w % 64) ≡ on-leave → ((p n : ℕ) → At (leave-mark p n)) → (k : Mark) → At k
   leave-steps q h = steps-by on-leave q (λ k e. subst At (sym (e .2)) (h (e .0) (e .1)))
