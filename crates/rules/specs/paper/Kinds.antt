@@ -149,7 +149,7 @@ is-of a-root ref = false
 is-of a-root abs = false
 is-of a-root formal = false
 
--- Every kind. Kind-known in the proofs shows that none is missing.
+-- Every kind: `kind-known` (ReaderComplete.antt) shows that none is missing.
 unfoldable pub every-kind : List Kind
 every-kind =
     expression-kind num ∷ expression-kind boo ∷ expression-kind id ∷
