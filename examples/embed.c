@@ -13,23 +13,34 @@ static const size_t image_length = sizeof image / sizeof image[0];
 // Lent to each call; 64 KB are better not on the stack.
 static uint64_t work[PI_WORK_WORDS];
 
+// Prints a refusal with its name and what it says, from the header's list.
+static int refused(uint64_t refusal, uint64_t place)
+{
+#define ROW(enumerator, number, name, sentence) \
+    case enumerator: \
+        printf("refused %d at %" PRIu64 " (%s: %s)\n", number, place, name, sentence); \
+        break;
+
+    switch ((PiRefusal)refusal) {
+    case PI_REFUSAL_NONE:
+        break;
+    PI_REFUSAL_LIST(ROW)
+    }
+    return 1;
+}
+
 int main(void)
 {
-    CheckReply checked = pi_check(image, image_length, work, PI_WORK_WORDS);
-    if (checked.refusal != PI_REFUSAL_NONE) {
-        printf("refused %" PRIu64 " at %" PRIu64 "\n", checked.refusal, checked.place);
-        return 1;
-    }
+    PiCheckReply checked = pi_check(image, image_length, work, PI_WORK_WORDS);
+    if (checked.refusal != PI_REFUSAL_NONE)
+        return refused(checked.refusal, checked.place);
 
     // This routine has no registers, so none are handed over.
-    RunReply ran = pi_run(image, image_length, NULL, 0, PI_MOST_BUDGET, work, PI_WORK_WORDS);
-    if (ran.refusal != PI_REFUSAL_NONE) {
-        printf("refused %" PRIu64 " at %" PRIu64 "\n", ran.refusal, ran.place);
-        return 1;
-    }
-    if (ran.outcome == PI_OUTCOME_NUMBER) {
+    PiRunReply ran = pi_run(image, image_length, NULL, 0, PI_MOST_BUDGET, work, PI_WORK_WORDS);
+    if (ran.refusal != PI_REFUSAL_NONE)
+        return refused(ran.refusal, ran.place);
+    if (ran.outcome == PI_OUTCOME_NUMBER)
         printf("number %" PRId64 "\n", ran.value);
-    }
     printf("steps %" PRIu64 "\n", ran.steps);
     return 0;
 }

@@ -1,13 +1,24 @@
 #!/usr/bin/env bash
 # Makes the image of each sample routine, runs it, and compares with the output stored beside it.
-# usage: examples/run.sh PROGRAM [ARGUMENT..]
-# PROGRAM reads an image and its starting values from standard input, as target/bin/pirun does.
 # A part that cannot run counts as failed. The last line is 'N passed, M failed'; the exit status is 0 only when M is 0.
 set -u
-if [ $# -eq 0 ]; then
-    echo 'usage: examples/run.sh PROGRAM [ARGUMENT..]' >&2
-    exit 2
-fi
+
+help='usage: examples/run.sh [PROGRAM [ARGUMENT..]]
+
+Runs every sample routine and compares what PROGRAM prints with what is stored.
+PROGRAM reads an image and its starting values from standard input. It is
+target/bin/pirun if none is named; another one is the second interpreter:
+  examples/run.sh tests/second/target/release/second program
+It takes a second, and the first time some ten more to build the image tool.'
+case ${1-} in
+-h | --help)
+    echo "$help"
+    exit 0
+    ;;
+'')
+    set -- "$(dirname "$0")/../target/bin/pirun"
+    ;;
+esac
 
 # Nothing can run without this.
 none_run() { # WHAT IS MISSING
@@ -16,7 +27,18 @@ none_run() { # WHAT IS MISSING
     exit 1
 }
 
-command -v "$1" >/dev/null || none_run "there is no $1"
+# How the program is built, by the end of its path.
+how_to_build() { # PROGRAM
+    case $1 in
+    *pirun) echo 'rt check pirun (about 5 minutes the first time)' ;;
+    *second) echo 'cargo build --offline --release --manifest-path tests/second/Cargo.toml' ;;
+    esac
+}
+
+if ! command -v "$1" >/dev/null; then
+    builds=$(how_to_build "$1")
+    none_run "there is no program $1${builds:+; to build it: $builds}"
+fi
 # A program named by a path is looked for where the script was called.
 program=$1
 shift

@@ -1,6 +1,13 @@
 /*
  * The Π IR routine engine, for a C host: checks the image of a routine and runs it over the site's
- * registers. Link the static library; it needs no library but the C library's memory functions.
+ * registers. For C99 and later, and C++11 and later.
+ *
+ * The target is x86-64 Linux, with the System V calling convention; code for other targets is not
+ * made. The static library needs nothing but the C library's memory functions. To make it, and to
+ * compile and link the program below:
+ *
+ *     rt staticlib engine
+ *     cc -std=c99 -Iinclude examples/embed.c target/staticlib/libengine.a -o embed
  *
  * A complete program (examples/embed.c):
  *
@@ -19,23 +26,34 @@
  *     // Lent to each call; 64 KB are better not on the stack.
  *     static uint64_t work[PI_WORK_WORDS];
  *
+ *     // Prints a refusal with its name and what it says, from the header's list.
+ *     static int refused(uint64_t refusal, uint64_t place)
+ *     {
+ *     #define ROW(enumerator, number, name, sentence) \
+ *         case enumerator: \
+ *             printf("refused %d at %" PRIu64 " (%s: %s)\n", number, place, name, sentence); \
+ *             break;
+ *
+ *         switch ((PiRefusal)refusal) {
+ *         case PI_REFUSAL_NONE:
+ *             break;
+ *         PI_REFUSAL_LIST(ROW)
+ *         }
+ *         return 1;
+ *     }
+ *
  *     int main(void)
  *     {
- *         CheckReply checked = pi_check(image, image_length, work, PI_WORK_WORDS);
- *         if (checked.refusal != PI_REFUSAL_NONE) {
- *             printf("refused %" PRIu64 " at %" PRIu64 "\n", checked.refusal, checked.place);
- *             return 1;
- *         }
+ *         PiCheckReply checked = pi_check(image, image_length, work, PI_WORK_WORDS);
+ *         if (checked.refusal != PI_REFUSAL_NONE)
+ *             return refused(checked.refusal, checked.place);
  *
  *         // This routine has no registers, so none are handed over.
- *         RunReply ran = pi_run(image, image_length, NULL, 0, PI_MOST_BUDGET, work, PI_WORK_WORDS);
- *         if (ran.refusal != PI_REFUSAL_NONE) {
- *             printf("refused %" PRIu64 " at %" PRIu64 "\n", ran.refusal, ran.place);
- *             return 1;
- *         }
- *         if (ran.outcome == PI_OUTCOME_NUMBER) {
+ *         PiRunReply ran = pi_run(image, image_length, NULL, 0, PI_MOST_BUDGET, work, PI_WORK_WORDS);
+ *         if (ran.refusal != PI_REFUSAL_NONE)
+ *             return refused(ran.refusal, ran.place);
+ *         if (ran.outcome == PI_OUTCOME_NUMBER)
  *             printf("number %" PRId64 "\n", ran.value);
- *         }
  *         printf("steps %" PRIu64 "\n", ran.steps);
  *         return 0;
  *     }
@@ -54,9 +72,8 @@
  * - The answer does not hang on what the work words held.
  * - The registers are kept by refusals 1 to 22. Refusals 30 to 36 leave them as before the withheld
  *   step; a run that ends leaves what its last step left.
- * - No memory is used but the lent words and the stack. The stack is bounded for every image: a check
- *   takes under 24 KB (see README.md), and so does a run; on bytes under 40 KB, since the words are
- *   laid out there (tests/host measures all).
+ * - No memory is used but the lent words and the stack, of which a call takes no more than
+ *   PI_STACK_WORD_FORMS or PI_STACK_BYTE_FORMS bytes, whatever the image.
  * - Nothing is kept between calls, so calls on different buffers may run at once.
  * - Every call ends: a run makes at most its budget of steps, and the rest goes by the nodes.
  */
@@ -69,6 +86,16 @@
 #ifdef __cplusplus
 extern "C" {
 #endif
+
+/*
+ * The version of this header and of the library it was delivered with. What the three numbers mean,
+ * and what changed in which version, is in CHANGELOG.md. PI_VERSION_NUMBER is for #if.
+ */
+#define PI_VERSION_MAJOR 2
+#define PI_VERSION_MINOR 0
+#define PI_VERSION_PATCH 0
+#define PI_VERSION "2.0.0"
+#define PI_VERSION_NUMBER (PI_VERSION_MAJOR * 10000 + PI_VERSION_MINOR * 100 + PI_VERSION_PATCH)
 
 /* The work words of 64 bits that a call needs. */
 #define PI_WORK_WORDS 8192
@@ -90,14 +117,30 @@ extern "C" {
 #define PI_NAMES 64
 
 /*
+ * The most bytes of stack that a call takes, to size a thread's stack with: the word forms, pi_check
+ * and pi_run; and the byte forms, pi_check_bytes and pi_run_bytes, which lay the words out there.
+ * What the thread itself and a signal handler take comes on top. The figures are measured with the
+ * deepest images (tests/host), not proved, and have 4 KB to spare.
+ */
+#define PI_STACK_WORD_FORMS 28672
+#define PI_STACK_BYTE_FORMS 45056
+
+/*
  * The image: n, the count of nodes; r, the count of registers; the n kinds; the n operands. The nodes
  * stand in preorder: a node, then its children with all below them, left to right.
  */
 #define PI_IMAGE_WORDS(nodes) (2 + 2 * (size_t)(nodes))
 #define PI_IMAGE_BYTES(nodes) (8 + 8 * (size_t)(nodes))
 
+/*
+ * The four enums below have names, so that a compiler can warn of a switch with a missing case (gcc
+ * does by -Wswitch, which is in -Wall). The replies' fields are 64-bit words, so name the enum:
+ *
+ *     switch ((PiRefusal)reply.refusal)
+ */
+
 /* The kinds of nodes: children; operand. Where no operand is named it is 0. */
-enum {
+typedef enum PiKind {
     /* Expressions. */
     PI_KIND_NUM = 1,     /* none; the number, any 32-bit word */
     PI_KIND_BOO = 2,     /* none; 0 false, 1 true */
@@ -129,7 +172,7 @@ enum {
     PI_KIND_REF = 40,    /* expression */
     PI_KIND_ABS = 41,    /* count Formals, then a Blk; count */
     PI_KIND_FORMAL = 42  /* none; PI_OPERAND(name, type code) */
-};
+} PiKind;
 
 /* The operand of a Call, name and count, and of a Formal, name and type code. */
 #define PI_OPERAND(name, above) ((uint32_t)(name) + 64 * (uint32_t)(above))
@@ -137,93 +180,104 @@ enum {
 /*
  * A type code is base + 2 x level: level 0 is a plain value, each level above a location of the level
  * below, up to level 3. A check answers the root's code, or PI_CODE_COMMAND where it is a command.
+ * Codes 4 to 7, levels 2 and 3, have no name here; a Formal may have them, a root never has.
  */
-enum {
+typedef enum PiCode {
     PI_CODE_INTEGER = 0,
     PI_CODE_TRUTH = 1,
     PI_CODE_INTEGER_CELL = 2, /* a register's */
     PI_CODE_TRUTH_CELL = 3,
     PI_CODE_COMMAND = 8
-};
+} PiCode;
 
 /*
- * Why a call is refused. The place is a node's number in preorder, the root's is 0; where none is
- * named the place is 0.
+ * Why a call is refused, one row a refusal: its enumerator, its number, its name, and what it says.
+ * A host hands over a macro of four arguments and makes of the rows what it needs: a switch, a table.
+ *
+ * The place of 3 to 6 and of 10 to 14 is a node, by its number in preorder; the root's is 0. It is
+ * the node judged; for 5 the node that may not stand there, or n where a node is missing, or the
+ * first of the nodes left over; for 12 the DSeq with a name on both sides, or the Formal that
+ * repeats one. The place of 1, 2 and 20 to 36 is 0 and means no node, so look at the refusal first.
+ *
+ * More exactly: 1 is fewer than 2 words, or a length other than 2 + 2n (in bytes: see below); 6 is
+ * depth 65; 14 is no function, or one with another count of Formals; 21 and 22 touch nothing. With
+ * 30 to 36 a step is withheld, and the reply has the steps that were made before it; with 30 they
+ * equal the budget and the routine has not ended.
  */
-enum {
-    PI_REFUSAL_NONE = 0,
+#define PI_REFUSAL_LIST(ROW) \
+    /* Caused by the maker of the image. */ \
+    ROW(PI_REFUSAL_LENGTH, 1, "length", "the length does not fit the counts") \
+    ROW(PI_REFUSAL_COUNTS, 2, "counts", "n is not 1 to 2,000, or r is not 0 to 16") \
+    ROW(PI_REFUSAL_KIND, 3, "kind", "no such kind of node") \
+    ROW(PI_REFUSAL_OPERAND, 4, "operand", "the kind does not take this operand") \
+    ROW(PI_REFUSAL_TREE, 5, "tree", "a node of another sort, missing or left over") \
+    ROW(PI_REFUSAL_DEPTH, 6, "depth", "the node is deeper than 64") \
+    /* Caused by the routine's author. */ \
+    ROW(PI_REFUSAL_UNBOUND, 10, "unbound", "the name has no binding") \
+    ROW(PI_REFUSAL_TYPE, 11, "type", "the node takes another type") \
+    ROW(PI_REFUSAL_REPEATED, 12, "repeated", "the name is declared twice") \
+    ROW(PI_REFUSAL_NOT_ASSIGNABLE, 13, "not assignable", "the name cannot be set") \
+    ROW(PI_REFUSAL_CALL, 14, "call", "no function of this name with so many Formals") \
+    /* Caused by the host. */ \
+    ROW(PI_REFUSAL_REGISTERS, 20, "registers", "the registers are not as many as r") \
+    ROW(PI_REFUSAL_BUDGET, 21, "budget", "the budget is above 1,000,000") \
+    ROW(PI_REFUSAL_WORK, 22, "work", "the work words are fewer than 8,192") \
+    /* Caused by the run. */ \
+    ROW(PI_REFUSAL_STEPS, 30, "steps", "the budget is used up before the routine has ended") \
+    ROW(PI_REFUSAL_ZERO_DIVISOR, 31, "zero divisor", "a Div by zero") \
+    ROW(PI_REFUSAL_OUT_OF_RANGE, 32, "out of range", "the result is outside -2^63 to 2^63 - 1") \
+    ROW(PI_REFUSAL_CELLS, 33, "cells", "a 257th cell would be live") \
+    ROW(PI_REFUSAL_BINDINGS, 34, "bindings", "a 513th binding would be live") \
+    ROW(PI_REFUSAL_VALUES, 35, "values", "a 513th entry would be on the value stack") \
+    ROW(PI_REFUSAL_CONTROL, 36, "control", "a 513th entry would be on the control stack")
 
-    /* Caused by the maker of the image. */
-    PI_REFUSAL_LENGTH = 1,  /* fewer than 2 words, or a length other than 2 + 2n */
-    PI_REFUSAL_COUNTS = 2,  /* n is not 1 to 2,000, or r is not 0 to 16 */
-    PI_REFUSAL_KIND = 3,    /* no such kind; place: the node */
-    PI_REFUSAL_OPERAND = 4, /* an operand that its kind does not take; place: the node */
-    PI_REFUSAL_TREE = 5,    /* no such child or root may stand there, place: the node; or a node is
-                               missing, place: n; or nodes are left over, place: the first of them */
-    PI_REFUSAL_DEPTH = 6,   /* depth 65; place: the node */
-
-    /* Caused by the routine's author; place: the node judged. */
-    PI_REFUSAL_UNBOUND = 10,        /* a name that has no binding */
-    PI_REFUSAL_TYPE = 11,           /* a type that the node does not take */
-    PI_REFUSAL_REPEATED = 12,       /* a name on both sides of a DSeq, or a repeated Formal */
-    PI_REFUSAL_NOT_ASSIGNABLE = 13, /* a name that no Assign may set */
-    PI_REFUSAL_CALL = 14,           /* no function, or one with another count of Formals */
-
-    /* Caused by the host. */
-    PI_REFUSAL_REGISTERS = 20, /* not as many registers as r */
-    PI_REFUSAL_BUDGET = 21,    /* a budget above 1,000,000; nothing is touched */
-    PI_REFUSAL_WORK = 22,      /* fewer than 8,192 work words; nothing is touched */
-
-    /* Caused by the run; the reply has the steps that were made before the withheld one. */
-    PI_REFUSAL_STEPS = 30,        /* the steps made equal the budget and the routine has not ended */
-    PI_REFUSAL_ZERO_DIVISOR = 31, /* a Div by zero */
-    PI_REFUSAL_OUT_OF_RANGE = 32, /* a result outside -2^63 to 2^63 - 1 */
-    PI_REFUSAL_CELLS = 33,        /* a 257th live cell */
-    PI_REFUSAL_BINDINGS = 34,     /* a 513th live binding */
-    PI_REFUSAL_VALUES = 35,       /* a 513th entry on the value stack */
-    PI_REFUSAL_CONTROL = 36       /* a 513th entry on the control stack */
-};
+#define PI_REFUSAL_ENUMERATOR(enumerator, number, name, sentence) enumerator = number,
+typedef enum PiRefusal {
+    PI_REFUSAL_NONE = 0, /* the call is not refused */
+    PI_REFUSAL_LIST(PI_REFUSAL_ENUMERATOR)
+} PiRefusal;
+#undef PI_REFUSAL_ENUMERATOR
 
 /* What a run that ends leaves. */
-enum {
+typedef enum PiOutcome {
     PI_OUTCOME_NONE = 0,   /* nothing: the root is a command */
     PI_OUTCOME_NUMBER = 1, /* a number */
     PI_OUTCOME_TRUTH = 2,  /* a truth, 0 or 1 */
     PI_OUTCOME_CELL = 3    /* a location: the number of its cell, a register's own number */
-};
+} PiOutcome;
 
 /* What a check answers: three 64-bit words. */
-typedef struct CheckReply {
-    uint64_t refusal; /* PI_REFUSAL_NONE where the image passes */
-    uint64_t value;   /* where it passes: the root's type code or PI_CODE_COMMAND; else 0 */
+typedef struct PiCheckReply {
+    uint64_t refusal; /* a PiRefusal: PI_REFUSAL_NONE where the image passes */
+    uint64_t value;   /* where it passes a PiCode: the root's, or PI_CODE_COMMAND; else 0 */
     uint64_t place;   /* the refusal's place; 0 where the image passes */
-} CheckReply;
+} PiCheckReply;
 
 /* What a run answers: five 64-bit words. */
-typedef struct RunReply {
-    uint64_t refusal; /* PI_REFUSAL_NONE where the run ends */
-    uint64_t outcome; /* PI_OUTCOME_ and what is left; PI_OUTCOME_NONE where it is refused */
+typedef struct PiRunReply {
+    uint64_t refusal; /* a PiRefusal: PI_REFUSAL_NONE where the run ends */
+    uint64_t outcome; /* a PiOutcome: what is left; PI_OUTCOME_NONE where it is refused */
     int64_t value;    /* the number, the truth or the cell's number; else 0 */
     uint64_t place;   /* the refusal's place; 0 where the run ends */
     uint64_t steps;   /* the steps made; 0 for refusals 1 to 22 */
-} RunReply;
+} PiRunReply;
 
 /*
  * Checks an image of so many 32-bit words. Tested in this order: the work words (22), the image (1 to
  * 14). Answers PI_REFUSAL_NONE exactly when the image meets the rules of shape, scope and types.
  */
-CheckReply pi_check(const uint32_t *image, size_t image_length,
-                    uint64_t *work, size_t work_length);
+PiCheckReply pi_check(const uint32_t *image, size_t image_length,
+                      uint64_t *work, size_t work_length);
 
 /*
  * Checks an image and runs it with the registers' values, of at most `budget` steps. The registers
  * are changed in place. Tested in this order: the work words (22), the budget (21), the image (1 to
  * 14), the count of registers (20); then the steps are made (30 to 36).
  */
-RunReply pi_run(const uint32_t *image, size_t image_length,
-                int64_t *registers, size_t registers_length,
-                uint64_t budget,
-                uint64_t *work, size_t work_length);
+PiRunReply pi_run(const uint32_t *image, size_t image_length,
+                  int64_t *registers, size_t registers_length,
+                  uint64_t budget,
+                  uint64_t *work, size_t work_length);
 
 /*
  * The same on bytes as they are stored and sent, on any machine; the lengths of image and registers
@@ -232,13 +286,13 @@ RunReply pi_run(const uint32_t *image, size_t image_length,
  * bytes in two's complement, least byte first, changed in place; a length other than 8r is 20. All
  * else is as above, and the work words are words as above.
  */
-CheckReply pi_check_bytes(const uint8_t *image, size_t image_length,
-                          uint64_t *work, size_t work_length);
+PiCheckReply pi_check_bytes(const uint8_t *image, size_t image_length,
+                            uint64_t *work, size_t work_length);
 
-RunReply pi_run_bytes(const uint8_t *image, size_t image_length,
-                      uint8_t *registers, size_t registers_length,
-                      uint64_t budget,
-                      uint64_t *work, size_t work_length);
+PiRunReply pi_run_bytes(const uint8_t *image, size_t image_length,
+                        uint8_t *registers, size_t registers_length,
+                        uint64_t budget,
+                        uint64_t *work, size_t work_length);
 
 #ifdef __cplusplus
 }

@@ -1,106 +1,133 @@
-//! Times the engine beside the second interpreter and prints a table.
+//! Times the engine beside the second interpreter and prints tables.
 
 mod images;
 mod measure;
 mod race;
 mod routines;
+mod rows;
 
-use compare::difference::Difference;
-use compare::run::as_words;
-use compare::{check, engine, run};
-use images::Timed;
-use measure::{medians, REPETITIONS};
-use race::{print_table, Race};
-use routines::Routine;
-use second::engine::{MOST_BUDGET, WORK_WORDS};
-use second::generate::random::Random;
-use second::generate::Case;
-use std::hint::black_box;
-use std::process::{exit, ExitCode};
+use compare::output::{complain, write_out, Reader};
+use compare::progress::{in_words, Progress};
+use measure::REPETITIONS;
+use race::{table, Race};
+use rows::{check_race, clearing, run_race};
+use std::env::args_os;
+use std::ffi::OsString;
+use std::process::ExitCode;
+
+const HELP: &str = "\
+bench: times the engine's static library beside the second interpreter
+
+usage: bench           measures, and prints three tables
+       bench --help    prints this; so do -h and help
+
+The tables:
+
+  check    nanoseconds a node, for four images
+  check    nanoseconds a call, for the smallest image; and to clear the work words
+  run      nanoseconds a step, for six routines
+
+Each has the engine's time and the second interpreter's, and the first and the last say
+how many times longer the second takes. A time is the median of 501 repetitions.
+
+It takes 10 seconds in a release build. On a terminal the row that is measured is shown
+on standard error. The machine should have little else to do.
+
+Exit status: 0 measured, 1 the two give different answers, 2 bad usage or an output that
+cannot be written.
+";
 
 const NOTES: &str = "\
 Work words are neither cleared nor filled before a call: each call finds the 8,192 words
 as the last call left them, all 0, and clears them again within the time measured. The
 second interpreter has no work words. A run's time takes in reading and checking its
-image, for both. Images and work words are warm in the cache.";
+image, for both. Images and work words are warm in the cache.
+";
+
+/// What ends the program before all is printed: the exit status, and what to say.
+enum End {
+    /// No one reads what would be printed.
+    Unread,
+    Fault(u8, String),
+}
 
 fn main() -> ExitCode {
-    if std::env::args().len() > 1 {
-        eprintln!("bench: it takes no arguments and prints a table of times");
-        return ExitCode::from(2);
-    }
-    println!("Medians of {REPETITIONS} repetitions, engine and second interpreter in turn.\n");
-    let races: Vec<Race> = images::checked().iter().map(check_race).collect();
-    print_table("check, nanoseconds a node", "nodes", &races);
-    print_smallest();
-    println!();
-    let races: Vec<Race> = routines::timed().iter().map(run_race).collect();
-    print_table("run, nanoseconds a step", "steps", &races);
-    println!("\n{NOTES}");
-    ExitCode::SUCCESS
-}
-
-/// The check of one image by both; a unit is a node.
-fn check_race(timed: &Timed) -> Race {
-    let Timed { name, image } = timed;
-    let mut work = vec![0; WORK_WORDS];
-    must_agree(name, check::compare(image, WORK_WORDS, &mut Random::new(0)));
-    let [engine, second] = medians([
-        &mut || {
-            black_box(engine::check(black_box(image), black_box(&mut work)));
-        },
-        &mut || {
-            black_box(second::check(black_box(image), WORK_WORDS));
-        },
-    ]);
-    Race { name, units: timed.nodes().into(), engine, second }
-}
-
-/// The run of one routine by both; a unit is a step.
-fn run_race(routine: &Routine) -> Race {
-    let Routine { name, image, starts, steps } = routine;
-    let case = Case {
-        image: image.clone(),
-        registers: starts.clone(),
-        budget: MOST_BUDGET,
-        work_length: WORK_WORDS,
+    let lossy = |argument: OsString| argument.to_string_lossy().into_owned();
+    let arguments: Vec<String> = args_os().skip(1).map(lossy).collect();
+    let arguments: Vec<&str> = arguments.iter().map(String::as_str).collect();
+    let ended = match arguments.as_slice() {
+        [] => measure_all(),
+        all if all.iter().any(|argument| ["help", "--help", "-h"].contains(argument)) => {
+            print(HELP)
+        }
+        [argument, ..] => Err(End::Fault(2, format!("no argument {argument}; see `bench --help`"))),
     };
-    must_agree(name, run::compare(&case, &mut Random::new(0)));
-    let mut work = vec![0; WORK_WORDS];
-    let words = as_words(starts);
-    let mut registers = words.clone();
-    let mut integers = starts.clone();
-    let [engine, second] = medians([
-        &mut || {
-            registers.copy_from_slice(&words);
-            let registers = black_box(&mut registers);
-            black_box(engine::run(black_box(image), registers, MOST_BUDGET, black_box(&mut work)));
-        },
-        &mut || {
-            integers.copy_from_slice(starts);
-            let registers = black_box(&mut integers);
-            black_box(second::run(black_box(image), registers, MOST_BUDGET, WORK_WORDS));
-        },
-    ]);
-    Race { name, units: *steps, engine, second }
-}
-
-/// Ends the program where both do not give the same answer.
-fn must_agree<T>(name: &str, compared: Result<T, Box<Difference>>) {
-    if let Err(difference) = compared {
-        eprintln!("bench: {name}: the answers differ, so there is nothing to time\n{difference}");
-        exit(1);
+    match ended {
+        Ok(()) | Err(End::Unread) => ExitCode::SUCCESS,
+        Err(End::Fault(status, message)) => {
+            complain("bench", &message);
+            ExitCode::from(status)
+        }
     }
 }
 
-/// A whole call on the smallest image, beside the clearing of the work words.
-fn print_smallest() {
-    let Race { name, engine, second, .. } = check_race(&images::smallest());
-    let mut work = vec![0_u64; WORK_WORDS];
-    let [clearing] = medians([&mut || {
-        black_box(&mut work).fill(black_box(0));
-    }]);
-    println!("\ncheck, nanoseconds a call ({name})");
-    println!("  engine {engine:.0}, second interpreter {second:.0}");
-    println!("  clearing 8,192 words alone, by this program: {clearing:.0}");
+fn print(text: &str) -> Result<(), End> {
+    match write_out(text) {
+        Ok(Reader::There) => Ok(()),
+        Ok(Reader::Gone) => Err(End::Unread),
+        Err(message) => Err(End::Fault(2, message)),
+    }
+}
+
+fn measure_all() -> Result<(), End> {
+    let turns =
+        format!("Medians of {REPETITIONS} repetitions, engine and second interpreter in turn.");
+    print(&format!("{turns}\n\n"))?;
+    let (images, smallest, routines) = (images::checked(), images::smallest(), routines::timed());
+    let mut rows = Rows::of(images.len() + 1 + routines.len());
+
+    let races: Result<Vec<Race>, End> =
+        images.iter().map(|timed| rows.measure(timed.name, || check_race(timed))).collect();
+    print(&table("check, nanoseconds a node", "nodes", &races?))?;
+
+    let Race { name, engine, second, .. } =
+        rows.measure(smallest.name, || check_race(&smallest))?;
+    let clearing = clearing();
+    print(&format!(
+        "\ncheck, nanoseconds a call ({name})\n  \
+         engine {engine:.0}, second interpreter {second:.0}\n  \
+         clearing 8,192 words alone, by this program: {clearing:.0}\n\n"
+    ))?;
+
+    let races: Result<Vec<Race>, End> =
+        routines.iter().map(|routine| rows.measure(routine.name, || run_race(routine))).collect();
+    print(&table("run, nanoseconds a step", "steps", &races?))?;
+    print(&format!("\n{NOTES}"))
+}
+
+/// Rows measured one after another; a terminal shows which one is.
+struct Rows {
+    progress: Progress,
+    begun: usize,
+    all: usize,
+}
+
+impl Rows {
+    fn of(all: usize) -> Rows {
+        Rows { progress: Progress::begin(), begun: 0, all }
+    }
+
+    fn measure(
+        &mut self,
+        name: &str,
+        race: impl FnOnce() -> Result<Race, String>,
+    ) -> Result<Race, End> {
+        self.begun += 1;
+        let Rows { progress, begun, all } = self;
+        let gone = in_words(progress.gone());
+        progress.show(&format!("row {begun} of {all}, {gone} gone: {name}"));
+        let measured = race();
+        progress.erase();
+        measured.map_err(|message| End::Fault(1, message))
+    }
 }

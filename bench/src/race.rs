@@ -9,15 +9,17 @@ pub struct Race {
     pub second: f64,
 }
 
-/// Prints races with the time for each unit and how many times longer the
-/// second interpreter takes.
-pub fn print_table(title: &str, units: &str, races: &[Race]) {
-    println!("{title}");
-    println!("  {:<36} {units:>7} {:>9} {:>9} {:>14}", "", "engine", "second", "second/engine");
+/// Races with the time for each unit and how many times longer the second
+/// interpreter takes.
+pub fn table(title: &str, units: &str, races: &[Race]) -> String {
+    let mut text = format!("{title}\n");
+    let (engine, second, ratio) = ("engine", "second", "second/engine");
+    text += &format!("  {:<36} {units:>7} {engine:>9} {second:>9} {ratio:>14}\n", "");
     for Race { name, units, engine, second } in races {
         let count = *units as f64;
         let ratio = second / engine;
         let (engine, second) = (engine / count, second / count);
-        println!("  {name:<36} {units:>7} {engine:>9.2} {second:>9.2} {ratio:>14.2}");
+        text += &format!("  {name:<36} {units:>7} {engine:>9.2} {second:>9.2} {ratio:>14.2}\n");
     }
+    text
 }

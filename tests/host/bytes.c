@@ -89,12 +89,12 @@ static uint64_t refusal_by_bytes(const ByteCall *call)
     return PI_REFUSAL_NONE;
 }
 
-static CheckReply call_check_bytes(const ByteCall *call)
+static PiCheckReply call_check_bytes(const ByteCall *call)
 {
     Buffer lent = buffer_holding(call->image, call->image_length, call->offset);
     Buffer work = lend_work(call->work_length, 0);
-    CheckReply reply = pi_check_bytes(lent.start, call->image_length,
-                                      (uint64_t *)(void *)work.start, call->work_length);
+    PiCheckReply reply = pi_check_bytes(lent.start, call->image_length,
+                                        (uint64_t *)(void *)work.start, call->work_length);
 
     buffer_kept(&lent, "image", 0);
     work_settled(&work, reply.refusal);
@@ -103,14 +103,14 @@ static CheckReply call_check_bytes(const ByteCall *call)
     return reply;
 }
 
-static RunReply call_run_bytes(const ByteCall *call, uint8_t *left)
+static PiRunReply call_run_bytes(const ByteCall *call, uint8_t *left)
 {
     Buffer lent = buffer_holding(call->image, call->image_length, call->offset);
     Buffer registers = buffer_holding(call->registers, call->registers_length, call->offset);
     Buffer work = lend_work(call->work_length, call->budget);
-    RunReply reply = pi_run_bytes(lent.start, call->image_length, registers.start,
-                                  call->registers_length, call->budget,
-                                  (uint64_t *)(void *)work.start, call->work_length);
+    PiRunReply reply = pi_run_bytes(lent.start, call->image_length, registers.start,
+                                    call->registers_length, call->budget,
+                                    (uint64_t *)(void *)work.start, call->work_length);
 
     if (registers.bytes != 0)
         memcpy(left, registers.start, registers.bytes);
@@ -153,11 +153,11 @@ static uint64_t compare(const ByteCall *call)
     static uint32_t same_words[IMAGE_ROOM];
     int64_t values[MOST_STARTS];
     uint8_t left[REGISTER_BYTES];
-    CheckReply checked = call_check_bytes(call);
-    RunReply reply = call_run_bytes(call, left);
+    PiCheckReply checked = call_check_bytes(call);
+    PiRunReply reply = call_run_bytes(call, left);
     uint64_t expected = refusal_by_bytes(call);
     Call same;
-    CheckReply words_checked;
+    PiCheckReply words_checked;
     Ran ran, bytes_ran;
 
     if (expected != PI_REFUSAL_NONE) {

@@ -43,12 +43,32 @@ void registers_settled(const Buffer *registers, uint64_t refusal)
     buffer_kept(registers, "registers", before_the_run(refusal) ? 0 : registers->bytes);
 }
 
+/* By the refusal's number. */
+static size_t answered[PI_REFUSAL_CONTROL + 1];
+
+size_t times_answered(PiRefusal refusal)
+{
+    return refusal <= PI_REFUSAL_CONTROL ? answered[refusal] : 0;
+}
+
+static void count_answer(uint64_t refusal)
+{
+    if (refusal <= PI_REFUSAL_CONTROL)
+        answered[refusal] += 1;
+}
+
+/* Whether it is a number of the header's list; all 64 bits of it count. */
 static int is_refusal(uint64_t refusal)
 {
-    return (refusal >= PI_REFUSAL_LENGTH && refusal <= PI_REFUSAL_DEPTH) ||
-           (refusal >= PI_REFUSAL_UNBOUND && refusal <= PI_REFUSAL_CALL) ||
-           (refusal >= PI_REFUSAL_REGISTERS && refusal <= PI_REFUSAL_WORK) ||
-           (refusal >= PI_REFUSAL_STEPS && refusal <= PI_REFUSAL_CONTROL);
+#define ROW(enumerator, number, name, sentence) case number:
+
+    switch (refusal) {
+    PI_REFUSAL_LIST(ROW)
+        return 1;
+    default:
+        return 0;
+    }
+#undef ROW
 }
 
 /* The places that a refusal may have are below this. */
@@ -61,10 +81,16 @@ static uint64_t places(uint64_t refusal, const Call *call)
     return 1;
 }
 
-static void check_makes_sense(const CheckReply *reply, const Call *call)
+/* Whether a root can have this code: only registers are around it, so it is below 3 or a command's. */
+static int is_root_code(uint64_t code)
+{
+    return code <= PI_CODE_INTEGER_CELL || code == PI_CODE_COMMAND;
+}
+
+static void check_makes_sense(const PiCheckReply *reply, const Call *call)
 {
     if (reply->refusal == PI_REFUSAL_NONE) {
-        if (reply->value > PI_CODE_COMMAND || reply->place != 0)
+        if (!is_root_code(reply->value) || reply->place != 0)
             test_fault("check passes with value %" PRIu64 " and place %" PRIu64, reply->value,
                        reply->place);
     } else if (!is_refusal(reply->refusal) || reply->value != 0 ||
@@ -75,9 +101,12 @@ static void check_makes_sense(const CheckReply *reply, const Call *call)
     }
 }
 
-static int value_fits(const RunReply *reply)
+static int value_fits(const PiRunReply *reply)
 {
-    switch (reply->outcome) {
+    /* The enum has 32 bits, and the reply's word must fit. */
+    if (reply->outcome > PI_OUTCOME_CELL)
+        return 0;
+    switch ((PiOutcome)reply->outcome) {
     case PI_OUTCOME_NONE:
         return reply->value == 0;
     case PI_OUTCOME_NUMBER:
@@ -86,12 +115,11 @@ static int value_fits(const RunReply *reply)
         return reply->value == 0 || reply->value == 1;
     case PI_OUTCOME_CELL:
         return reply->value >= 0 && reply->value < PI_MOST_CELLS;
-    default:
-        return 0;
     }
+    return 0;
 }
 
-static int steps_fit(const RunReply *reply, uint64_t budget)
+static int steps_fit(const PiRunReply *reply, uint64_t budget)
 {
     if (reply->refusal == PI_REFUSAL_NONE)
         return reply->steps >= 1 && reply->steps <= budget;
@@ -102,7 +130,7 @@ static int steps_fit(const RunReply *reply, uint64_t budget)
     return reply->steps < budget;
 }
 
-static void run_makes_sense(const RunReply *reply, const Call *call)
+static void run_makes_sense(const PiRunReply *reply, const Call *call)
 {
     int fits = steps_fit(reply, call->budget);
 
@@ -117,16 +145,17 @@ static void run_makes_sense(const RunReply *reply, const Call *call)
                    reply->refusal, reply->place, reply->outcome, reply->value, reply->steps);
 }
 
-CheckReply call_check(const Call *call)
+PiCheckReply call_check(const Call *call)
 {
     Buffer image = buffer_holding(call->image, call->image_length * sizeof(uint32_t), 0);
     Buffer work = lend_work(call->work_length, 0);
-    CheckReply reply = pi_check((const uint32_t *)(const void *)image.start, call->image_length,
-                                (uint64_t *)(void *)work.start, call->work_length);
+    PiCheckReply reply = pi_check((const uint32_t *)(const void *)image.start, call->image_length,
+                                  (uint64_t *)(void *)work.start, call->work_length);
 
     buffer_kept(&image, "image", 0);
     work_settled(&work, reply.refusal);
     check_makes_sense(&reply, call);
+    count_answer(reply.refusal);
     buffer_free(&image);
     buffer_free(&work);
     return reply;
@@ -149,6 +178,7 @@ Ran call_run(const Call *call)
     registers_settled(&registers, ran.reply.refusal);
     work_settled(&work, ran.reply.refusal);
     run_makes_sense(&ran.reply, call);
+    count_answer(ran.reply.refusal);
     buffer_free(&image);
     buffer_free(&registers);
     buffer_free(&work);
@@ -208,7 +238,7 @@ static uint64_t outcome_of(uint64_t code)
 static void fits_the_check(const Call *call, const Ran *ran)
 {
     Call check = *call;
-    CheckReply checked;
+    PiCheckReply checked;
     uint64_t refusal = ran->reply.refusal;
 
     check.work_length = PI_WORK_WORDS + 3;

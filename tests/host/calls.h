@@ -22,12 +22,12 @@ typedef struct Call {
 
 /* What came of a run: the reply, and the registers after it. */
 typedef struct Ran {
-    RunReply reply;
+    PiRunReply reply;
     int64_t left[MOST_STARTS];
 } Ran;
 
 /* Lends buffers to pi_check, and to pi_run. */
-CheckReply call_check(const Call *call);
+PiCheckReply call_check(const Call *call);
 Ran call_run(const Call *call);
 
 /* The work buffer of a call, which it may clear or not. */
@@ -36,6 +36,9 @@ Buffer lend_work(size_t work_length, uint64_t budget);
 /* Notes faults of the buffers after a call with this refusal. */
 void work_settled(const Buffer *work, uint64_t refusal);
 void registers_settled(const Buffer *registers, uint64_t refusal);
+
+/* How often the calls so far were answered with this refusal of the list. */
+size_t times_answered(PiRefusal refusal);
 
 /* Whether the refusal comes before the first step. */
 int before_the_run(uint64_t refusal);

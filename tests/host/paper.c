@@ -76,7 +76,7 @@ typedef struct Case {
     int64_t starts[2];
     uint64_t budget;
     uint64_t code; /* the check's value, where it passes */
-    RunReply reply;
+    PiRunReply reply;
     int64_t left[2];
 } Case;
 
@@ -138,7 +138,7 @@ static void one_case(const Case *the_case)
 {
     static uint32_t image[IMAGE_ROOM];
     Call call = call_of(the_case, image);
-    CheckReply checked = call_check(&call);
+    PiCheckReply checked = call_check(&call);
     Ran ran = call_all(&call);
     Ran expected;
     size_t index;

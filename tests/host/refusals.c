@@ -137,7 +137,7 @@ static void test_host_faults(void)
     static const Node nodes[] = {{PI_KIND_ASSIGN, 0}, {PI_KIND_NUM, 1}};
     static const uint64_t budgets[] = {PI_MOST_BUDGET + 1, UINT64_C(1) << 32, UINT64_MAX};
     Call call, fine;
-    CheckReply checked;
+    PiCheckReply checked;
     size_t index;
 
     tree_list(&tree, 1, nodes, COUNT(nodes));
@@ -216,6 +216,34 @@ static void test_sizes(void)
     }
 }
 
+/* One step: none left of the budget, a number that is too great, a zero divisor. */
+static void test_single_steps(void)
+{
+    static const Node divided[] = {{PI_KIND_DIV, 0}, {PI_KIND_NUM, 1}, {PI_KIND_NUM, 0}};
+    static const Node product[] = {
+        {PI_KIND_MUL, 0}, {PI_KIND_NUM, UINT32_MAX}, {PI_KIND_NUM, UINT32_MAX},
+    };
+    Call call;
+
+    test_begin("no step left");
+    tree_list(&tree, 0, product, COUNT(product));
+    call = call_of_tree();
+    call.budget = 3;
+    expect(&call, PI_REFUSAL_STEPS, 0, 3);
+    test_end();
+
+    test_begin("too great a product");
+    call.budget = 4;
+    expect(&call, PI_REFUSAL_OUT_OF_RANGE, 0, 3);
+    test_end();
+
+    test_begin("zero divisor");
+    tree_list(&tree, 0, divided, COUNT(divided));
+    call = call_of_tree();
+    expect(&call, PI_REFUSAL_ZERO_DIVISOR, 0, 3);
+    test_end();
+}
+
 /* Towers on both sides of each limit of the run. */
 static void test_limits(void)
 {
@@ -252,5 +280,6 @@ void test_refusals(void)
     test_lengths();
     test_host_faults();
     test_sizes();
+    test_single_steps();
     test_limits();
 }

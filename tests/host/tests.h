@@ -15,13 +15,19 @@ Call paper_call(size_t index, uint32_t *image);
 /* Every refusal by name and place, their order, and the limits from both sides. */
 void test_refusals(void);
 
+/* The header's list of refusals, all of which the calls before have met; and its version. */
+void test_names(void);
+
 /* So many images of each sort, made by chance from a seed. */
 void test_chance(size_t count, uint64_t seed);
 
 /* The byte forms against the word forms. */
 void test_bytes(size_t count, uint64_t seed);
 
-/* Calls at once from several threads, and how much stack a call takes. */
+/* Calls at once from several threads. */
 void test_threads(void);
+
+/* How much stack a call takes. */
+void test_stack(void);
 
 #endif

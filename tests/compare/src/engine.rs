@@ -3,9 +3,9 @@
 //! Nothing is tested before a call: slices of any length and any budget are
 //! handed over, as a host may hand them over.
 
-/// What `pi_check` and `pi_check_bytes` return. Refusal 0: the image passes, the value is the root's
-/// code or [`COMMAND`], and the place is 0. Otherwise the paper's number and
-/// place, and the value is 0.
+/// What `pi_check` and `pi_check_bytes` return, the header's `PiCheckReply`. Refusal 0:
+/// the image passes, the value is the root's code or [`COMMAND`], and the place is 0.
+/// Otherwise the paper's number and place, and the value is 0.
 #[repr(C)]
 #[derive(Clone, Copy, Debug, PartialEq, Eq)]
 pub struct CheckReply {
@@ -17,10 +17,11 @@ pub struct CheckReply {
 /// The value of a root that is a command.
 pub const COMMAND: u64 = 8;
 
-/// What `pi_run` and `pi_run_bytes` return. Refusal 0: the run ended normally, the outcome is one
-/// of [`NONE`], [`NUMBER`], [`TRUTH`] and [`CELL`], the value is the number as a
-/// two's complement word, 0 or 1, the cell's number, or 0 for none, and the place
-/// is 0. Otherwise the paper's number and place, and outcome and value are 0.
+/// What `pi_run` and `pi_run_bytes` return, the header's `PiRunReply`. Refusal 0: the
+/// run ended normally, the outcome is one of [`NONE`], [`NUMBER`], [`TRUTH`] and
+/// [`CELL`], the value is the number as a two's complement word, 0 or 1, the cell's
+/// number, or 0 for none, and the place is 0. Otherwise the paper's number and place,
+/// and outcome and value are 0.
 #[repr(C)]
 #[derive(Clone, Copy, Debug, PartialEq, Eq)]
 pub struct RunReply {

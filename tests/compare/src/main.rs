@@ -1,13 +1,16 @@
 //! The command line: long comparisons by one command.
 
 use compare::difference::Difference;
+use compare::output::{complain, write_out};
 use compare::program::Program;
+use compare::progress::{of_all, Progress};
 use compare::sample::{compare_bytes, compare_check, compare_program, compare_run};
 use compare::sample::{Mixture, Sample, CHECKED, RUN};
 use compare::tally::Tally;
 use second::generate::Family;
+use std::env::args_os;
+use std::ffi::OsString;
 use std::process::ExitCode;
-use std::time::{Duration, Instant};
 
 const HELP: &str = "\
 compare: holds the engine's static library and the program against the second
@@ -29,17 +32,18 @@ usage: compare COMMAND
                              starting values, and for inputs made from them: cut,
                              lengthened, changed
   program COUNT SEED FAMILY  the same, of one family
-  help                       prints this
+  help, --help, -h           prints this
 
-Progress goes to standard error. The first difference is printed, as a tree and as
-words, and ends the comparison. Exit status: 0 no difference, 1 a difference, 2 bad
-usage. The program is target/bin/pirun, or what PIRUN names.
+The first difference is printed, as a tree and as words, and ends the comparison.
+Exit status: 0 no difference, 1 a difference, 2 bad usage or an output that cannot be
+written. The program is target/bin/pirun, or what PIRUN names.
+
+In a release build a second is enough for about 5,000 images of check, 500 of run,
+1,000 of bytes and 350 of program: 100,000 images take 20 seconds, 3 minutes, 2 minutes
+and 5 minutes. On a terminal the count and the time left are shown on standard error.
 
 families: small medium large faulty limits damaged shaped plausible words host
 ";
-
-/// How often progress is told.
-const PROGRESS: Duration = Duration::from_secs(2);
 
 /// Compares one sample and counts what it was answered.
 type Comparison = fn(Sample, &mut Tally) -> Result<(), Box<Difference>>;
@@ -72,27 +76,39 @@ enum Source {
 }
 
 fn main() -> ExitCode {
-    let arguments: Vec<String> = std::env::args().skip(1).collect();
+    let lossy = |argument: OsString| argument.to_string_lossy().into_owned();
+    let arguments: Vec<String> = args_os().skip(1).map(lossy).collect();
     match understand(&arguments) {
-        Ok(Request::Help) => {
-            print!("{HELP}");
-            ExitCode::SUCCESS
-        }
+        Ok(Request::Help) => printed(HELP, ExitCode::SUCCESS),
         Ok(Request::Compare { name, comparison, samples }) => {
-            compare_all(name, comparison, &samples)
+            let (text, status) = compare_all(name, comparison, &samples);
+            printed(&text, status)
         }
-        Err(message) => {
-            eprintln!("compare: {message}");
-            ExitCode::from(2)
-        }
+        Err(message) => refused(&message),
     }
+}
+
+/// Prints a text and ends with this status, also where no one reads the text.
+fn printed(text: &str, status: ExitCode) -> ExitCode {
+    match write_out(text) {
+        Ok(_) => status,
+        Err(message) => refused(&message),
+    }
+}
+
+fn refused(message: &str) -> ExitCode {
+    complain("compare", message);
+    ExitCode::from(2)
 }
 
 fn understand(arguments: &[String]) -> Result<Request, String> {
     let arguments: Vec<&str> = arguments.iter().map(String::as_str).collect();
+    if arguments.iter().any(|argument| ["--help", "-h"].contains(argument)) {
+        return Ok(Request::Help);
+    }
     let (command, rest) = match arguments.as_slice() {
         [] => return Err("no command; `compare help` lists them".to_string()),
-        ["help" | "--help" | "-h"] => return Ok(Request::Help),
+        ["help", ..] => return Ok(Request::Help),
         [command, rest @ ..] => (*command, rest),
     };
     let found = COMPARISONS.into_iter().find(|(name, ..)| *name == command);
@@ -132,29 +148,28 @@ impl Samples {
     }
 }
 
-fn compare_all(name: &str, comparison: Comparison, samples: &Samples) -> ExitCode {
+/// Compares all samples, or those up to the first difference: what is to be printed,
+/// and the exit status.
+fn compare_all(name: &str, comparison: Comparison, samples: &Samples) -> (String, ExitCode) {
     let mut tally = Tally::default();
-    let began = Instant::now();
-    let mut told = began;
+    let mut progress = Progress::begin();
     for index in 0..samples.count {
         let sample = samples.sample(index);
         if let Err(difference) = comparison(sample, &mut tally) {
-            println!("{difference}");
-            println!("after {} calls that agreed; this case alone:", tally.calls());
-            println!("compare {name} 1 {} {}", sample.seed, sample.family_name());
-            return ExitCode::FAILURE;
+            let (calls, seed, family) = (tally.calls(), sample.seed, sample.family_name());
+            let text = format!(
+                "{difference}\nafter {calls} calls that agreed; this case alone:\n\
+                 compare {name} 1 {seed} {family}\n"
+            );
+            return (text, ExitCode::FAILURE);
         }
-        if told.elapsed() >= PROGRESS {
-            told = Instant::now();
-            eprintln!("{name}: {} of {} images, no difference", index + 1, samples.count);
-        }
+        progress.show_now_and_then(|gone| {
+            format!("{name}: {}", of_all(index + 1, samples.count, "images", gone))
+        });
     }
-    print!("{}", tally.text());
-    println!(
-        "{name}: {} images, {} calls, no difference, {:.1} s",
-        samples.count,
-        tally.calls(),
-        began.elapsed().as_secs_f64(),
-    );
-    ExitCode::SUCCESS
+    let (answers, calls, count) = (tally.text(), tally.calls(), samples.count);
+    let seconds = progress.gone().as_secs_f64();
+    let text =
+        format!("{answers}{name}: {count} images, {calls} calls, no difference, {seconds:.1} s\n");
+    (text, ExitCode::SUCCESS)
 }

@@ -5,7 +5,7 @@ use crate::difference::Difference;
 use second::bytes::{integers, words};
 use std::env;
 use std::io::{ErrorKind, Write};
-use std::path::PathBuf;
+use std::path::{Path, PathBuf};
 use std::process::{Child, ChildStdin, Command, Stdio};
 use std::thread::sleep;
 use std::time::{Duration, Instant};
@@ -15,10 +15,11 @@ const LONGEST: Duration = Duration::from_secs(60);
 /// How often it is asked whether it has ended.
 const ASKED: Duration = Duration::from_micros(200);
 
-/// The program's file.
+/// The program's file, and variables of its environment beside the inherited ones.
 #[derive(Clone, Debug)]
 pub struct Program {
     path: PathBuf,
+    variables: Vec<(String, String)>,
 }
 
 /// What a run of the program left.
@@ -51,9 +52,20 @@ impl Program {
             ),
         };
         match path.is_file() {
-            true => Ok(Program { path }),
+            true => Ok(Program { path, variables: Vec::new() }),
             false => Err(format!("there is no program {}: {advice}", path.display())),
         }
+    }
+
+    pub fn path(&self) -> &Path {
+        &self.path
+    }
+
+    /// The program with these variables in its environment.
+    pub fn with_variables(mut self, variables: &[(&str, &str)]) -> Program {
+        let owned = |(name, value): &(&str, &str)| (name.to_string(), value.to_string());
+        self.variables.extend(variables.iter().map(owned));
+        self
     }
 
     /// What it prints for this input.
@@ -69,6 +81,7 @@ impl Program {
         end: End,
     ) -> (Printed, usize) {
         let mut child = Command::new(&self.path)
+            .envs(self.variables.iter().map(|(name, value)| (name, value)))
             .stdin(Stdio::piped())
             .stdout(Stdio::piped())
             .stderr(Stdio::piped())

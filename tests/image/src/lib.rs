@@ -1,14 +1,19 @@
 //! Images of Π IR routines from readable nested lists, and back: an aid to try a
 //! routine by hand.
 //!
-//! text → [`pieces`] → [`parse`] → nodes in preorder → words. The other way,
-//! [`print`] writes an image down as such a text, and [`show`] as a numbered tree,
-//! damaged images too.
+//! text → [`pieces`] → [`parse`] → nodes in preorder → words, with the starting
+//! [`values`] behind them; [`find`] says where in the text a node or a refusal is.
+//! The other way, [`print`] writes an image down as such a text, and [`show`] as a
+//! numbered tree, damaged images too. [`files`] tells texts and images apart.
 
+pub mod codes;
+pub mod files;
+pub mod find;
 pub mod parse;
 pub mod pieces;
 pub mod print;
 pub mod show;
 pub mod stored;
+pub mod values;
 
 pub use parse::{parse, Fault, Listing};

@@ -1,12 +1,17 @@
 //! The command line.
 
+use image::files::{image, text};
+use image::find::{find_node, find_refusal};
 use image::parse::{parse, Listing};
 use image::print::print;
 use image::show::show;
 use image::stored::split;
+use image::values::{missing, values};
 use second::encode::program_input;
 use second::reader::read;
-use std::io::{Read, Write};
+use second::refusal;
+use std::ffi::OsString;
+use std::io::{ErrorKind, Write};
 use std::process::ExitCode;
 
 const HELP: &str = "\
@@ -20,8 +25,10 @@ usage: image COMMAND FILE
   show FILE              an image as a tree, each node with its number; a damaged one as
                          far as it can be made out. Starting values may follow the image
   text FILE              an image as a text, which make turns into the same image
+  find FILE              where in a text its routine is refused, or what it passes as
   find FILE NUMBER       where in a text the node of this number stands
-  help                   prints this
+  refusals               the refusals, one a line: number, name and what it says
+  help                   prints this, and so does --help behind any command
 
 FILE is - for standard input. A text is a line `registers R` and one list, such as
 
@@ -30,82 +37,106 @@ FILE is - for standard input. A text is a line `registers R` and one list, such 
   (Blk (Bind 1 (Ref (Id 0)))
     (Assign 0 (Sum (Id 1) (Id 1))))
 
-Exit status: 0, or 2 where a text or a command line is wrong.
+Numbers are 0 to 4294967295, truths are true and false; tests/image/README.md has every
+form of list.
+
+In `refused N at P` the refusal's number is N, as `image refusals` lists them. For 3 to 6
+and 10 to 14, P is the number of a node, which show marks and find finds.
+
+Exit status: 0 where the command is done, a refusal shown too; 2 where the text or the
+command line is wrong or a stream fails.
 ";
 
+const COMMANDS: [&str; 5] = ["make", "show", "text", "find", "refusals"];
+
+/// What a command line gives: the output, and what is to be said beside it.
+struct Given {
+    output: Vec<u8>,
+    note: Option<String>,
+}
+
 fn main() -> ExitCode {
-    let arguments: Vec<String> = std::env::args().skip(1).collect();
-    let written = answer(&arguments).and_then(|output| {
-        std::io::stdout().write_all(&output).map_err(|error| format!("standard output: {error}"))
+    let arguments: Vec<OsString> = std::env::args_os().skip(1).collect();
+    let done = answer(&arguments).and_then(|given| {
+        put_out(&given.output)?;
+        Ok(given.note)
     });
-    match written {
-        Ok(()) => ExitCode::SUCCESS,
-        Err(message) => {
-            eprintln!("image: {message}");
-            ExitCode::from(2)
-        }
-    }
-}
-
-/// The output of a command line, or what is wrong with it.
-fn answer(arguments: &[String]) -> Result<Vec<u8>, String> {
-    let arguments: Vec<&str> = arguments.iter().map(String::as_str).collect();
-    match arguments.as_slice() {
-        ["help" | "--help" | "-h"] => Ok(HELP.into()),
-        ["make", file, values @ ..] => make(file, values),
-        ["show", file] => Ok(show(&bytes(file)?).into()),
-        ["text", file] => match split(&bytes(file)?).and_then(|(image, _)| read(&image)) {
-            Ok(routine) => Ok(print(&routine).into()),
-            Err(refusal) => Err(format!(
-                "{file}: refused {} at {}; `image show` shows what there is",
-                refusal.number, refusal.place
-            )),
-        },
-        ["find", file, number] => {
-            let listing = listing(file)?;
-            let node = number.parse().ok().and_then(|number: usize| listing.nodes.get(number));
-            match node {
-                Some(node) => Ok(format!("{file}:{}\n", node.position).into()),
-                None => {
-                    Err(format!("{file} has nodes 0 to {}, not {number}", listing.nodes.len() - 1))
-                }
-            }
-        }
-        [] => Err("no command; `image help` lists them".to_string()),
-        [command @ ("make" | "show" | "text" | "find" | "help"), ..] => {
-            Err(format!("wrong arguments for {command}; see `image help`"))
-        }
-        [command, ..] => Err(format!("no command {command}; `image help` lists them")),
-    }
-}
-
-fn bytes(file: &str) -> Result<Vec<u8>, String> {
-    let mut bytes = Vec::new();
-    let read = match file {
-        "-" => std::io::stdin().read_to_end(&mut bytes).map(|_| ()),
-        _ => std::fs::read(file).map(|read| bytes = read),
+    let (note, status) = match done {
+        Ok(note) => (note, ExitCode::SUCCESS),
+        Err(message) => (Some(message), ExitCode::from(2)),
     };
-    read.map_err(|error| format!("{file}: {error}"))?;
-    Ok(bytes)
+    if let Some(note) = note {
+        // Where standard error fails too, the exit status is all that can be said.
+        let _ = writeln!(std::io::stderr(), "image: {note}");
+    }
+    status
+}
+
+/// Write the output whole. A reader that has closed its end wants no more of it.
+fn put_out(output: &[u8]) -> Result<(), String> {
+    let mut stream = std::io::stdout().lock();
+    match stream.write_all(output).and_then(|()| stream.flush()) {
+        Err(error) if error.kind() != ErrorKind::BrokenPipe => {
+            Err(format!("standard output: {error}"))
+        }
+        _ => Ok(()),
+    }
+}
+
+/// What a command line gives, or what is wrong with it.
+fn answer(arguments: &[OsString]) -> Result<Given, String> {
+    let arguments = arguments.iter().map(argument).collect::<Result<Vec<&str>, String>>()?;
+    let output: String = match arguments.as_slice() {
+        asked if asks_for_help(asked) => HELP.to_string(),
+        ["make", file, values @ ..] => return make(file, values),
+        ["show", file] => show(&image(file)?),
+        ["text", file] => text_again(file)?,
+        ["find", file] => find_refusal(file, &listing(file)?),
+        ["find", file, number] => find_node(file, &listing(file)?, number)?,
+        ["refusals"] => refusal::TABLE.iter().map(|row| format!("{row}\n")).collect(),
+        [] => return Err("no command; `image help` lists them".to_string()),
+        [command, ..] if COMMANDS.contains(command) => {
+            return Err(format!("wrong arguments for {command}; see `image help`"));
+        }
+        [command, ..] => return Err(format!("no command {command}; `image help` lists them")),
+    };
+    Ok(Given { output: output.into(), note: None })
+}
+
+/// Whether this is `help`, or a command with --help behind it.
+fn asks_for_help(arguments: &[&str]) -> bool {
+    match arguments {
+        ["help" | "--help" | "-h", ..] => true,
+        [command, rest @ ..] if COMMANDS.contains(command) => {
+            rest.iter().any(|argument| ["--help", "-h"].contains(argument))
+        }
+        _ => false,
+    }
+}
+
+fn argument(given: &OsString) -> Result<&str, String> {
+    given.to_str().ok_or_else(|| format!("the argument {given:?} is not UTF-8"))
 }
 
 fn listing(file: &str) -> Result<Listing, String> {
-    let text = String::from_utf8(bytes(file)?).map_err(|_| format!("{file}: no text"))?;
-    parse(&text).map_err(|fault| format!("{file}:{fault}"))
+    parse(&text(file)?).map_err(|fault| format!("{file}:{fault}"))
 }
 
-fn make(file: &str, values: &[&str]) -> Result<Vec<u8>, String> {
+fn make(file: &str, given: &[&str]) -> Result<Given, String> {
     let listing = listing(file)?;
-    let value = |text: &&str| {
-        text.parse::<i64>().map_err(|_| format!("a starting value is an integer, not {text}"))
-    };
-    let values = values.iter().map(value).collect::<Result<Vec<i64>, String>>()?;
-    if !values.is_empty() && values.len() != listing.registers as usize {
-        return Err(format!(
-            "{file} has registers {}, and the starting values are {}",
-            listing.registers,
-            values.len()
-        ));
+    let values = values(file, listing.registers, given)?;
+    let note = if values.is_empty() { missing(file, listing.registers) } else { None };
+    Ok(Given { output: program_input(&listing.image(), &values), note })
+}
+
+fn text_again(file: &str) -> Result<String, String> {
+    match split(&image(file)?).and_then(|(image, _)| read(&image)) {
+        Ok(routine) => Ok(print(&routine)),
+        Err(refusal) => Err(format!(
+            "{file}: refused {} at {} ({}); `image show {file}` shows what there is",
+            refusal.number,
+            refusal.place,
+            refusal::line(refusal.number)
+        )),
     }
-    Ok(program_input(&listing.image(), &values))
 }

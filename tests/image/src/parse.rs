@@ -91,6 +91,13 @@ pub fn fixed_children(kind: Kind) -> &'static [Wanted] {
     }
 }
 
+/// The number that this piece is the negative of, if a Num takes it.
+fn negative(piece: &Piece) -> Option<u32> {
+    let Piece::Word(word) = piece else { return None };
+    let digits = word.strip_prefix('-')?;
+    digits.parse().ok().filter(|_| digits.bytes().all(|byte| byte.is_ascii_digit()))
+}
+
 struct Parser {
     pieces: Vec<(Piece, Position)>,
     next: usize,
@@ -122,6 +129,18 @@ impl Parser {
             },
             other => fault(position, format!("{range}, not {other}")),
         }
+    }
+
+    /// The number of a Num. For a negative one the fault says how it is written.
+    fn plain_number(&mut self) -> Result<u32, Fault> {
+        let (piece, _) = self.peek();
+        self.number("a number", u32::MAX).map_err(|mut fault| {
+            if let Some(number) = negative(&piece) {
+                let difference = format!("(Sub (Num 0) (Num {number}))");
+                fault.message += &format!("; a negative number is a difference: {difference}");
+            }
+            fault
+        })
     }
 
     fn registers(&mut self) -> Result<u32, Fault> {
@@ -189,7 +208,7 @@ impl Parser {
     fn operand(&mut self, kind: Kind) -> Result<u32, Fault> {
         let name = NAMES - 1;
         match kind {
-            Kind::Num => self.number("a number", u32::MAX),
+            Kind::Num => self.plain_number(),
             Kind::Boo => self.truth(),
             Kind::Id | Kind::DeRef | Kind::ValRef => self.number("a name", name),
             Kind::Assign | Kind::Call | Kind::Bind => self.number("a name", name),
@@ -204,11 +223,15 @@ impl Parser {
 
     fn truth(&mut self) -> Result<u32, Fault> {
         let (piece, position) = self.take();
-        match &piece {
-            Piece::Word(word) if word == "true" || word == "1" => Ok(1),
-            Piece::Word(word) if word == "false" || word == "0" => Ok(0),
-            _ => fault(position, format!("true or false must stand here, not {piece}")),
-        }
+        let word = if let Piece::Word(word) = &piece { word } else { "" };
+        let hint = match word {
+            "true" => return Ok(1),
+            "false" => return Ok(0),
+            "1" => "; 1 is written true",
+            "0" => "; 0 is written false",
+            _ => "",
+        };
+        fault(position, format!("true or false must stand here, not {piece}{hint}"))
     }
 
     /// A child that the node must have.

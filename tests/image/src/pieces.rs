@@ -1,5 +1,6 @@
 //! A text in pieces: parentheses and words, each with its position. From a
-//! semicolon to the end of its line is a comment.
+//! semicolon to the end of its line is a comment. A byte order mark at the start
+//! says nothing and has no column.
 
 use std::fmt;
 
@@ -8,6 +9,23 @@ use std::fmt;
 pub struct Position {
     pub line: usize,
     pub column: usize,
+}
+
+impl Position {
+    const FIRST: Position = Position { line: 1, column: 1 };
+
+    /// The position behind a text.
+    pub fn behind(text: &str) -> Position {
+        without_mark(text).chars().fold(Position::FIRST, Position::past)
+    }
+
+    /// The position after this one, if this character stands here.
+    fn past(self, character: char) -> Position {
+        match character {
+            '\n' => Position { line: self.line + 1, column: 1 },
+            _ => Position { column: self.column + 1, ..self },
+        }
+    }
 }
 
 impl fmt::Display for Position {
@@ -38,11 +56,11 @@ impl fmt::Display for Piece {
 /// The pieces of a text, in order; the last is its end.
 pub fn pieces(text: &str) -> Vec<(Piece, Position)> {
     let mut found: Vec<(Piece, Position)> = Vec::new();
-    let mut position = Position { line: 1, column: 1 };
+    let mut position = Position::FIRST;
     let mut comment = false;
     // Whether the last piece is a word that the next character goes on.
     let mut within_word = false;
-    for character in text.chars() {
+    for character in without_mark(text).chars() {
         let separates = character.is_whitespace() || comment || character == ';';
         if separates || character == '(' || character == ')' {
             within_word = false;
@@ -61,11 +79,12 @@ pub fn pieces(text: &str) -> Vec<(Piece, Position)> {
                 }
             },
         }
-        position = match character {
-            '\n' => Position { line: position.line + 1, column: 1 },
-            _ => Position { column: position.column + 1, ..position },
-        };
+        position = position.past(character);
     }
     found.push((Piece::End, position));
     found
+}
+
+fn without_mark(text: &str) -> &str {
+    text.strip_prefix('\u{feff}').unwrap_or(text)
 }

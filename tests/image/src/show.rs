@@ -1,6 +1,6 @@
 //! An image as a tree, one node a line with its number, indented by its depth.
-//! What is wrong with a damaged image stands behind `<-` at its node, with the
-//! refusal's number, and the tree goes on as far as it can be made out.
+//! What is wrong stands behind `<-` at its node, with the refusal's number and
+//! name, and the tree goes on as far as it can be made out.
 
 use crate::parse::{fixed_children, wanted_name};
 use crate::stored::split;
@@ -10,91 +10,142 @@ use second::kinds::{by_number, Kind, Row, Wanted, MOST_COUNT, MOST_DEPTH, MOST_N
 use second::kinds::{MOST_REGISTERS, NAMES};
 use second::program::print_answer;
 use second::reader::Counts;
+use second::refusal::{self, Refusal, COUNTS, DEPTH, KIND, LENGTH, OPERAND, TREE, UNBOUND};
 
 /// The tree in these bytes: an image, or an image with its starting values. The
-/// last line is the checker's answer.
+/// last line is the checker's answer; where that is a refusal, a line with its name
+/// and what it says follows.
 pub fn show(bytes: &[u8]) -> String {
     let all = words(bytes);
     let [nodes, registers, ..] = *all else {
-        return format!("{} bytes <- 1: no image has fewer than 8\nrefused 1 at 0\n", bytes.len());
+        let mark = mark(LENGTH, "no image has fewer than 8");
+        let answer = Answer::Refused(Refusal::whole(LENGTH));
+        return format!("{} bytes{mark}\n{}", bytes.len(), answer_lines(answer));
     };
     let mut text = format!("nodes {nodes}, registers {registers}");
-    let counts_hold = Counts::judge(nodes, registers).is_ok();
-    let (image, answer) = match split(bytes) {
+    let counts = Counts::judge(nodes, registers);
+    let answer = match split(bytes) {
         Ok((image, values)) => {
             for (index, value) in values.iter().enumerate() {
                 text += &format!("\nregister {index} starts at {value}");
             }
-            let answer = check(&image, WORK_WORDS);
-            (image, answer)
+            check(&image, WORK_WORDS)
         }
         Err(refusal) => {
-            text += &if counts_hold {
-                format!(" <- 1: these are not the bytes of so many, but {}", bytes.len())
-            } else {
-                format!(" <- 2: nodes are 1 to {MOST_NODES}, registers 0 to {MOST_REGISTERS}")
+            text += &match counts {
+                Ok(counts) => mark(LENGTH, &length_fault(counts, bytes.len())),
+                Err(_) => {
+                    let counts = format!("nodes are 1 to {MOST_NODES}");
+                    mark(COUNTS, &format!("{counts}, registers 0 to {MOST_REGISTERS}"))
+                }
             };
-            (all, Answer::Refused(refusal))
+            Answer::Refused(refusal)
         }
     };
     text.push('\n');
     // Where n says nothing, the words that are there are halved.
-    let count = if counts_hold { nodes as usize } else { (image.len() - 2) / 2 };
-    let mut walk = Walk { image: &image, count, next: 0, text };
-    walk.node(Some(Wanted::Root), 1);
-    while walk.next < walk.held() {
-        walk.text += "left over <- 5\n";
-        walk.node(None, 1);
-    }
-    walk.text + &print_answer(answer)
+    let listed = &all[2..];
+    let count = if counts.is_ok() { nodes as usize } else { listed.len() / 2 };
+    let (kinds, operands) = listed.split_at(count.min(listed.len()));
+    let shown = kinds.len().min(MOST_NODES as usize);
+    let mut walk = Walk {
+        kinds: &kinds[..shown],
+        operands,
+        unshown: kinds.len() - shown,
+        judged: answer.refusal().filter(|refusal| refusal.number >= UNBOUND),
+        next: 0,
+        text,
+    };
+    walk.whole();
+    walk.text + &answer_lines(answer)
+}
+
+/// The answer's line and, for a refusal, what it says.
+fn answer_lines(answer: Answer) -> String {
+    let said = answer.refusal().map(|refusal| refusal::line(refusal.number) + "\n");
+    print_answer(answer) + &said.unwrap_or_default()
+}
+
+/// What is wrong, behind what it is about.
+fn mark(number: u32, what: &str) -> String {
+    format!(" <- {}: {what}", refusal::title(number))
+}
+
+/// How many bytes these counts take, and how many there are.
+fn length_fault(counts: Counts, length: usize) -> String {
+    let image = 4 * counts.words();
+    let values = match counts.registers {
+        0 => String::new(),
+        registers => format!(", or {} with starting values", image + 8 * registers as usize),
+    };
+    format!("these take {image} bytes{values}, and there are {length}")
 }
 
 /// A walk over nodes that may have faults.
 struct Walk<'w> {
-    image: &'w [u32],
-    /// How many nodes the image says it has.
-    count: usize,
+    kinds: &'w [u32],
+    /// The operands of the first nodes; those of the last may be missing.
+    operands: &'w [u32],
+    /// How many nodes follow that are not shown, where there are more than any
+    /// image has.
+    unshown: usize,
+    /// What the checker refuses, if the shape holds.
+    judged: Option<Refusal>,
     next: usize,
     text: String,
 }
 
 impl Walk<'_> {
-    /// How many nodes have at least a kind.
-    fn held(&self) -> usize {
-        self.count.min(self.image.len() - 2)
+    /// The tree, and then what is left over.
+    fn whole(&mut self) {
+        self.node(Some(Wanted::Root), 1);
+        while self.next < self.kinds.len() {
+            self.text += &format!("left over{}\n", mark(TREE, "the tree has ended"));
+            self.node(None, 1);
+        }
+        if self.unshown > 0 {
+            self.text += &format!("further nodes, not shown: {}\n", self.unshown);
+        }
     }
 
     /// The next node and all below it. Left-over nodes may be of any sort.
     fn node(&mut self, wanted: Option<Wanted>, depth: usize) {
         let indent = "  ".repeat(depth - 1);
-        if self.next >= self.held() {
-            let wanted = wanted.map_or("a node", wanted_name);
-            self.text += &format!("   - {indent}missing <- 5: {wanted} must stand here\n");
+        let must_stand = |wanted| format!("{} must stand here", wanted_name(wanted));
+        if self.next == self.kinds.len() {
+            if self.unshown == 0 {
+                let what = wanted.map_or("a node must stand here".to_string(), must_stand);
+                self.text += &format!("   - {indent}missing{}\n", mark(TREE, &what));
+            }
             return;
         }
         let place = self.next;
         self.next += 1;
-        let kind = self.image[2 + place];
-        let operand = self.image.get(2 + self.count + place).copied();
+        let kind = self.kinds[place];
+        let operand = self.operands.get(place).copied();
         self.text += &format!("{place:>4} {indent}");
         let Some(row) = by_number(kind) else {
             let said = operand.map_or("?".to_string(), |operand| operand.to_string());
-            self.text += &format!("kind {kind} operand {said} <- 3: no such kind\n");
+            let mark = mark(KIND, "no such kind");
+            self.text += &format!("kind {kind} operand {said}{mark}\n");
             return;
         };
         self.text += &label(row, operand);
         if let Some(wanted) = wanted.filter(|wanted| !wanted.admits(row)) {
-            self.text += &format!(" <- 5: {} must stand here", wanted_name(wanted));
+            self.text += &mark(TREE, &must_stand(wanted));
         }
         match operand {
-            None => self.text += " <- 1: its operand is missing",
+            None => self.text += &mark(LENGTH, "its operand is missing"),
             Some(operand) if operand > row.greatest_operand => {
-                self.text += &format!(" <- 4: the operand is {operand}");
+                self.text += &mark(OPERAND, &format!("the operand is {operand}"));
             }
             _ => {}
         }
         if depth == MOST_DEPTH as usize + 1 {
-            self.text += &format!(" <- 6: depth {depth}");
+            self.text += &mark(DEPTH, &format!("depth {depth}"));
+        }
+        if let Some(judged) = self.judged.filter(|judged| judged.place as usize == place) {
+            self.text += &format!(" <- {}", refusal::line(judged.number));
         }
         self.text.push('\n');
         for child in children(row.kind, operand.unwrap_or(0)) {

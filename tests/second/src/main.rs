@@ -6,7 +6,8 @@ use second::generate::Family;
 use second::program::{print_answer, program, with_budget};
 use second::reader::read;
 use second::show::{from_hexadecimal, hexadecimal, show};
-use std::io::{Read, Write};
+use std::ffi::OsString;
+use std::io::{ErrorKind, Read, Write};
 use std::process::ExitCode;
 
 const HELP: &str = "\
@@ -26,35 +27,47 @@ usage: second COMMAND [--hex]
                              the same, each with its starting values behind it as
                              two words a value, low word first: the whole input of
                              the program
-  help                       prints this
+  help                       prints this, and so does --help behind any command
 
 With --hex, program, run, check and show read words in hexadecimal, as generate
 prints them, in place of little-endian bytes.
 
 families: small medium large faulty limits damaged shaped plausible words host
+
+Exit status: 0 where the command is done, a refusal printed too; 2 where the
+command line or the input is wrong or a stream fails.
 ";
 
+const COMMANDS: [&str; 5] = ["program", "run", "check", "show", "generate"];
+
 fn main() -> ExitCode {
-    let arguments: Vec<String> = std::env::args().skip(1).collect();
-    match answer(&arguments) {
-        Ok(output) => match std::io::stdout().write_all(&output) {
-            Ok(()) => ExitCode::SUCCESS,
-            Err(error) => fail(&format!("standard output: {error}")),
-        },
-        Err(message) => fail(&message),
+    let arguments: Vec<OsString> = std::env::args_os().skip(1).collect();
+    match answer(&arguments).and_then(|output| put_out(&output)) {
+        Ok(()) => ExitCode::SUCCESS,
+        Err(message) => {
+            // Where standard error fails too, the exit status is all that can be said.
+            let _ = writeln!(std::io::stderr(), "second: {message}");
+            ExitCode::from(2)
+        }
     }
 }
 
-fn fail(message: &str) -> ExitCode {
-    eprintln!("second: {message}");
-    ExitCode::from(2)
+/// Write the output whole. A reader that has closed its end wants no more of it.
+fn put_out(output: &[u8]) -> Result<(), String> {
+    let mut stream = std::io::stdout().lock();
+    match stream.write_all(output).and_then(|()| stream.flush()) {
+        Err(error) if error.kind() != ErrorKind::BrokenPipe => {
+            Err(format!("standard output: {error}"))
+        }
+        _ => Ok(()),
+    }
 }
 
 /// The output of a command line, or what is wrong with it.
-fn answer(arguments: &[String]) -> Result<Vec<u8>, String> {
-    let arguments: Vec<&str> = arguments.iter().map(String::as_str).collect();
+fn answer(arguments: &[OsString]) -> Result<Vec<u8>, String> {
+    let arguments = arguments.iter().map(argument).collect::<Result<Vec<&str>, String>>()?;
     match arguments.as_slice() {
-        ["help" | "--help" | "-h"] => Ok(HELP.into()),
+        asked if asks_for_help(asked) => Ok(HELP.into()),
         ["program", options @ ..] => Ok(program(&input(options)?)),
         ["run", budget, options @ ..] => {
             let budget = number(budget, "BUDGET")?;
@@ -70,11 +83,26 @@ fn answer(arguments: &[String]) -> Result<Vec<u8>, String> {
         ["generate", "--inputs", family, seed, count] => generate(family, seed, count, true),
         ["generate", family, seed, count] => generate(family, seed, count, false),
         [] => Err("no command; `second help` lists them".to_string()),
-        [command @ ("run" | "generate" | "help"), ..] => {
+        [command @ ("run" | "generate"), ..] => {
             Err(format!("wrong arguments for {command}; see `second help`"))
         }
         [command, ..] => Err(format!("no command {command}; `second help` lists them")),
     }
+}
+
+/// Whether this is `help`, or a command with --help behind it.
+fn asks_for_help(arguments: &[&str]) -> bool {
+    match arguments {
+        ["help" | "--help" | "-h", ..] => true,
+        [command, rest @ ..] if COMMANDS.contains(command) => {
+            rest.iter().any(|argument| ["--help", "-h"].contains(argument))
+        }
+        _ => false,
+    }
+}
+
+fn argument(given: &OsString) -> Result<&str, String> {
+    given.to_str().ok_or_else(|| format!("the argument {given:?} is not UTF-8"))
 }
 
 fn number(text: &str, what: &str) -> Result<u64, String> {

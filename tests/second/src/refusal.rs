@@ -1,6 +1,8 @@
-//! The numbers the engine says no with, and the place each carries.
+//! The numbers the engine says no with, what each is called and says, and the
+//! place each carries.
 
 use crate::tree::Place;
+use std::fmt;
 
 /// A refusal: its number in the paper's list, and its place.
 #[derive(Clone, Copy, Debug, PartialEq, Eq, Hash, PartialOrd, Ord)]
@@ -54,4 +56,68 @@ pub const CONTROL: u32 = 36;
 /// the registers.
 pub fn before_the_run(number: u32) -> bool {
     number <= WORK
+}
+
+/// One row of the table of refusals.
+#[derive(Clone, Copy, Debug, PartialEq, Eq)]
+pub struct Row {
+    pub number: u32,
+    pub name: &'static str,
+    pub sentence: &'static str,
+    /// Whether the place is a node; where it is none, the place is always 0.
+    pub place_is_node: bool,
+}
+
+const fn at_node(number: u32, name: &'static str, sentence: &'static str) -> Row {
+    Row { number, name, sentence, place_is_node: true }
+}
+
+const fn whole(number: u32, name: &'static str, sentence: &'static str) -> Row {
+    Row { number, name, sentence, place_is_node: false }
+}
+
+/// Every refusal, by number.
+pub const TABLE: [Row; 21] = [
+    whole(LENGTH, "length", "the length does not fit the counts"),
+    whole(COUNTS, "counts", "n is not 1 to 2,000, or r is not 0 to 16"),
+    at_node(KIND, "kind", "no such kind of node"),
+    at_node(OPERAND, "operand", "the kind does not take this operand"),
+    at_node(TREE, "tree", "a node of another sort, missing or left over"),
+    at_node(DEPTH, "depth", "the node is deeper than 64"),
+    at_node(UNBOUND, "unbound", "the name has no binding"),
+    at_node(TYPE, "type", "the node takes another type"),
+    at_node(REPEATED, "repeated", "the name is declared twice"),
+    at_node(NOT_ASSIGNABLE, "not assignable", "the name cannot be set"),
+    at_node(CALL, "call", "no function of this name with so many Formals"),
+    whole(REGISTERS, "registers", "the registers are not as many as r"),
+    whole(BUDGET, "budget", "the budget is above 1,000,000"),
+    whole(WORK, "work", "the work words are fewer than 8,192"),
+    whole(STEPS, "steps", "the budget is used up before the routine has ended"),
+    whole(ZERO_DIVISOR, "zero divisor", "a Div by zero"),
+    whole(OUT_OF_RANGE, "out of range", "the result is outside -2^63 to 2^63 - 1"),
+    whole(CELLS, "cells", "a 257th cell would be live"),
+    whole(BINDINGS, "bindings", "a 513th binding would be live"),
+    whole(VALUES, "values", "a 513th entry would be on the value stack"),
+    whole(CONTROL, "control", "a 513th entry would be on the control stack"),
+];
+
+/// The row of a refusal.
+pub fn row_of(number: u32) -> &'static Row {
+    TABLE.iter().find(|row| row.number == number).expect("the table has every refusal")
+}
+
+/// The number and the name: `11 type`.
+pub fn title(number: u32) -> String {
+    format!("{number} {}", row_of(number).name)
+}
+
+/// The whole line: `11 type: the node takes another type`.
+pub fn line(number: u32) -> String {
+    row_of(number).to_string()
+}
+
+impl fmt::Display for Row {
+    fn fmt(&self, formatter: &mut fmt::Formatter) -> fmt::Result {
+        write!(formatter, "{} {}: {}", self.number, self.name, self.sentence)
+    }
 }

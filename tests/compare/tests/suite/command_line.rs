@@ -1,5 +1,10 @@
-//! The binary: its commands, and clear errors for bad usage.
+//! The binary: its commands, and clear errors for bad usage; what it writes where is
+//! in `streams`.
 
+mod streams;
+
+use std::ffi::OsStr;
+use std::os::unix::ffi::OsStrExt;
 use std::process::Command;
 
 /// Standard output, standard error and the exit status.
@@ -84,12 +89,18 @@ fn each_command_takes_each_family() {
 
 #[test]
 fn help_goes_to_standard_output() {
-    for word in ["help", "--help", "-h"] {
-        let (output, error, status) = compare(&[word]);
-        assert_eq!((status, error.as_str()), (Some(0), ""));
+    let mut asked: Vec<Vec<&str>> = vec![vec!["help"], vec!["--help"], vec!["-h"]];
+    for command in ["check", "run", "bytes", "program", "help"] {
+        asked.extend([vec![command, "--help"], vec![command, "-h"], vec!["help", command]]);
+        asked.push(vec![command, "100000", "1", "--help"]);
+    }
+    for arguments in asked {
+        let (output, error, status) = compare(&arguments);
+        assert_eq!((status, error.as_str()), (Some(0), ""), "{arguments:?}");
         for command in ["check", "run", "bytes", "program"] {
-            assert!(output.contains(&format!("  {command} COUNT SEED")));
+            assert!(output.contains(&format!("  {command} COUNT SEED")), "{arguments:?}");
         }
+        assert!(output.contains("100,000 images take"), "{arguments:?}");
     }
 }
 
@@ -113,4 +124,13 @@ fn bad_usage_says_what_is_wrong() {
         assert_eq!(status, Some(2), "{arguments:?}");
         assert!(output.is_empty() && error.contains(message), "{arguments:?}: {error}");
     }
+}
+
+/// An argument of bytes that are no text.
+#[test]
+fn an_argument_that_is_no_text_is_refused() {
+    let mut command = Command::new(env!("CARGO_BIN_EXE_compare"));
+    let output = command.arg(OsStr::from_bytes(b"\xff")).output().expect("it starts");
+    assert_eq!(output.status.code(), Some(2));
+    assert!(output.stdout.is_empty() && output.stderr.starts_with(b"compare: no command "));
 }

@@ -7,3 +7,4 @@ mod command_line;
 mod helpers;
 mod program;
 mod run;
+mod scripts;

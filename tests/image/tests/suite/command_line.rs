@@ -1,45 +1,15 @@
-//! The binary: its commands, and clear errors for bad usage.
+//! The commands and the help, and clear errors for bad usage.
 
-use second::build::*;
+use crate::binary::*;
 use second::encode::{bytes_of, program_input};
-use std::io::Write;
-use std::process::{Command, Stdio};
-
-/// Standard output, standard error and the exit status.
-fn run(arguments: &[&str], input: &[u8]) -> (Vec<u8>, String, i32) {
-    let mut child = Command::new(env!("CARGO_BIN_EXE_image"))
-        .args(arguments)
-        .stdin(Stdio::piped())
-        .stdout(Stdio::piped())
-        .stderr(Stdio::piped())
-        .spawn()
-        .unwrap();
-    // A child that refuses its arguments may not read its input.
-    let _ = child.stdin.take().unwrap().write_all(input);
-    let output = child.wait_with_output().unwrap();
-    (output.stdout, String::from_utf8(output.stderr).unwrap(), output.status.code().unwrap())
-}
-
-fn said(arguments: &[&str], input: &[u8]) -> Vec<u8> {
-    let (output, error, status) = run(arguments, input);
-    assert!(status == 0 && error.is_empty(), "{error}");
-    output
-}
-
-const DOUBLE: &str = "registers 1
-(Blk (Bind 1 (Ref (Id 0))) (Assign 0 (Sum (Id 1) (Id 1))))
-";
-
-fn double() -> Vec<u32> {
-    image(1, blk(bind_ref(1, id(0)), assign(0, sum(id(1), id(1)))))
-}
+use std::ffi::OsStr;
+use std::os::unix::ffi::OsStrExt;
 
 #[test]
 fn make_show_text_and_find() {
-    assert_eq!(said(&["make", "-"], DOUBLE.as_bytes()), bytes_of(&double()));
     let input = said(&["make", "-", "-5"], DOUBLE.as_bytes());
     assert_eq!(input, program_input(&double(), &[-5]));
-    let shown = String::from_utf8(said(&["show", "-"], &input)).unwrap();
+    let shown = text_said(&["show", "-"], &input);
     assert!(shown.starts_with("nodes 8, registers 1\nregister 0 starts at -5\n   0 Blk\n"));
     assert!(shown.ends_with("command\n"));
     assert_eq!(said(&["text", "-"], &input), DOUBLE.as_bytes());
@@ -48,32 +18,103 @@ fn make_show_text_and_find() {
     assert_eq!(said(&["find", "-", "4"], DOUBLE.as_bytes()), b"-:2:28\n");
 }
 
+/// An image without its starting values is shown like any other.
+#[test]
+fn show_needs_no_starting_values() {
+    let shown = text_said(&["show", "-"], &bytes_of(&double()));
+    assert!(shown.starts_with("nodes 8, registers 1\n   0 Blk\n"), "{shown}");
+    assert!(shown.ends_with("command\n"), "{shown}");
+}
+
+#[test]
+fn find_says_where_a_routine_is_refused() {
+    let file = stored(
+        "refused.pi",
+        b"; a truth in a register\nregisters 1\n(CSeq (Assign 0 (Num 1))\n  (Assign 0 (Boo true)))\n",
+    );
+    assert_eq!(
+        text_said(&["find", &file], &[]),
+        format!("{file}:4:3: 11 type: the node takes another type\n")
+    );
+    assert_eq!(text_said(&["find", &file, "3"], &[]), format!("{file}:4:3\n"));
+
+    let said = |text: &str| text_said(&["find", "-"], text.as_bytes());
+    assert_eq!(said("registers 0\n(Id 5)"), "-:2:1: 10 unbound: the name has no binding\n");
+    assert_eq!(said(DOUBLE), "-: passes as a command\n");
+    assert_eq!(said("registers 0 (Num 1)"), "-: passes with type code 0 (an integer)\n");
+    assert_eq!(said("registers 0 (Boo true)"), "-: passes with type code 1 (a truth)\n");
+    assert_eq!(
+        said("registers 1 (DeRef 0)"),
+        "-: passes with type code 2 (the location of a cell that holds an integer)\n"
+    );
+}
+
+#[test]
+fn codes_in_words() {
+    use image::codes::in_words;
+    assert_eq!(in_words(3), "the location of a cell that holds a truth");
+    let inner = in_words(4);
+    assert_eq!(in_words(6), format!("the location of a cell that holds {inner}"));
+}
+
+#[test]
+fn refusals_prints_the_table() {
+    let lines = text_said(&["refusals"], &[]);
+    assert!(lines.starts_with("1 length: the length does not fit the counts\n2 counts: n is "));
+    assert!(lines.contains("\n13 not assignable: the name cannot be set\n"));
+    assert!(lines.ends_with("\n36 control: a 513th entry would be on the control stack\n"));
+    assert_eq!(lines.lines().count(), second::refusal::TABLE.len());
+}
+
+/// The help is there for the tool and for each command of its list.
+#[test]
+fn help_is_everywhere() {
+    let help = text_said(&["help"], &[]);
+    assert!(help.starts_with("image: ") && help.contains("Exit status: 0 "));
+    assert!(help.contains("`image refusals`"));
+    for arguments in [&["--help"], &["-h"]] {
+        assert_eq!(text_said(arguments, &[]), help);
+    }
+    for command in ["make", "show", "text", "find", "refusals"] {
+        assert!(help.contains(&format!("\n  {command} ")), "{command}");
+        assert_eq!(text_said(&["help", command], &[]), help);
+        assert_eq!(text_said(&[command, "--help"], &[]), help);
+        assert_eq!(text_said(&[command, "-h"], &[]), help);
+    }
+    assert_eq!(text_said(&["make", "routine.pi", "--help"], &[]), help);
+}
+
 /// The text in the help is one that make takes.
 #[test]
 fn help_has_a_text() {
-    let help = String::from_utf8(said(&["help"], &[])).unwrap();
-    let text = &help[help.find("  registers 1").unwrap()..help.find("Exit status").unwrap()];
-    assert_eq!(said(&["make", "-"], text.as_bytes()), bytes_of(&double()));
+    let help = text_said(&["help"], &[]);
+    let text = &help[help.find("  registers 1").unwrap()..];
+    let text = text.split_once("\n\n").unwrap().0;
+    assert_eq!(said(&["make", "-", "3"], text.as_bytes()), program_input(&double(), &[3]));
 }
 
 #[test]
 fn bad_usage_says_what_is_wrong() {
-    let wrong = |arguments: &[&str], input: &str, message: &str| {
-        let (output, error, status) = run(arguments, input.as_bytes());
-        assert!(output.is_empty() && status == 2);
-        assert_eq!(error, format!("image: {message}\n"));
-    };
-    wrong(&[], "", "no command; `image help` lists them");
-    wrong(&["walk"], "", "no command walk; `image help` lists them");
-    wrong(&["show"], "", "wrong arguments for show; see `image help`");
-    wrong(&["find", "-"], "", "wrong arguments for find; see `image help`");
-    wrong(&["make", "-"], "registers 0\n(Not 5)", "-:2:6: an expression must stand here, not `5`");
-    wrong(&["make", "-", "x"], DOUBLE, "a starting value is an integer, not x");
-    wrong(&["make", "-", "1", "2"], DOUBLE, "- has registers 1, and the starting values are 2");
-    wrong(&["find", "-", "8"], DOUBLE, "- has nodes 0 to 7, not 8");
-    wrong(&["text", "-"], "", "-: refused 1 at 0; `image show` shows what there is");
-    let (_, error, _) = run(&["make", "-"], &[255, 254]);
-    assert_eq!(error, "image: -: no text\n");
-    let (_, error, status) = run(&["show", "no such file"], &[]);
-    assert!(status == 2 && error.starts_with("image: no such file: "), "{error}");
+    wrong(&[], b"", "no command; `image help` lists them");
+    wrong(&["walk"], b"", "no command walk; `image help` lists them");
+    wrong(&["walk", "--help"], b"", "no command walk; `image help` lists them");
+    for command in ["make", "show", "text", "find"] {
+        wrong(&[command], b"", &format!("wrong arguments for {command}; see `image help`"));
+    }
+    wrong(&["refusals", "-"], b"", "wrong arguments for refusals; see `image help`");
+    wrong(&["make", "-"], b"registers 0\n(Not 5)", "-:2:6: an expression must stand here, not `5`");
+    wrong(&["find", "-"], b"registers 0\n(Not 5)", "-:2:6: an expression must stand here, not `5`");
+    wrong(&["find", "-", "8"], DOUBLE.as_bytes(), "standard input has nodes 0 to 7, not 8");
+    wrong(&["find", "-", "x"], DOUBLE.as_bytes(), "standard input has nodes 0 to 7, not x");
+    wrong(&["find", "-", "1"], b"registers 0 (Num 1)", "standard input has node 0 alone, not 1");
+    let shows = "`image show -` shows what there is";
+    let length = "1 length: the length does not fit the counts";
+    wrong(&["text", "-"], b"", &format!("-: refused 1 at 0 ({length}); {shows}"));
+    let kind = "3 kind: no such kind of node";
+    let damaged = bytes_of(&[2, 0, 15, 99, 0, 0]);
+    wrong(&["text", "-"], &damaged, &format!("-: refused 3 at 1 ({kind}); {shows}"));
+    let mut bytes = command(&["show"]);
+    bytes.arg(OsStr::from_bytes(b"\xff"));
+    let (_, error, status) = ended(bytes.spawn().unwrap(), &[]);
+    assert_eq!((error.as_str(), status), ("image: the argument \"\\xFF\" is not UTF-8\n", 2));
 }

@@ -57,13 +57,16 @@ fn kinds_and_sorts() {
 fn operands() {
     let said = |tree: &str| fault(&format!("registers 1\n{tree}"));
     assert_eq!(said("(Num)"), "2:5: a number must stand here, 0 to 4294967295, not `)`");
-    assert_eq!(said("(Num -1)"), "2:6: a number must stand here, 0 to 4294967295, not `-1`");
     assert_eq!(said("(Num +1)"), "2:6: a number must stand here, 0 to 4294967295, not `+1`");
     assert_eq!(
         said("(Num 4294967296)"),
         "2:6: a number must stand here, 0 to 4294967295, not `4294967296`"
     );
-    assert_eq!(said("(Boo 2)"), "2:6: true or false must stand here, not `2`");
+    let truth = "2:6: true or false must stand here, not";
+    assert_eq!(said("(Boo 2)"), format!("{truth} `2`"));
+    assert_eq!(said("(Boo 1)"), format!("{truth} `1`; 1 is written true"));
+    assert_eq!(said("(Boo 0)"), format!("{truth} `0`; 0 is written false"));
+    assert_eq!(said("(Boo (Num 1))"), format!("{truth} `(`"));
     assert_eq!(said("(Id 64)"), "2:5: a name must stand here, 0 to 63, not `64`");
     assert_eq!(said("(Id x)"), "2:5: a name must stand here, 0 to 63, not `x`");
     assert_eq!(said("(Assign (Num 1))"), "2:9: a name must stand here, 0 to 63, not `(`");
@@ -71,6 +74,25 @@ fn operands() {
         said("(Blk (Bind 1 (Abs (Formal 2 8)"),
         "2:29: a type code must stand here, 0 to 7, not `8`"
     );
+}
+
+/// A negative number is refused with the list that gives it, as far as there is one.
+#[test]
+fn negative_numbers() {
+    let said = |word: &str| fault(&format!("registers 1\n(Num {word})"));
+    let range =
+        |word: &str| format!("2:6: a number must stand here, 0 to 4294967295, not `{word}`");
+    for digits in ["1", "42", "4294967295"] {
+        let word = format!("-{digits}");
+        let list = format!("(Sub (Num 0) (Num {digits}))");
+        let hint = format!("; a negative number is a difference: {list}");
+        assert_eq!(said(&word), range(&word) + &hint);
+        assert!(parse(&format!("registers 1\n{list}")).is_ok());
+    }
+    for word in ["-4294967296", "-", "--1", "-+1", "-x", "-99999999999999999999"] {
+        assert_eq!(said(word), range(word));
+    }
+    assert_eq!(fault("registers 1 (Id -1)"), "1:17: a name must stand here, 0 to 63, not `-1`");
 }
 
 #[test]
@@ -107,6 +129,8 @@ fn parentheses() {
 fn columns_are_characters() {
     assert_eq!(fault("registers 0 (Ä (Π"), "1:14: `Ä` is no kind of node");
     assert_eq!(fault("registers 0 (Not ; Π\n é"), "2:2: an expression must stand here, not `é`");
+    // A byte order mark has none.
+    assert_eq!(fault("\u{feff}registers 0 (A"), "1:14: `A` is no kind of node");
 }
 
 #[test]

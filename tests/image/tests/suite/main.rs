@@ -1,7 +1,13 @@
 //! The suite: trees go to text and back unchanged, faults of a text are named where
-//! they are, and damaged images are shown as far as they go.
+//! they are, damaged images are shown as far as they go, and the tables of refusals
+//! agree.
+
+mod binary;
 
 mod command_line;
 mod faults;
+mod given;
+mod names;
 mod round_trip;
 mod shown;
+mod streams;

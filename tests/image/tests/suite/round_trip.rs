@@ -58,11 +58,20 @@ fn comments_and_spaces_say_nothing() {
     assert_eq!(parse(text).unwrap().image(), image(2, sum(num(1), num(2))));
 }
 
+/// A byte order mark before the text says nothing; it is none inside.
+#[test]
+fn a_byte_order_mark_says_nothing() {
+    let listing = parse("\u{feff}registers 0 (Num 1)").unwrap();
+    assert_eq!(listing.image(), image(0, num(1)));
+    assert_eq!(listing.nodes[0].position.to_string(), "1:13");
+    assert!(parse("registers 0 \u{feff}(Num 1)").is_err());
+}
+
 #[test]
 fn each_form_is_read() {
     let text = "registers 1
         (Blk (DSeq (Bind 1 (Abs (Formal 2 0) (Formal 3 5) (Blk (Bind 4 (Ref (Boo true)))
-                    (Loop (And (Id 4) (Boo 0)) (Assign 4 (Not (Boo false)))))))
+                    (Loop (And (Id 4) (Boo false)) (Assign 4 (Not (Boo false)))))))
                (Bind 5 (DeRef 0)))
           (CSeq (Call 1 (Num 4294967295) (DeRef 5)) (Assign 0 (ValRef 5))))";
     let body =

@@ -2,29 +2,41 @@
 
 use second::build::*;
 use second::encode::{bytes_of, program_input};
+use std::ffi::OsStr;
+use std::fs::File;
 use std::io::Write;
-use std::process::{Command, Stdio};
+use std::os::unix::ffi::OsStrExt;
+use std::process::{Child, Command, Stdio};
 
-/// Standard output, standard error and whether the exit was a success.
-fn second(arguments: &[&str], input: &[u8]) -> (String, String, bool) {
-    let mut child = Command::new(env!("CARGO_BIN_EXE_second"))
-        .args(arguments)
-        .stdin(Stdio::piped())
-        .stdout(Stdio::piped())
-        .stderr(Stdio::piped())
-        .spawn()
-        .unwrap();
+fn command(arguments: &[&str]) -> Command {
+    let mut command = Command::new(env!("CARGO_BIN_EXE_second"));
+    command.args(arguments);
+    command.stdin(Stdio::piped()).stdout(Stdio::piped()).stderr(Stdio::piped());
+    command
+}
+
+/// Standard output, standard error and the exit status.
+fn ended(mut child: Child, input: &[u8]) -> (String, String, i32) {
     // A child that refuses its arguments may not read its input.
     let _ = child.stdin.take().unwrap().write_all(input);
     let output = child.wait_with_output().unwrap();
     let text = |bytes| String::from_utf8(bytes).unwrap();
-    (text(output.stdout), text(output.stderr), output.status.success())
+    (text(output.stdout), text(output.stderr), output.status.code().unwrap())
+}
+
+fn second(arguments: &[&str], input: &[u8]) -> (String, String, i32) {
+    ended(command(arguments).spawn().unwrap(), input)
 }
 
 fn said(arguments: &[&str], input: &[u8]) -> String {
-    let (output, error, success) = second(arguments, input);
-    assert!(success && error.is_empty(), "{error}");
+    let (output, error, status) = second(arguments, input);
+    assert!(status == 0 && error.is_empty(), "{error}");
     output
+}
+
+/// A device that takes nothing.
+fn full() -> File {
+    File::options().write(true).open("/dev/full").unwrap()
 }
 
 #[test]
@@ -95,8 +107,8 @@ fn generate_prints_what_the_library_makes() {
 #[test]
 fn bad_usage_says_what_is_wrong() {
     let wrong = |arguments: &[&str], message: &str| {
-        let (output, error, success) = second(arguments, b"zz");
-        assert!(!success && output.is_empty());
+        let (output, error, status) = second(arguments, b"zz");
+        assert!(status == 2 && output.is_empty());
         assert!(error.contains(message), "{error}");
     };
     wrong(&[], "no command");
@@ -108,4 +120,49 @@ fn bad_usage_says_what_is_wrong() {
     wrong(&["generate", "small", "x", "1"], "SEED must be a whole number, not x");
     wrong(&["check", "--octal"], "no option --octal");
     wrong(&["check", "--hex"], "zz is no 32-bit word");
+    wrong(&["walk", "--help"], "no command walk");
+    let mut bytes = command(&["check"]);
+    bytes.arg(OsStr::from_bytes(b"\xff"));
+    let (_, error, status) = ended(bytes.spawn().unwrap(), &[]);
+    assert_eq!((error.as_str(), status), ("second: the argument \"\\xFF\" is not UTF-8\n", 2));
+}
+
+/// The help is there for the tool and for each command of its list.
+#[test]
+fn help_is_everywhere() {
+    let help = said(&["help"], &[]);
+    assert!(help.starts_with("second: ") && help.contains("Exit status: 0 "));
+    for arguments in [&["--help"], &["-h"]] {
+        assert_eq!(said(arguments, &[]), help);
+    }
+    for command in ["program", "run", "check", "show", "generate"] {
+        assert!(help.contains(&format!("\n  {command} ")), "{command}");
+        assert_eq!(said(&["help", command], &[]), help);
+        assert_eq!(said(&[command, "--help"], &[]), help);
+        assert_eq!(said(&[command, "-h"], &[]), help);
+    }
+    assert_eq!(said(&["run", "5", "--help"], &[]), help);
+}
+
+/// A reader that closes early is served quietly; a stream that fails is told.
+#[test]
+fn streams_that_close_or_fail() {
+    let input = program_input(&image(1, assign(0, num(7))), &[5]);
+    let mut closed = command(&["program"]).spawn().unwrap();
+    drop(closed.stdout.take());
+    assert_eq!(ended(closed, &input), (String::new(), String::new(), 0));
+
+    let fails = "second: standard output: No space left on device (os error 28)\n".to_string();
+    let child = command(&["program"]).stdout(full()).spawn().unwrap();
+    assert_eq!(ended(child, &input), (String::new(), fails, 2));
+
+    // The message is lost, the exit status is not.
+    let child = command(&["walk"]).stderr(full()).spawn().unwrap();
+    assert_eq!(ended(child, &[]), (String::new(), String::new(), 2));
+
+    let folder = File::open(env!("CARGO_MANIFEST_DIR")).unwrap();
+    let output = command(&["check"]).stdin(folder).output().unwrap();
+    let error = String::from_utf8(output.stderr).unwrap();
+    assert_eq!(error, "second: standard input: Is a directory (os error 21)\n");
+    assert_eq!(output.status.code(), Some(2));
 }

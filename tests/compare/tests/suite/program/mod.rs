@@ -2,8 +2,10 @@
 //! text that is written down here.
 
 mod differences;
+mod failures;
 mod families;
 mod inputs;
 mod paper;
 mod refusals;
 mod streams;
+mod whole;

@@ -1,0 +1,76 @@
+//! One row each: the check of an image and the run of a routine, by both, which must
+//! give the same answer first; and the clearing of the work words.
+
+use crate::images::Timed;
+use crate::measure::medians;
+use crate::race::Race;
+use crate::routines::Routine;
+use compare::difference::Difference;
+use compare::run::as_words;
+use compare::{check, engine, run};
+use second::engine::{MOST_BUDGET, WORK_WORDS};
+use second::generate::random::Random;
+use second::generate::Case;
+use std::hint::black_box;
+
+/// The check of one image by both; a unit is a node.
+pub fn check_race(timed: &Timed) -> Result<Race, String> {
+    let Timed { name, image } = timed;
+    let mut work = vec![0; WORK_WORDS];
+    must_agree(name, check::compare(image, WORK_WORDS, &mut Random::new(0)))?;
+    let [engine, second] = medians([
+        &mut || {
+            black_box(engine::check(black_box(image), black_box(&mut work)));
+        },
+        &mut || {
+            black_box(second::check(black_box(image), WORK_WORDS));
+        },
+    ]);
+    Ok(Race { name, units: timed.nodes().into(), engine, second })
+}
+
+/// The run of one routine by both; a unit is a step.
+pub fn run_race(routine: &Routine) -> Result<Race, String> {
+    let Routine { name, image, starts, steps } = routine;
+    let case = Case {
+        image: image.clone(),
+        registers: starts.clone(),
+        budget: MOST_BUDGET,
+        work_length: WORK_WORDS,
+    };
+    must_agree(name, run::compare(&case, &mut Random::new(0)))?;
+    let mut work = vec![0; WORK_WORDS];
+    let words = as_words(starts);
+    let mut registers = words.clone();
+    let mut integers = starts.clone();
+    let [engine, second] = medians([
+        &mut || {
+            registers.copy_from_slice(&words);
+            let registers = black_box(&mut registers);
+            black_box(engine::run(black_box(image), registers, MOST_BUDGET, black_box(&mut work)));
+        },
+        &mut || {
+            integers.copy_from_slice(starts);
+            let registers = black_box(&mut integers);
+            black_box(second::run(black_box(image), registers, MOST_BUDGET, WORK_WORDS));
+        },
+    ]);
+    Ok(Race { name, units: *steps, engine, second })
+}
+
+/// The time to clear the work words alone, in nanoseconds.
+pub fn clearing() -> f64 {
+    let mut work = vec![0_u64; WORK_WORDS];
+    let [clearing] = medians([&mut || {
+        black_box(&mut work).fill(black_box(0));
+    }]);
+    clearing
+}
+
+/// Where both do not give the same answer there is nothing to time.
+fn must_agree<T>(name: &str, compared: Result<T, Box<Difference>>) -> Result<(), String> {
+    let told = |difference| {
+        format!("{name}: the answers differ, so there is nothing to time\n{difference}")
+    };
+    compared.map(|_| ()).map_err(told)
+}

@@ -1,0 +1,77 @@
+/*
+ * Uses every macro, type and call of the header, and is compiled as C and as C++ with more warnings
+ * than a host may want. It prints nothing; the exit status is 0 where the answers are right.
+ */
+#include "pi_engine.h"
+
+/* Refused by the compiler where the condition does not hold. */
+#define HOLDS(name, condition) typedef char name[(condition) ? 1 : -1]
+
+#if PI_VERSION_NUMBER != PI_VERSION_MAJOR * 10000 + PI_VERSION_MINOR * 100 + PI_VERSION_PATCH
+#error "the version's number can be compared"
+#endif
+HOLDS(version_is_text, sizeof PI_VERSION >= sizeof "0.0.0");
+HOLDS(check_reply_is_three_words, sizeof(PiCheckReply) == 3 * sizeof(uint64_t));
+HOLDS(run_reply_is_five_words, sizeof(PiRunReply) == 5 * sizeof(uint64_t));
+HOLDS(largest_image_in_words, PI_IMAGE_WORDS(PI_MOST_NODES) == 4002);
+HOLDS(largest_image_in_bytes, PI_IMAGE_BYTES(PI_MOST_NODES) == 16008);
+HOLDS(registers_are_cells, PI_MOST_REGISTERS <= PI_MOST_CELLS && PI_MOST_REGISTERS <= PI_NAMES);
+HOLDS(limits, PI_MOST_DEPTH == 64 && PI_MOST_BUDGET == 1000000 && PI_MOST_COUNT == 8);
+HOLDS(room, PI_MOST_BINDINGS == 512 && PI_MOST_VALUES == 512 && PI_MOST_CONTROL == 512);
+HOLDS(stack, PI_STACK_WORD_FORMS < PI_STACK_BYTE_FORMS);
+
+/* A table of the refusals. */
+typedef struct Name {
+    PiRefusal refusal;
+    uint64_t number;
+    const char *name;
+    const char *sentence;
+} Name;
+
+#define ROW(enumerator, number, name, sentence) {enumerator, number, name, sentence},
+static const Name names[] = {PI_REFUSAL_LIST(ROW)};
+#undef ROW
+
+static const char *name_of(uint64_t refusal)
+{
+    size_t index;
+
+    for (index = 0; index < sizeof names / sizeof names[0]; index += 1) {
+        if (names[index].number == refusal)
+            return names[index].name;
+    }
+    return 0;
+}
+
+/* Call 1, a name that has no binding, with one actual: 2 nodes. */
+static const uint32_t image[PI_IMAGE_WORDS(2)] = {
+    2, 0, PI_KIND_CALL, PI_KIND_NUM, PI_OPERAND(1, 1), 7,
+};
+/* Num 7: 1 node. */
+static const uint8_t bytes[PI_IMAGE_BYTES(1)] = {
+    1, 0, 0, 0, 0, 0, 0, 0, PI_KIND_NUM, 0, 0, 0, 7, 0, 0, 0,
+};
+
+static uint64_t work[PI_WORK_WORDS];
+
+int main(void)
+{
+    const PiKind kind = PI_KIND_CALL;
+    PiCheckReply checked = pi_check(image, PI_IMAGE_WORDS(2), work, PI_WORK_WORDS);
+    PiRunReply ran = pi_run(image, PI_IMAGE_WORDS(2), 0, 0, PI_MOST_BUDGET, work, PI_WORK_WORDS);
+    PiRefusal refusal = (PiRefusal)checked.refusal;
+    PiCode code;
+    PiOutcome outcome;
+
+    if (image[2] != (uint32_t)kind || refusal != PI_REFUSAL_UNBOUND || ran.refusal != checked.refusal)
+        return 1;
+    if (name_of(checked.refusal) == 0 || name_of(PI_REFUSAL_NONE) != 0)
+        return 2;
+    checked = pi_check_bytes(bytes, PI_IMAGE_BYTES(1), work, PI_WORK_WORDS);
+    ran = pi_run_bytes(bytes, PI_IMAGE_BYTES(1), 0, 0, PI_MOST_BUDGET, work, PI_WORK_WORDS);
+    code = (PiCode)checked.value;
+    outcome = (PiOutcome)ran.outcome;
+    if (code != PI_CODE_INTEGER || outcome != PI_OUTCOME_NUMBER || ran.value != 7)
+        return 3;
+    return 0;
+}
