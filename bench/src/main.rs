@@ -6,13 +6,11 @@ mod race;
 mod routines;
 mod rows;
 
-use compare::output::{complain, write_out, Reader};
 use compare::progress::{in_words, Progress};
 use measure::REPETITIONS;
 use race::{table, Race};
 use rows::{check_race, clearing, run_race};
-use std::env::args_os;
-use std::ffi::OsString;
+use second::command_line::{arguments, complain, write_out, Reader};
 use std::process::ExitCode;
 
 const HELP: &str = "\
@@ -52,15 +50,9 @@ enum End {
 }
 
 fn main() -> ExitCode {
-    let lossy = |argument: OsString| argument.to_string_lossy().into_owned();
-    let arguments: Vec<String> = args_os().skip(1).map(lossy).collect();
-    let arguments: Vec<&str> = arguments.iter().map(String::as_str).collect();
-    let ended = match arguments.as_slice() {
-        [] => measure_all(),
-        all if all.iter().any(|argument| ["help", "--help", "-h"].contains(argument)) => {
-            print(HELP)
-        }
-        [argument, ..] => Err(End::Fault(2, format!("no argument {argument}; see `bench --help`"))),
+    let ended = match arguments() {
+        Ok(arguments) => answer(&arguments),
+        Err(message) => Err(End::Fault(2, message)),
     };
     match ended {
         Ok(()) | Err(End::Unread) => ExitCode::SUCCESS,
@@ -68,6 +60,15 @@ fn main() -> ExitCode {
             complain("bench", &message);
             ExitCode::from(status)
         }
+    }
+}
+
+fn answer(arguments: &[String]) -> Result<(), End> {
+    let is_help = |argument: &String| ["help", "--help", "-h"].contains(&argument.as_str());
+    match arguments {
+        [] => measure_all(),
+        _ if arguments.iter().any(is_help) => print(HELP),
+        [argument, ..] => Err(End::Fault(2, format!("no argument {argument}; see `bench --help`"))),
     }
 }
 

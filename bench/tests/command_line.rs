@@ -48,7 +48,7 @@ fn other_arguments_are_refused() {
     }
     // Bytes that are no text.
     let (_, error, status) = bench(&[OsStr::from_bytes(b"\xff")], Stdio::piped());
-    assert!(status == Some(2) && error.starts_with("bench: no argument "), "{error}");
+    assert_eq!((status, error.as_str()), (Some(2), "bench: the argument \"\\xFF\" is not UTF-8\n"));
 }
 
 #[test]

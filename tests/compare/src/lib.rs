@@ -8,8 +8,8 @@
 //! words, a word outside the slices. [`program`] does so with a run of the program.
 //! [`sample`] makes calls from the second interpreter's generators, [`byte_calls`]
 //! and [`inputs`] make others from calls on bytes and from the program's inputs, and
-//! [`tally`] counts what they were answered. [`output`] and [`progress`] are what a
-//! command line writes, and what it shows on a terminal meanwhile.
+//! [`tally`] counts what they were answered. [`progress`] is what a command line shows
+//! on a terminal meanwhile.
 
 pub mod byte_calls;
 pub mod bytes;
@@ -18,7 +18,6 @@ pub mod difference;
 pub mod engine;
 pub mod guarded;
 pub mod inputs;
-pub mod output;
 pub mod program;
 pub mod progress;
 pub mod run;

@@ -1,15 +1,13 @@
 //! The command line: long comparisons by one command.
 
 use compare::difference::Difference;
-use compare::output::{complain, write_out};
 use compare::program::Program;
 use compare::progress::{of_all, Progress};
 use compare::sample::{compare_bytes, compare_check, compare_program, compare_run};
 use compare::sample::{Mixture, Sample, CHECKED, RUN};
 use compare::tally::Tally;
+use second::command_line::{arguments, asks_for_help, complain, write_out};
 use second::generate::Family;
-use std::env::args_os;
-use std::ffi::OsString;
 use std::process::ExitCode;
 
 const HELP: &str = "\
@@ -76,9 +74,7 @@ enum Source {
 }
 
 fn main() -> ExitCode {
-    let lossy = |argument: OsString| argument.to_string_lossy().into_owned();
-    let arguments: Vec<String> = args_os().skip(1).map(lossy).collect();
-    match understand(&arguments) {
+    match arguments().and_then(|arguments| understand(&arguments)) {
         Ok(Request::Help) => printed(HELP, ExitCode::SUCCESS),
         Ok(Request::Compare { name, comparison, samples }) => {
             let (text, status) = compare_all(name, comparison, &samples);
@@ -103,12 +99,11 @@ fn refused(message: &str) -> ExitCode {
 
 fn understand(arguments: &[String]) -> Result<Request, String> {
     let arguments: Vec<&str> = arguments.iter().map(String::as_str).collect();
-    if arguments.iter().any(|argument| ["--help", "-h"].contains(argument)) {
-        return Ok(Request::Help);
-    }
     let (command, rest) = match arguments.as_slice() {
         [] => return Err("no command; `compare help` lists them".to_string()),
-        ["help", ..] => return Ok(Request::Help),
+        asked if asks_for_help(asked, &COMPARISONS.map(|(name, ..)| name)) => {
+            return Ok(Request::Help);
+        }
         [command, rest @ ..] => (*command, rest),
     };
     let found = COMPARISONS.into_iter().find(|(name, ..)| *name == command);

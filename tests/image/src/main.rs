@@ -7,11 +7,10 @@ use image::print::print;
 use image::show::show;
 use image::stored::split;
 use image::values::{missing, values};
+use second::command_line::{arguments, asks_for_help, complain, write_out};
 use second::encode::program_input;
 use second::reader::read;
 use second::refusal;
-use std::ffi::OsString;
-use std::io::{ErrorKind, Write};
 use std::process::ExitCode;
 
 const HELP: &str = "\
@@ -56,9 +55,8 @@ struct Given {
 }
 
 fn main() -> ExitCode {
-    let arguments: Vec<OsString> = std::env::args_os().skip(1).collect();
-    let done = answer(&arguments).and_then(|given| {
-        put_out(&given.output)?;
+    let done = arguments().and_then(|arguments| answer(&arguments)).and_then(|given| {
+        write_out(&given.output)?;
         Ok(given.note)
     });
     let (note, status) = match done {
@@ -66,28 +64,16 @@ fn main() -> ExitCode {
         Err(message) => (Some(message), ExitCode::from(2)),
     };
     if let Some(note) = note {
-        // Where standard error fails too, the exit status is all that can be said.
-        let _ = writeln!(std::io::stderr(), "image: {note}");
+        complain("image", &note);
     }
     status
 }
 
-/// Write the output whole. A reader that has closed its end wants no more of it.
-fn put_out(output: &[u8]) -> Result<(), String> {
-    let mut stream = std::io::stdout().lock();
-    match stream.write_all(output).and_then(|()| stream.flush()) {
-        Err(error) if error.kind() != ErrorKind::BrokenPipe => {
-            Err(format!("standard output: {error}"))
-        }
-        _ => Ok(()),
-    }
-}
-
 /// What a command line gives, or what is wrong with it.
-fn answer(arguments: &[OsString]) -> Result<Given, String> {
-    let arguments = arguments.iter().map(argument).collect::<Result<Vec<&str>, String>>()?;
+fn answer(arguments: &[String]) -> Result<Given, String> {
+    let arguments: Vec<&str> = arguments.iter().map(String::as_str).collect();
     let output: String = match arguments.as_slice() {
-        asked if asks_for_help(asked) => HELP.to_string(),
+        asked if asks_for_help(asked, &COMMANDS) => HELP.to_string(),
         ["make", file, values @ ..] => return make(file, values),
         ["show", file] => show(&image(file)?),
         ["text", file] => text_again(file)?,
@@ -101,21 +87,6 @@ fn answer(arguments: &[OsString]) -> Result<Given, String> {
         [command, ..] => return Err(format!("no command {command}; `image help` lists them")),
     };
     Ok(Given { output: output.into(), note: None })
-}
-
-/// Whether this is `help`, or a command with --help behind it.
-fn asks_for_help(arguments: &[&str]) -> bool {
-    match arguments {
-        ["help" | "--help" | "-h", ..] => true,
-        [command, rest @ ..] if COMMANDS.contains(command) => {
-            rest.iter().any(|argument| ["--help", "-h"].contains(argument))
-        }
-        _ => false,
-    }
-}
-
-fn argument(given: &OsString) -> Result<&str, String> {
-    given.to_str().ok_or_else(|| format!("the argument {given:?} is not UTF-8"))
 }
 
 fn listing(file: &str) -> Result<Listing, String> {

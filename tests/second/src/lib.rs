@@ -8,14 +8,15 @@
 //! [`program`] (bytes to text).
 //!
 //! Beside that stand what test programs need: [`build`] to write a tree down,
-//! [`encode`] to turn it into an image, [`show`] to print it, and [`generate`]
-//! to make cases from a seed.
+//! [`encode`] to turn it into an image, [`show`] to print it, [`generate`] to make
+//! cases from a seed, and [`command_line`].
 
 pub mod arithmetic;
 pub mod build;
 pub mod bytes;
 pub mod chain;
 pub mod checker;
+pub mod command_line;
 pub mod encode;
 pub mod engine;
 pub mod execution;

@@ -1,13 +1,13 @@
 //! The command line of the second interpreter.
 
 use second::bytes::{check, whole_image};
+use second::command_line::{arguments, asks_for_help, complain, write_out};
 use second::engine::{Answer, WORK_WORDS};
 use second::generate::Family;
 use second::program::{print_answer, program, with_budget};
 use second::reader::read;
 use second::show::{from_hexadecimal, hexadecimal, show};
-use std::ffi::OsString;
-use std::io::{ErrorKind, Read, Write};
+use std::io::Read;
 use std::process::ExitCode;
 
 const HELP: &str = "\
@@ -41,33 +41,21 @@ command line or the input is wrong or a stream fails.
 const COMMANDS: [&str; 5] = ["program", "run", "check", "show", "generate"];
 
 fn main() -> ExitCode {
-    let arguments: Vec<OsString> = std::env::args_os().skip(1).collect();
-    match answer(&arguments).and_then(|output| put_out(&output)) {
-        Ok(()) => ExitCode::SUCCESS,
+    let done = arguments().and_then(|arguments| answer(&arguments)).and_then(write_out);
+    match done {
+        Ok(_) => ExitCode::SUCCESS,
         Err(message) => {
-            // Where standard error fails too, the exit status is all that can be said.
-            let _ = writeln!(std::io::stderr(), "second: {message}");
+            complain("second", &message);
             ExitCode::from(2)
         }
     }
 }
 
-/// Write the output whole. A reader that has closed its end wants no more of it.
-fn put_out(output: &[u8]) -> Result<(), String> {
-    let mut stream = std::io::stdout().lock();
-    match stream.write_all(output).and_then(|()| stream.flush()) {
-        Err(error) if error.kind() != ErrorKind::BrokenPipe => {
-            Err(format!("standard output: {error}"))
-        }
-        _ => Ok(()),
-    }
-}
-
 /// The output of a command line, or what is wrong with it.
-fn answer(arguments: &[OsString]) -> Result<Vec<u8>, String> {
-    let arguments = arguments.iter().map(argument).collect::<Result<Vec<&str>, String>>()?;
+fn answer(arguments: &[String]) -> Result<Vec<u8>, String> {
+    let arguments: Vec<&str> = arguments.iter().map(String::as_str).collect();
     match arguments.as_slice() {
-        asked if asks_for_help(asked) => Ok(HELP.into()),
+        asked if asks_for_help(asked, &COMMANDS) => Ok(HELP.into()),
         ["program", options @ ..] => Ok(program(&input(options)?)),
         ["run", budget, options @ ..] => {
             let budget = number(budget, "BUDGET")?;
@@ -88,21 +76,6 @@ fn answer(arguments: &[OsString]) -> Result<Vec<u8>, String> {
         }
         [command, ..] => Err(format!("no command {command}; `second help` lists them")),
     }
-}
-
-/// Whether this is `help`, or a command with --help behind it.
-fn asks_for_help(arguments: &[&str]) -> bool {
-    match arguments {
-        ["help" | "--help" | "-h", ..] => true,
-        [command, rest @ ..] if COMMANDS.contains(command) => {
-            rest.iter().any(|argument| ["--help", "-h"].contains(argument))
-        }
-        _ => false,
-    }
-}
-
-fn argument(given: &OsString) -> Result<&str, String> {
-    given.to_str().ok_or_else(|| format!("the argument {given:?} is not UTF-8"))
 }
 
 fn number(text: &str, what: &str) -> Result<u64, String> {

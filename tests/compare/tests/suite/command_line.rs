@@ -132,5 +132,7 @@ fn an_argument_that_is_no_text_is_refused() {
     let mut command = Command::new(env!("CARGO_BIN_EXE_compare"));
     let output = command.arg(OsStr::from_bytes(b"\xff")).output().expect("it starts");
     assert_eq!(output.status.code(), Some(2));
-    assert!(output.stdout.is_empty() && output.stderr.starts_with(b"compare: no command "));
+    let errors = String::from_utf8(output.stderr).expect("text");
+    assert_eq!(errors, "compare: the argument \"\\xFF\" is not UTF-8\n");
+    assert!(output.stdout.is_empty());
 }

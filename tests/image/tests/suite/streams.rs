@@ -24,7 +24,8 @@ fn output_that_closes_early() {
 /// An output that cannot be written is told, also where it has no line's end.
 #[test]
 fn output_that_fails() {
-    let fails = "image: standard output: No space left on device (os error 28)\n".to_string();
+    let fails = "image: standard output cannot be written: No space left on device (os error 28)\n"
+        .to_string();
     for (arguments, input) in [
         (&["make", "-", "5"][..], DOUBLE.as_bytes()),
         (&["make", "-"], DOUBLE.as_bytes()),

@@ -152,7 +152,9 @@ fn streams_that_close_or_fail() {
     drop(closed.stdout.take());
     assert_eq!(ended(closed, &input), (String::new(), String::new(), 0));
 
-    let fails = "second: standard output: No space left on device (os error 28)\n".to_string();
+    let fails =
+        "second: standard output cannot be written: No space left on device (os error 28)\n"
+            .to_string();
     let child = command(&["program"]).stdout(full()).spawn().unwrap();
     assert_eq!(ended(child, &input), (String::new(), fails, 2));
 
