@@ -1,5 +1,7 @@
 pub mod Cases
 pub mod Decimal
 pub mod Program
+pub mod RegistersShown
 pub mod Sizes
+pub mod Whole
 pub mod Writing

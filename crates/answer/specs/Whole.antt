@@ -1,0 +1,188 @@
+-- How a whole answer is told from one that was cut: by its lines. An answer has 2 lines, and one more for each register where it shows
+-- them; and of all that an answer begins with, only the answer itself has as many. `tools/whole.sh` tests this.
+use Prim.Native.Nat.{ℕ, zero, suc, _+_, _*_, _/_, _%_, _<_}
+use native.Mathlib.Omega.{arith}
+use mathlib.Core.Path.{_≡_, refl, sym, ap, _∙_, subst}
+use mathlib.Core.Bool.{Bool, true, false, cond}
+use mathlib.Core.List.{List, [], _∷_, _++_}
+use lib.Dec.{T, eqb, ltb}
+use lib.IntN.{ℤ, pos, negsuc}
+use lib.ListN.{length, take, drop, take-append-drop}
+use borrow.Author.Tests.{ne-eqb, eq-eqb}
+use Rattle.rules.specs.paper.Refusals.{refusal-number}
+use Rattle.rules.specs.paper.Engine.{number, truth-of, cell, nothing, Answer, outcome, refused, Called}
+use Rattle.rules.specs.claims.Listing.{truth-word}
+use Rattle.little_endian.specs.Numbers.{little-endian}
+use Rattle.answer.specs.RegistersShown.{registers-shown}
+use Rattle.answer.specs.Decimal.{ascii, digit, digits-within, decimal, integer}
+use Rattle.answer.specs.Program.{line, outcome-text, register-text, register-lines, shows-registers, page, call-input, program}
+
+abbrev pub newline : ℕ
+newline = 10
+
+-- How many newlines there are among these bytes.
+unfoldable pub newlines : List ℕ → ℕ
+newlines [] = 0
+newlines (b ∷ bs) = cond (eqb b newline) 1 0 + newlines bs
+
+-- What an answer's lines tell: they are 2, and one for each of the input's registers where the answer shows them; and of all that the
+-- answer begins with, only the answer itself has as many.
+pub record ToldByLines (input : List ℕ) : Type 0 where
+  pub lines : newlines (program input) ≡ 2 + cond (shows-registers (call-input input .reply .answer)) (little-endian (take 4 (drop 4 input))) 0
+  pub whole : (k : ℕ) → newlines (take k (program input)) ≡ newlines (program input) → take k (program input) ≡ program input
+
+-- The lines of an answer.
+abbrev answer-lines : Called → ℕ
+answer-lines c = 2 + cond (shows-registers (c .reply .answer)) (length (c .registers)) 0
+
+newlines-append : (xs ys : List ℕ) → newlines (xs ++ ys) ≡ newlines xs + newlines ys
+unfolding newlines
+newlines-append [] ys = omega arith
+newlines-append (x ∷ xs) ys = omega (arith, newlines-append xs ys)
+
+newlines-line : (text : List ℕ) → newlines text ≡ 0 → newlines (line text) ≡ 1
+unfolding newlines
+newlines-line text e = newlines-append text (ascii "\n") ∙ omega (arith, e)
+
+no-newline-digit : (n : ℕ) → newlines (digit n ∷ []) ≡ 0
+unfolding newlines
+no-newline-digit n = ap (λ (b : Bool). cond b 1 0 + 0) (ne-eqb (digit n) newline (λ e. absurd (omega (arith, e))))
+
+digit-or-more : (b : Bool) (n : ℕ) (front : List ℕ) → newlines front ≡ 0 → newlines (cond b (digit n ∷ []) (front ++ (digit (n % 10) ∷ []))) ≡ 0
+digit-or-more true n front e = no-newline-digit n
+digit-or-more false n front e = newlines-append front (digit (n % 10) ∷ []) ∙ omega (arith, e, no-newline-digit (n % 10))
+
+no-newline-digits : (k n : ℕ) → newlines (digits-within k n) ≡ 0
+unfolding newlines digits-within
+no-newline-digits zero n = refl
+no-newline-digits (suc k) n = digit-or-more (ltb n 10) n (digits-within k (n / 10)) (no-newline-digits k (n / 10))
+
+no-newline-decimal : (n : ℕ) → newlines (decimal n) ≡ 0
+unfolding decimal
+no-newline-decimal n = no-newline-digits (suc n) n
+
+no-newline-integer : (z : ℤ) → newlines (integer z) ≡ 0
+unfolding integer newlines
+no-newline-integer (pos n) = no-newline-decimal n
+no-newline-integer (negsuc n) = omega (arith, no-newline-decimal (suc n))
+
+-- A label and a text behind it.
+labelled : (label text : List ℕ) → newlines label ≡ 0 → newlines text ≡ 0 → newlines (label ++ text) ≡ 0
+labelled label text e d = newlines-append label text ∙ omega (arith, e, d)
+
+no-newline-outcome : (a : Answer) → newlines (outcome-text a) ≡ 0
+unfolding outcome-text newlines
+no-newline-outcome (outcome (number z)) = labelled (ascii "number ") (integer z) refl (no-newline-integer z)
+no-newline-outcome (outcome (truth-of b)) = labelled (ascii "truth ") (decimal (truth-word b)) refl (no-newline-decimal (truth-word b))
+no-newline-outcome (outcome (cell l)) = labelled (ascii "cell ") (decimal l) refl (no-newline-decimal l)
+no-newline-outcome (outcome nothing) = refl
+no-newline-outcome (refused x p) =
+    labelled (ascii "refused " ++ decimal (refusal-number x) ++ ascii " at ") (decimal p)
+    (labelled (ascii "refused " ++ decimal (refusal-number x)) (ascii " at ") (labelled (ascii "refused ") (decimal (refusal-number x)) refl (no-newline-decimal (refusal-number x))) refl)
+    (no-newline-decimal p)
+
+no-newline-register : (i : ℕ) (z : ℤ) → newlines (register-text i z) ≡ 0
+unfolding register-text newlines
+no-newline-register i z =
+    labelled (ascii "register " ++ decimal i ++ ascii " ") (integer z)
+    (labelled (ascii "register " ++ decimal i) (ascii " ") (labelled (ascii "register ") (decimal i) refl (no-newline-decimal i)) refl) (no-newline-integer z)
+
+newlines-registers : (i : ℕ) (zs : List ℤ) → newlines (register-lines i zs) ≡ length zs
+unfolding register-lines newlines
+newlines-registers i [] = refl
+newlines-registers i (z ∷ zs) =
+    newlines-append (line (register-text i z)) (register-lines (suc i) zs) ∙
+    omega (arith, newlines-line (register-text i z) (no-newline-register i z), newlines-registers (suc i) zs)
+
+newlines-shown : (b : Bool) (zs : List ℤ) → newlines (cond b (register-lines 0 zs) []) ≡ cond b (length zs) 0
+unfolding newlines
+newlines-shown true zs = newlines-registers 0 zs
+newlines-shown false zs = refl
+
+two-lines-and-more : (first second rest : List ℕ) (k : ℕ) → newlines first ≡ 0 → newlines second ≡ 0 → newlines rest ≡ k → newlines (line first ++ line second ++ rest) ≡ 2 + k
+two-lines-and-more first second rest k e d m =
+    newlines-append (line first ++ line second) rest ∙
+    omega (arith, newlines-line first e, newlines-append (line first) (line second), newlines-line second d, m)
+
+-- An answer has its lines.
+page-lines : (c : Called) → newlines (page c) ≡ answer-lines c
+unfolding page newlines
+page-lines c =
+    two-lines-and-more (outcome-text (c .reply .answer)) (ascii "steps " ++ decimal (c .reply .steps)) (cond (shows-registers (c .reply .answer)) (register-lines 0 (c .registers)) [])
+    (cond (shows-registers (c .reply .answer)) (length (c .registers)) 0) (no-newline-outcome (c .reply .answer))
+    (labelled (ascii "steps ") (decimal (c .reply .steps)) refl (no-newline-decimal (c .reply .steps))) (newlines-shown (shows-registers (c .reply .answer)) (c .registers))
+
+append-nil : (xs : List ℕ) → xs ++ [] ≡ xs
+append-nil [] = refl
+append-nil (x ∷ xs) = ap (λ (ys : List ℕ). x ∷ ys) (append-nil xs)
+
+-- Bytes of which the last is a newline, or none.
+Ended : List ℕ → Type 0
+Ended [] = Unit {0}
+Ended (b ∷ []) = b ≡ newline
+Ended (b ∷ c ∷ bs) = Ended (c ∷ bs)
+
+ended-append : (xs ys : List ℕ) → Ended xs → Ended ys → Ended (xs ++ ys)
+unfolding Ended
+ended-append [] ys e d = d
+ended-append (x ∷ []) [] e d = e
+ended-append (x ∷ []) (y ∷ ys) e d = d
+ended-append (x ∷ z ∷ xs) ys e d = ended-append (z ∷ xs) ys e d
+
+ended-line : (text : List ℕ) → Ended (line text)
+unfolding Ended
+ended-line [] = refl
+ended-line (x ∷ []) = refl
+ended-line (x ∷ y ∷ text) = ended-line (y ∷ text)
+
+ended-registers : (i : ℕ) (zs : List ℤ) → Ended (register-lines i zs)
+unfolding register-lines Ended
+ended-registers i [] = tt
+ended-registers i (z ∷ zs) = ended-append (line (register-text i z)) (register-lines (suc i) zs) (ended-line (register-text i z)) (ended-registers (suc i) zs)
+
+ended-shown : (b : Bool) (zs : List ℤ) → Ended (cond b (register-lines 0 zs) [])
+unfolding Ended
+ended-shown true zs = ended-registers 0 zs
+ended-shown false zs = tt
+
+ended-page : (c : Called) → Ended (page c)
+unfolding page
+ended-page c =
+    ended-append (line (outcome-text (c .reply .answer)) ++ line (ascii "steps " ++ decimal (c .reply .steps))) _
+    (ended-append (line (outcome-text (c .reply .answer))) _ (ended-line (outcome-text (c .reply .answer))) (ended-line (ascii "steps " ++ decimal (c .reply .steps))))
+    (ended-shown (shows-registers (c .reply .answer)) (c .registers))
+
+ended-drop : (k : ℕ) (xs : List ℕ) → Ended xs → Ended (drop k xs)
+unfolding Ended
+ended-drop zero xs e = e
+ended-drop (suc k) [] e = tt
+ended-drop (suc k) (x ∷ []) e = ended-drop k [] tt
+ended-drop (suc k) (x ∷ y ∷ xs) e = ended-drop k (y ∷ xs) e
+
+ended-has-newline : (x : ℕ) (xs : List ℕ) → Ended (x ∷ xs) → 0 < newlines (x ∷ xs)
+unfolding Ended newlines
+ended-has-newline x [] e = omega (arith, ap {B = ℕ} (λ (b : Bool). cond b 1 0) (eq-eqb x newline e))
+ended-has-newline x (y ∷ xs) e = omega (arith, ended-has-newline y xs e)
+
+nothing-behind : (front behind : List ℕ) → Ended behind → newlines front ≡ newlines (front ++ behind) → front ≡ front ++ behind
+nothing-behind front [] e d = sym (append-nil front)
+nothing-behind front (x ∷ xs) e d = absurd (omega (arith, d, newlines-append front (x ∷ xs), ended-has-newline x xs e))
+
+whole-page : (c : Called) (k : ℕ) → newlines (take k (page c)) ≡ newlines (page c) → take k (page c) ≡ page c
+whole-page c k e =
+    nothing-behind (take k (page c)) (drop k (page c)) (ended-drop k (page c) (ended-page c)) (e ∙ ap newlines (sym (take-append-drop k (page c)))) ∙
+    take-append-drop k (page c)
+
+counted : (b : Bool) (m r : ℕ) → (b ≡ true → m ≡ r) → 2 + cond b m 0 ≡ 2 + cond b r 0
+counted true m r e = ap (λ (n : ℕ). 2 + n) (e refl)
+counted false m r e = refl
+
+pub answers-told : (input : List ℕ) → ToldByLines input
+unfolding program
+answers-told input =
+    record {
+      lines =
+          page-lines (call-input input) ∙
+          counted (shows-registers (call-input input .reply .answer)) (length (call-input input .registers)) (little-endian (take 4 (drop 4 input))) (registers-shown input .as-many);
+      whole = whole-page (call-input input);
+    }
