@@ -180,7 +180,8 @@ typedef enum PiKind {
 /*
  * A type code is base + 2 x level: level 0 is a plain value, each level above a location of the level
  * below, up to level 3. A check answers the root's code, or PI_CODE_COMMAND where it is a command.
- * Codes 4 to 7, levels 2 and 3, have no name here; a Formal may have them, a root never has.
+ * A root's code is 0, 1 or 2, since its only names are the registers. A Formal may have any code; 4 to
+ * 7, levels 2 and 3, have no name here.
  */
 typedef enum PiCode {
     PI_CODE_INTEGER = 0,

@@ -1,11 +1,9 @@
 //! The binary's command line: its help, bad usage, and where its output goes. Nothing
 //! here measures: each run ends before its first row.
 
+use second::streams::{full, unread};
 use std::ffi::OsStr;
-use std::fs::OpenOptions;
-use std::os::fd::OwnedFd;
 use std::os::unix::ffi::OsStrExt;
-use std::os::unix::net::UnixStream;
 use std::process::{Command, Stdio};
 
 /// Standard output, standard error and the exit status.
@@ -14,17 +12,6 @@ fn bench<A: AsRef<OsStr>>(arguments: &[A], output: Stdio) -> (String, String, Op
     let ended = command.args(arguments).stdout(output).output().expect("it starts");
     let text = |bytes| String::from_utf8(bytes).expect("text");
     (text(ended.stdout), text(ended.stderr), ended.status.code())
-}
-
-/// A standard output whose reader has gone before anything is written.
-fn unread() -> Stdio {
-    let (writer, reader) = UnixStream::pair().expect("a pair of sockets");
-    drop(reader);
-    OwnedFd::from(writer).into()
-}
-
-fn full() -> Stdio {
-    OpenOptions::new().write(true).open("/dev/full").expect("a device that is full").into()
 }
 
 #[test]
@@ -54,7 +41,7 @@ fn other_arguments_are_refused() {
 #[test]
 fn a_reader_that_has_gone_ends_it_quietly() {
     for arguments in [&[] as &[&str], &["--help"]] {
-        let (_, error, status) = bench(arguments, unread());
+        let (_, error, status) = bench(arguments, unread().into());
         assert_eq!((status, error.as_str()), (Some(0), ""), "{arguments:?}");
     }
 }
@@ -62,7 +49,7 @@ fn a_reader_that_has_gone_ends_it_quietly() {
 #[test]
 fn an_output_that_cannot_be_written_is_told() {
     for arguments in [&[] as &[&str], &["--help"]] {
-        let (_, error, status) = bench(arguments, full());
+        let (_, error, status) = bench(arguments, full().into());
         assert_eq!(status, Some(2), "{arguments:?}");
         assert!(error.starts_with("bench: standard output cannot be written: "), "{error}");
     }

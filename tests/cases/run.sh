@@ -20,7 +20,7 @@ program=../../target/bin/pirun
 passed=0
 failed=0
 if [ ! -x "$program" ]; then
-    echo 'all: FAILED, there is no program target/bin/pirun; to build it: rt check pirun (about 5 minutes the first time)'
+    echo 'all: FAILED, there is no program target/bin/pirun; to build it: rt check pirun (about 4 minutes the first time)'
     echo '0 passed, 1 failed'
     exit 1
 fi

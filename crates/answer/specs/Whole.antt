@@ -1,11 +1,11 @@
 -- How a whole answer is told from one that was cut: by its lines. An answer has 2 lines, and one more for each register where it shows
 -- them; and of all that an answer begins with, only the answer itself has as many. `tools/whole.sh` tests this.
-use Prim.Native.Nat.{ℕ, zero, suc, _+_, _*_, _/_, _%_, _<_}
+use Prim.Native.Nat.{ℕ, zero, suc, _+_, _/_, _%_, _<_}
 use native.Mathlib.Omega.{arith}
-use mathlib.Core.Path.{_≡_, refl, sym, ap, _∙_, subst}
+use mathlib.Core.Path.{_≡_, refl, sym, ap, _∙_}
 use mathlib.Core.Bool.{Bool, true, false, cond}
 use mathlib.Core.List.{List, [], _∷_, _++_}
-use lib.Dec.{T, eqb, ltb}
+use lib.Dec.{eqb, ltb}
 use lib.IntN.{ℤ, pos, negsuc}
 use lib.ListN.{length, take, drop, take-append-drop}
 use borrow.Author.Tests.{ne-eqb, eq-eqb}
@@ -117,60 +117,60 @@ append-nil [] = refl
 append-nil (x ∷ xs) = ap (λ (ys : List ℕ). x ∷ ys) (append-nil xs)
 
 -- Bytes of which the last is a newline, or none.
-Ended : List ℕ → Type 0
-Ended [] = Unit {0}
-Ended (b ∷ []) = b ≡ newline
-Ended (b ∷ c ∷ bs) = Ended (c ∷ bs)
+EndsWithNewline : List ℕ → Type 0
+EndsWithNewline [] = Unit {0}
+EndsWithNewline (b ∷ []) = b ≡ newline
+EndsWithNewline (b ∷ c ∷ bs) = EndsWithNewline (c ∷ bs)
 
-ended-append : (xs ys : List ℕ) → Ended xs → Ended ys → Ended (xs ++ ys)
-unfolding Ended
-ended-append [] ys e d = d
-ended-append (x ∷ []) [] e d = e
-ended-append (x ∷ []) (y ∷ ys) e d = d
-ended-append (x ∷ z ∷ xs) ys e d = ended-append (z ∷ xs) ys e d
+newline-ends-append : (xs ys : List ℕ) → EndsWithNewline xs → EndsWithNewline ys → EndsWithNewline (xs ++ ys)
+unfolding EndsWithNewline
+newline-ends-append [] ys e d = d
+newline-ends-append (x ∷ []) [] e d = e
+newline-ends-append (x ∷ []) (y ∷ ys) e d = d
+newline-ends-append (x ∷ z ∷ xs) ys e d = newline-ends-append (z ∷ xs) ys e d
 
-ended-line : (text : List ℕ) → Ended (line text)
-unfolding Ended
-ended-line [] = refl
-ended-line (x ∷ []) = refl
-ended-line (x ∷ y ∷ text) = ended-line (y ∷ text)
+newline-ends-line : (text : List ℕ) → EndsWithNewline (line text)
+unfolding EndsWithNewline
+newline-ends-line [] = refl
+newline-ends-line (x ∷ []) = refl
+newline-ends-line (x ∷ y ∷ text) = newline-ends-line (y ∷ text)
 
-ended-registers : (i : ℕ) (zs : List ℤ) → Ended (register-lines i zs)
-unfolding register-lines Ended
-ended-registers i [] = tt
-ended-registers i (z ∷ zs) = ended-append (line (register-text i z)) (register-lines (suc i) zs) (ended-line (register-text i z)) (ended-registers (suc i) zs)
+newline-ends-registers : (i : ℕ) (zs : List ℤ) → EndsWithNewline (register-lines i zs)
+unfolding register-lines EndsWithNewline
+newline-ends-registers i [] = tt
+newline-ends-registers i (z ∷ zs) = newline-ends-append (line (register-text i z)) (register-lines (suc i) zs) (newline-ends-line (register-text i z)) (newline-ends-registers (suc i) zs)
 
-ended-shown : (b : Bool) (zs : List ℤ) → Ended (cond b (register-lines 0 zs) [])
-unfolding Ended
-ended-shown true zs = ended-registers 0 zs
-ended-shown false zs = tt
+newline-ends-shown : (b : Bool) (zs : List ℤ) → EndsWithNewline (cond b (register-lines 0 zs) [])
+unfolding EndsWithNewline
+newline-ends-shown true zs = newline-ends-registers 0 zs
+newline-ends-shown false zs = tt
 
-ended-page : (c : Called) → Ended (page c)
+newline-ends-page : (c : Called) → EndsWithNewline (page c)
 unfolding page
-ended-page c =
-    ended-append (line (outcome-text (c .reply .answer)) ++ line (ascii "steps " ++ decimal (c .reply .steps))) _
-    (ended-append (line (outcome-text (c .reply .answer))) _ (ended-line (outcome-text (c .reply .answer))) (ended-line (ascii "steps " ++ decimal (c .reply .steps))))
-    (ended-shown (shows-registers (c .reply .answer)) (c .registers))
+newline-ends-page c =
+    newline-ends-append (line (outcome-text (c .reply .answer)) ++ line (ascii "steps " ++ decimal (c .reply .steps))) _
+    (newline-ends-append (line (outcome-text (c .reply .answer))) _ (newline-ends-line (outcome-text (c .reply .answer))) (newline-ends-line (ascii "steps " ++ decimal (c .reply .steps))))
+    (newline-ends-shown (shows-registers (c .reply .answer)) (c .registers))
 
-ended-drop : (k : ℕ) (xs : List ℕ) → Ended xs → Ended (drop k xs)
-unfolding Ended
-ended-drop zero xs e = e
-ended-drop (suc k) [] e = tt
-ended-drop (suc k) (x ∷ []) e = ended-drop k [] tt
-ended-drop (suc k) (x ∷ y ∷ xs) e = ended-drop k (y ∷ xs) e
+newline-ends-drop : (k : ℕ) (xs : List ℕ) → EndsWithNewline xs → EndsWithNewline (drop k xs)
+unfolding EndsWithNewline
+newline-ends-drop zero xs e = e
+newline-ends-drop (suc k) [] e = tt
+newline-ends-drop (suc k) (x ∷ []) e = newline-ends-drop k [] tt
+newline-ends-drop (suc k) (x ∷ y ∷ xs) e = newline-ends-drop k (y ∷ xs) e
 
-ended-has-newline : (x : ℕ) (xs : List ℕ) → Ended (x ∷ xs) → 0 < newlines (x ∷ xs)
-unfolding Ended newlines
-ended-has-newline x [] e = omega (arith, ap {B = ℕ} (λ (b : Bool). cond b 1 0) (eq-eqb x newline e))
-ended-has-newline x (y ∷ xs) e = omega (arith, ended-has-newline y xs e)
+end-is-newline : (x : ℕ) (xs : List ℕ) → EndsWithNewline (x ∷ xs) → 0 < newlines (x ∷ xs)
+unfolding EndsWithNewline newlines
+end-is-newline x [] e = omega (arith, ap {B = ℕ} (λ (b : Bool). cond b 1 0) (eq-eqb x newline e))
+end-is-newline x (y ∷ xs) e = omega (arith, end-is-newline y xs e)
 
-nothing-behind : (front behind : List ℕ) → Ended behind → newlines front ≡ newlines (front ++ behind) → front ≡ front ++ behind
+nothing-behind : (front behind : List ℕ) → EndsWithNewline behind → newlines front ≡ newlines (front ++ behind) → front ≡ front ++ behind
 nothing-behind front [] e d = sym (append-nil front)
-nothing-behind front (x ∷ xs) e d = absurd (omega (arith, d, newlines-append front (x ∷ xs), ended-has-newline x xs e))
+nothing-behind front (x ∷ xs) e d = absurd (omega (arith, d, newlines-append front (x ∷ xs), end-is-newline x xs e))
 
 whole-page : (c : Called) (k : ℕ) → newlines (take k (page c)) ≡ newlines (page c) → take k (page c) ≡ page c
 whole-page c k e =
-    nothing-behind (take k (page c)) (drop k (page c)) (ended-drop k (page c) (ended-page c)) (e ∙ ap newlines (sym (take-append-drop k (page c)))) ∙
+    nothing-behind (take k (page c)) (drop k (page c)) (newline-ends-drop k (page c) (newline-ends-page c)) (e ∙ ap newlines (sym (take-append-drop k (page c)))) ∙
     take-append-drop k (page c)
 
 counted : (b : Bool) (m r : ℕ) → (b ≡ true → m ≡ r) → 2 + cond b m 0 ≡ 2 + cond b r 0

@@ -1,10 +1,10 @@
 -- What comes after a call, by the tests that the code makes on the bits of its answer and of errno.
-use Prim.Native.Nat.{ℕ, zero, suc, _-_, _<_, _≤_}
+use Prim.Native.Nat.{ℕ, zero, suc, _-_, _≤_}
 use native.Mathlib.Omega.{arith}
 use native.Mathlib.Numerals.{unary-clauses}
 use mathlib.Core.Path.{_≡_, refl, sym, ap, _∙_, subst}
 use mathlib.Core.Bool.{Bool, true, false}
-use lib.Dec.{T, lit≤}
+use lib.Dec.{T}
 use lib.IntN.{ℤ, pos, negsuc, natAbs}
 use lib.Signed.{ltZ, nonNeg}
 use mir.Syntax.{w32, w64}
@@ -13,7 +13,6 @@ use mir.Facts.{toZ-ofZ}
 use borrow.Author.Tests.{ltb-true, ltb-false, ne-eqb}
 use Rattle.libc.specs.Io.{Moved}
 use Rattle.streams.specs.Transfers.{interrupted, interrupts, after-interruption, after-failure, after-call}
-use Rattle.streams.specs.declared.Next.{Next}
 use Rattle.streams.specs.declared.Next.the-variants.{On, Nothing, Failed}
 
 -- The bits of an answer, read back.

@@ -46,7 +46,8 @@ pub record Answered (left interruptions : ℕ) (next : Next) : Type 0 where
   pub moved : Moved left got
   pub is : next ≡ after-call left interruptions got error
 
--- How a transfer of so many bytes ends.
+-- How a transfer of so many bytes can end. The answers are any that the calls' contracts allow, since a contract cannot name those that the
+-- system gave; so what this fixes by itself is where an end may lie (`stops-within`), and `after-call` what is made of each answer.
 pub data Transfers : (left interruptions : ℕ) → Ended → Type 0 where
   all : {i : ℕ} → Transfers zero i End.Full
   on : {left i left' i' : ℕ} {r : Ended} → 0 < left → Answered left i (On left' i') → Transfers left' i' r → Transfers left i r

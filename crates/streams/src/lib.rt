@@ -1,9 +1,10 @@
 // Standard input read and standard output written as far as the system does it; a call that a signal interrupts is taken up again.
 //
-// No contract can say which bytes a call of the system moves. What is made of its answers is proved: each function gives what `Transfers`
-// derives from some answers that the contracts of read and write allow.
+// What comes after each call, by its answer, is an equation (`after`). No contract can say which bytes a call of the system moves, nor which
+// answers it gave: those of `receive` and `send` say that there are answers that the contracts of read and write allow and that end the
+// transfer so (`Transfers`). That the calls are made, on the right bytes, is seen in `receive_some` and `send_some` and tested.
 ghost use mathlib.Core.Path.{_≡_};
-ghost use Prim.Native.Nat.{_<_, _≤_};
+ghost use Prim.Native.Nat.{_≤_};
 ghost use lib.ListN.{length};
 ghost use Rattle.libc.specs.Io.{Moved};
 ghost use Rattle.streams.specs.Transfers.{most-interruptions, after-call, Answered, Transfers};

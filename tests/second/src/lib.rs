@@ -9,7 +9,8 @@
 //!
 //! Beside that stand what test programs need: [`build`] to write a tree down,
 //! [`encode`] to turn it into an image, [`show`] to print it, [`generate`] to make
-//! cases from a seed, and [`command_line`].
+//! cases from a seed; and for programs over these, [`command_line`] and [`streams`]
+//! to try one with.
 
 pub mod arithmetic;
 pub mod build;
@@ -30,6 +31,7 @@ pub mod rules;
 pub mod show;
 pub mod state;
 pub mod store;
+pub mod streams;
 pub mod tree;
 
 pub use encode::encode;

@@ -3,3 +3,4 @@ pub mod CheckerSound
 pub mod CheckerComplete
 pub mod CheckerExact
 pub mod ImageExact
+pub mod RootCodes

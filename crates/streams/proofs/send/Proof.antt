@@ -1,6 +1,5 @@
 -- The loop of writes: whatever those that are left come to, all come to.
 use Prim.Native.Nat.{_+_}
-use native.Mathlib.Omega.{arith}
 use mathlib.Core.Path.{subst}
 use lib.ListN.{length}
 use borrow.Author.Needs.{needs}

@@ -2,12 +2,8 @@
 
 use crate::binary::*;
 use second::encode::bytes_of;
+use second::streams::full;
 use std::fs::File;
-
-/// A device that takes nothing.
-fn full() -> File {
-    File::options().write(true).open("/dev/full").unwrap()
-}
 
 /// A reader that closes early is served quietly, with little output and with much.
 #[test]

@@ -2,6 +2,7 @@
 
 use second::build::*;
 use second::encode::{bytes_of, program_input};
+use second::streams::full;
 use std::ffi::OsStr;
 use std::fs::File;
 use std::io::Write;
@@ -32,11 +33,6 @@ fn said(arguments: &[&str], input: &[u8]) -> String {
     let (output, error, status) = second(arguments, input);
     assert!(status == 0 && error.is_empty(), "{error}");
     output
-}
-
-/// A device that takes nothing.
-fn full() -> File {
-    File::options().write(true).open("/dev/full").unwrap()
 }
 
 #[test]

@@ -2,11 +2,11 @@
 //! and the line of progress, which only a terminal gets.
 
 use compare::progress::{in_words, of_all};
+use second::streams::{full, unread};
 use std::ffi::{c_char, c_int};
 use std::fs::{File, OpenOptions};
 use std::io::Read;
-use std::os::fd::{AsRawFd, FromRawFd, OwnedFd};
-use std::os::unix::net::UnixStream;
+use std::os::fd::{AsRawFd, FromRawFd};
 use std::process::{Command, Output, Stdio};
 use std::time::Duration;
 
@@ -26,17 +26,6 @@ fn with_a_difference() -> Command {
     let mut command = compare(&["program", "5", "1", "small"]);
     command.env("PIRUN", "/bin/cat");
     command
-}
-
-/// A standard output whose reader has gone before anything is written.
-fn unread() -> Stdio {
-    let (writer, reader) = UnixStream::pair().expect("a pair of sockets");
-    drop(reader);
-    OwnedFd::from(writer).into()
-}
-
-fn full() -> Stdio {
-    OpenOptions::new().write(true).open("/dev/full").expect("a device that is full").into()
 }
 
 #[test]

@@ -6,6 +6,7 @@ use crate::helpers::*;
 use compare::program::Printed;
 use second::build::*;
 use second::encode::program_input;
+use second::streams::unread;
 use std::os::unix::process::ExitStatusExt;
 use std::path::PathBuf;
 use std::process::{Command, Stdio};
@@ -103,13 +104,11 @@ fn a_device_that_fills_up_is_said() {
 #[test]
 fn a_pipe_that_nobody_reads() {
     let printed = |script: &str| {
-        let (reader, writer) = std::io::pipe().expect("a pipe");
-        drop(reader);
         let output = Command::new("/bin/sh")
             .args(["-c", script])
             .arg(the_program().path())
             .stdin(Stdio::null())
-            .stdout(writer)
+            .stdout(unread())
             .output()
             .expect("a shell starts");
         (String::from_utf8(output.stderr).expect("text"), output.status.signal())

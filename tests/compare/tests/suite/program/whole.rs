@@ -1,8 +1,10 @@
 //! `tools/whole.sh`: an answer that is cut anywhere is told from the whole one.
 
 use crate::helpers::*;
+use compare::inputs::LONGEST_THAT_FITS;
 use second::build::*;
 use second::encode::program_input;
+use second::streams::full;
 use std::fs;
 use std::io::Write;
 use std::path::{Path, PathBuf};
@@ -83,7 +85,9 @@ fn answered(program: &[&str], input: &[u8], output: Stdio) -> Output {
 fn a_whole_answer_is_handed_on() {
     let program = the_program();
     let program = program.path().to_str().expect("a path in UTF-8");
-    for input in [program_input(&CALCULATOR, &[]), Vec::new(), vec![7; 20_000]] {
+    let longest = program_input(&image(16, in_turn(vec![assign(3, num(9)); 667])), &[4; 16]);
+    assert_eq!(longest.len(), LONGEST_THAT_FITS);
+    for input in [program_input(&CALCULATOR, &[]), Vec::new(), longest, vec![7; 20_000]] {
         let output = answered(&[program], &input, Stdio::piped());
         assert_eq!(output.stdout, second::program(&input));
         assert!(output.stderr.is_empty() && output.status.success());
@@ -108,9 +112,8 @@ fn anything_else_is_said() {
     said(&["--whole"], 2, "no option --whole; see --help");
     said(&["--test", "one"], 2, "wrong arguments for --test; see --help");
     said(&["--test", "/", "/no/file"], 2, "/ cannot be read");
-    let full = fs::OpenOptions::new().write(true).open("/dev/full").expect("a full device");
     let product = ["printf", "number 25\\nsteps 7\\n"];
-    let output = answered(&product, &input, full.into());
+    let output = answered(&product, &input, full().into());
     let errors = String::from_utf8(output.stderr).expect("text");
     assert!(errors.contains("the answer could not be written whole"), "{errors}");
     assert_eq!(output.status.code(), Some(1));
