@@ -91,15 +91,15 @@ extern "C" {
  * The version of this header and of the library it was delivered with. What the three numbers mean,
  * and what changed in which version, is in CHANGELOG.md. PI_VERSION_NUMBER is for #if.
  */
-#define PI_VERSION_MAJOR 2
+#define PI_VERSION_MAJOR 3
 #define PI_VERSION_MINOR 0
 #define PI_VERSION_PATCH 0
-#define PI_VERSION "2.0.0"
+#define PI_VERSION "3.0.0"
 #define PI_VERSION_NUMBER (PI_VERSION_MAJOR * 10000 + PI_VERSION_MINOR * 100 + PI_VERSION_PATCH)
 
 /* The work words of 64 bits that a call needs. */
 #define PI_WORK_WORDS 8192
-/* An image has 1 to 2,000 nodes and 0 to 16 registers. */
+/* An image has 0 to 2,000 nodes and 0 to 16 registers. With 0 nodes it is a slot with no routine. */
 #define PI_MOST_NODES 2000
 #define PI_MOST_REGISTERS 16
 /* The greatest depth of a node; the root has depth 1. */
@@ -127,7 +127,8 @@ extern "C" {
 
 /*
  * The image: n, the count of nodes; r, the count of registers; the n kinds; the n operands. The nodes
- * stand in preorder: a node, then its children with all below them, left to right.
+ * stand in preorder: a node, then its children with all below them, left to right. A slot with no
+ * routine is n 0 and r, two words and no more: it is a command with nothing to do.
  */
 #define PI_IMAGE_WORDS(nodes) (2 + 2 * (size_t)(nodes))
 #define PI_IMAGE_BYTES(nodes) (8 + 8 * (size_t)(nodes))
@@ -179,9 +180,9 @@ typedef enum PiKind {
 
 /*
  * A type code is base + 2 x level: level 0 is a plain value, each level above a location of the level
- * below, up to level 3. A check answers the root's code, or PI_CODE_COMMAND where it is a command.
- * A root's code is 0, 1 or 2, since its only names are the registers. A Formal may have any code; 4 to
- * 7, levels 2 and 3, have no name here.
+ * below, up to level 3. A check answers the root's code, or PI_CODE_COMMAND where it is a command or
+ * there is no node. A root's code is 0, 1 or 2, since its only names are the registers. A Formal may
+ * have any code; 4 to 7, levels 2 and 3, have no name here.
  */
 typedef enum PiCode {
     PI_CODE_INTEGER = 0,
@@ -208,7 +209,7 @@ typedef enum PiCode {
 #define PI_REFUSAL_LIST(ROW) \
     /* Caused by the maker of the image. */ \
     ROW(PI_REFUSAL_LENGTH, 1, "length", "the length does not fit the counts") \
-    ROW(PI_REFUSAL_COUNTS, 2, "counts", "n is not 1 to 2,000, or r is not 0 to 16") \
+    ROW(PI_REFUSAL_COUNTS, 2, "counts", "n is above 2,000, or r is above 16") \
     ROW(PI_REFUSAL_KIND, 3, "kind", "no such kind of node") \
     ROW(PI_REFUSAL_OPERAND, 4, "operand", "the kind does not take this operand") \
     ROW(PI_REFUSAL_TREE, 5, "tree", "a node of another sort, missing or left over") \
@@ -241,7 +242,7 @@ typedef enum PiRefusal {
 
 /* What a run that ends leaves. */
 typedef enum PiOutcome {
-    PI_OUTCOME_NONE = 0,   /* nothing: the root is a command */
+    PI_OUTCOME_NONE = 0,   /* nothing: the root is a command, or there is no node */
     PI_OUTCOME_NUMBER = 1, /* a number */
     PI_OUTCOME_TRUTH = 2,  /* a truth, 0 or 1 */
     PI_OUTCOME_CELL = 3    /* a location: the number of its cell, a register's own number */
@@ -265,7 +266,8 @@ typedef struct PiRunReply {
 
 /*
  * Checks an image of so many 32-bit words. Tested in this order: the work words (22), the image (1 to
- * 14). Answers PI_REFUSAL_NONE exactly when the image meets the rules of shape, scope and types.
+ * 14). Answers PI_REFUSAL_NONE exactly when the image meets the rules of shape, scope and types. An
+ * image with no node meets them, with the value PI_CODE_COMMAND.
  */
 PiCheckReply pi_check(const uint32_t *image, size_t image_length,
                       uint64_t *work, size_t work_length);
@@ -273,7 +275,9 @@ PiCheckReply pi_check(const uint32_t *image, size_t image_length,
 /*
  * Checks an image and runs it with the registers' values, of at most `budget` steps. The registers
  * are changed in place. Tested in this order: the work words (22), the budget (21), the image (1 to
- * 14), the count of registers (20); then the steps are made (30 to 36).
+ * 14), the count of registers (20); then the steps are made (30 to 36). The run of an image with no
+ * node ends with PI_OUTCOME_NONE in 0 steps and leaves the registers as they are, with any budget up
+ * to the greatest, 0 included.
  */
 PiRunReply pi_run(const uint32_t *image, size_t image_length,
                   int64_t *registers, size_t registers_length,
@@ -283,9 +287,9 @@ PiRunReply pi_run(const uint32_t *image, size_t image_length,
 /*
  * The same on bytes as they are stored and sent, on any machine; the lengths of image and registers
  * count bytes, and bytes need no alignment. The image is its 32-bit words, least byte first: fewer
- * than 8 bytes are refusal 1; then n or r is 2; then a length other than 8 + 8n is 1. A register is 8
- * bytes in two's complement, least byte first, changed in place; a length other than 8r is 20. All
- * else is as above, and the work words are words as above.
+ * than 8 bytes are refusal 1; then n or r is 2; then a length other than 8 + 8n is 1, so an image with
+ * no node has 8 bytes. A register is 8 bytes in two's complement, least byte first, changed in place;
+ * a length other than 8r is 20. All else is as above, and the work words are words as above.
  */
 PiCheckReply pi_check_bytes(const uint8_t *image, size_t image_length,
                             uint64_t *work, size_t work_length);

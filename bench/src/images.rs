@@ -37,9 +37,13 @@ pub fn checked() -> Vec<Timed> {
     ]
 }
 
-/// The smallest image there is.
-pub fn smallest() -> Timed {
-    Timed::new("smallest: one Num", image(0, num(1)))
+/// The smallest images there are, whose check is timed for each call: with one node, and
+/// with none.
+pub fn smallest() -> Vec<Timed> {
+    vec![
+        Timed::new("one node: a Num", image(0, num(1))),
+        Timed::new("no routine: n 0", image(0, absent())),
+    ]
 }
 
 /// Blocks within blocks, each with names of its own, over names bound far

@@ -22,7 +22,8 @@ usage: bench           measures, and prints three tables
 The tables:
 
   check    nanoseconds a node, for four images
-  check    nanoseconds a call, for the smallest image; and to clear the work words
+  calls    nanoseconds a call: checks of the smallest images, with one node and with
+           none, the run of a slot with no routine; and to clear the work words
   run      nanoseconds a step, for six routines
 
 Each has the engine's time and the second interpreter's, and the first and the last say
@@ -84,19 +85,22 @@ fn measure_all() -> Result<(), End> {
     let turns =
         format!("Medians of {REPETITIONS} repetitions, engine and second interpreter in turn.");
     print(&format!("{turns}\n\n"))?;
-    let (images, smallest, routines) = (images::checked(), images::smallest(), routines::timed());
-    let mut rows = Rows::of(images.len() + 1 + routines.len());
+    let (images, smallest) = (images::checked(), images::smallest());
+    let (empty, routines) = (routines::empty(), routines::timed());
+    let mut rows = Rows::of(images.len() + smallest.len() + 1 + routines.len());
 
     let races: Result<Vec<Race>, End> =
         images.iter().map(|timed| rows.measure(timed.name, || check_race(timed))).collect();
     print(&table("check, nanoseconds a node", "nodes", &races?))?;
 
-    let Race { name, engine, second, .. } =
-        rows.measure(smallest.name, || check_race(&smallest))?;
+    let mut calls = String::new();
+    for timed in &smallest {
+        calls += &call_line("check", &rows.measure(timed.name, || check_race(timed))?);
+    }
+    calls += &call_line("run", &rows.measure(empty.name, || run_race(&empty))?);
     let clearing = clearing();
     print(&format!(
-        "\ncheck, nanoseconds a call ({name})\n  \
-         engine {engine:.0}, second interpreter {second:.0}\n  \
+        "\ncalls, nanoseconds a call\n{calls}  \
          clearing 8,192 words alone, by this program: {clearing:.0}\n\n"
     ))?;
 
@@ -104,6 +108,12 @@ fn measure_all() -> Result<(), End> {
         routines.iter().map(|routine| rows.measure(routine.name, || run_race(routine))).collect();
     print(&table("run, nanoseconds a step", "steps", &races?))?;
     print(&format!("\n{NOTES}"))
+}
+
+/// The times of a call on one line.
+fn call_line(call: &str, race: &Race) -> String {
+    let Race { name, engine, second, .. } = race;
+    format!("  {call} ({name}): engine {engine:.0}, second interpreter {second:.0}\n")
 }
 
 /// Rows measured one after another; a terminal shows which one is.

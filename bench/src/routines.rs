@@ -1,6 +1,6 @@
 //! The routines whose runs are timed. Each ends normally, and but for the straight
 //! line each makes tens of thousands of steps, beside which clearing the work words
-//! takes little.
+//! takes little. And a slot with no routine, whose run makes none.
 
 use second::build::*;
 use second::encode;
@@ -38,6 +38,11 @@ pub fn timed() -> Vec<Routine> {
         Routine::new("locations: ValRef", image(2, locations()), &[0, 1_500]),
         Routine::new("straight line: 2,000 nodes", encode(&with_nodes(MOST_NODES as usize)), &[0]),
     ]
+}
+
+/// A slot with no routine, whose run is timed for each call.
+pub fn empty() -> Routine {
+    Routine::new("no routine: n 0", image(1, absent()), &[7])
 }
 
 /// As many rounds of a command as the counter's cell holds, down to 0.

@@ -82,7 +82,7 @@ static uint64_t refusal_by_bytes(const ByteCall *call)
     if (call->image_length < 8)
         return PI_REFUSAL_LENGTH;
     bytes_to_words(call->image, 8, counts);
-    if (counts[0] < 1 || counts[0] > PI_MOST_NODES || counts[1] > PI_MOST_REGISTERS)
+    if (counts[0] > PI_MOST_NODES || counts[1] > PI_MOST_REGISTERS)
         return PI_REFUSAL_COUNTS;
     if (call->image_length != PI_IMAGE_BYTES(counts[0]))
         return PI_REFUSAL_LENGTH;
@@ -248,6 +248,62 @@ static void test_byte_lengths(void)
     test_end();
 }
 
+/* n 0 and each r: 8 bytes pass with 8r bytes of registers, wherever they stand; no others do. */
+static void test_no_routine_in_bytes(void)
+{
+    static const int64_t values[MOST_STARTS] = {
+        INT64_MIN, INT64_MAX, -1, 1, -5, 6, -7, 8, -9, 10, -11, 12, -13, 14, -15, 16, -17, 18,
+    };
+    uint32_t registers;
+    size_t length;
+    Call call;
+    ByteCall bytes;
+
+    test_begin("no routine in bytes");
+    for (registers = 0; registers <= PI_MOST_REGISTERS + 1; registers += 1) {
+        int too_many = registers > PI_MOST_REGISTERS;
+
+        memset(words, 0, sizeof words);
+        words[1] = registers;
+        call.image = words;
+        /* With room behind n and r for the longer lengths. */
+        call.image_length = 10;
+        call.starts = values;
+        call.registers_length = registers;
+        call.budget = registers % 2 == 0 ? 0 : PI_MOST_BUDGET;
+        call.work_length = PI_WORK_WORDS + registers % 3;
+        bytes = byte_call(&call, registers % 8);
+        for (length = 0; length <= 40; length += 1) {
+            uint64_t expected = PI_REFUSAL_LENGTH;
+
+            if (length >= 8 && too_many)
+                expected = PI_REFUSAL_COUNTS;
+            else if (length == 8)
+                expected = PI_REFUSAL_NONE;
+            bytes.image_length = length;
+            if (compare(&bytes) != expected)
+                test_fault("%lu registers, %lu bytes", (unsigned long)registers,
+                           (unsigned long)length);
+        }
+        bytes.image_length = 8;
+        for (length = 0; !too_many && length < REGISTER_BYTES; length += 1) {
+            bytes.registers_length = length;
+            if (compare(&bytes) !=
+                (length == 8 * (size_t)registers ? PI_REFUSAL_NONE : PI_REFUSAL_REGISTERS))
+                test_fault("%lu registers, %lu bytes of them", (unsigned long)registers,
+                           (unsigned long)length);
+        }
+        /* 21 and 22 come before the image. */
+        bytes.budget = PI_MOST_BUDGET + 1;
+        if (compare(&bytes) != PI_REFUSAL_BUDGET)
+            test_fault("%lu registers, budget above the greatest", (unsigned long)registers);
+        bytes.work_length = PI_WORK_WORDS - 1;
+        if (compare(&bytes) != PI_REFUSAL_WORK)
+            test_fault("%lu registers, work slice too short", (unsigned long)registers);
+    }
+    test_end();
+}
+
 /* Trees that pass and damaged ones, with a byte changed, added or missing now and then. */
 static void test_bytes_by_chance(size_t count, uint64_t seed)
 {
@@ -292,5 +348,6 @@ void test_bytes(size_t count, uint64_t seed)
 {
     test_paper_in_bytes();
     test_byte_lengths();
+    test_no_routine_in_bytes();
     test_bytes_by_chance(count, seed);
 }

@@ -119,20 +119,21 @@ static int value_fits(const PiRunReply *reply)
     return 0;
 }
 
-static int steps_fit(const PiRunReply *reply, uint64_t budget)
+static int steps_fit(const PiRunReply *reply, const Call *call)
 {
+    /* A run that ends has made a step, unless there is no node. */
     if (reply->refusal == PI_REFUSAL_NONE)
-        return reply->steps >= 1 && reply->steps <= budget;
+        return (reply->steps == 0) == (call->image[0] == 0) && reply->steps <= call->budget;
     if (before_the_run(reply->refusal))
         return reply->steps == 0;
     if (reply->refusal == PI_REFUSAL_STEPS)
-        return reply->steps == budget;
-    return reply->steps < budget;
+        return reply->steps == call->budget;
+    return reply->steps < call->budget;
 }
 
 static void run_makes_sense(const PiRunReply *reply, const Call *call)
 {
-    int fits = steps_fit(reply, call->budget);
+    int fits = steps_fit(reply, call);
 
     if (reply->refusal == PI_REFUSAL_NONE)
         fits = fits && reply->place == 0 && value_fits(reply);
@@ -193,7 +194,7 @@ uint64_t refusal_by_lengths(const Call *call)
         return PI_REFUSAL_BUDGET;
     if (call->image_length < 2)
         return PI_REFUSAL_LENGTH;
-    if (call->image[0] < 1 || call->image[0] > PI_MOST_NODES || call->image[1] > PI_MOST_REGISTERS)
+    if (call->image[0] > PI_MOST_NODES || call->image[1] > PI_MOST_REGISTERS)
         return PI_REFUSAL_COUNTS;
     if (call->image_length != PI_IMAGE_WORDS(call->image[0]))
         return PI_REFUSAL_LENGTH;
@@ -261,7 +262,10 @@ static void fits_the_check(const Call *call, const Ran *ran)
     }
 }
 
-/* The same run at other budgets: the steps made are just enough, and one less is too few. */
+/*
+ * The same run at other budgets: the steps made are just enough, and one less is too few. Where none
+ * is made no budget is.
+ */
 static void fits_other_budgets(const Call *call, const Ran *ran)
 {
     Call other = *call;
@@ -273,6 +277,8 @@ static void fits_other_budgets(const Call *call, const Ran *ran)
         other.budget = ended ? steps : steps + 1;
         again = call_run(&other);
         same_run("just enough budget", ran, &again, call->registers_length);
+        if (other.budget == 0)
+            return;
         other.budget -= 1;
         again = call_run(&other);
         if (again.reply.refusal != PI_REFUSAL_STEPS || again.reply.steps != other.budget)

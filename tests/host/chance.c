@@ -23,7 +23,7 @@ static const uint32_t kinds[] = {
 static uint32_t image[IMAGE_ROOM];
 static Tree tree;
 
-/* Any bytes: up to 40 words, or a plausible n and r before them. */
+/* Any bytes: up to 40 words, or a plausible n and r before them, n 0 too. */
 static size_t random_words(Random *random)
 {
     size_t length = random_below(random, 41);
@@ -31,7 +31,7 @@ static size_t random_words(Random *random)
 
     for (index = 0; index < length; index += 1)
         image[index] = (uint32_t)random_word(random);
-    if (length >= 4 && random_below(random, 2) == 0) {
+    if (length >= 2 && random_below(random, 2) == 0) {
         image[0] = (uint32_t)(length - 2) / 2;
         image[1] = (uint32_t)random_below(random, 20);
     }
@@ -52,10 +52,10 @@ static uint32_t plausible_operand(Random *random)
     }
 }
 
-/* Kinds and operands in their ranges. */
+/* Kinds and operands in their ranges, or no node. */
 static size_t plausible_words(Random *random)
 {
-    size_t nodes = 1 + random_below(random, 12);
+    size_t nodes = random_below(random, 13);
 
     tree_clear(&tree, (uint32_t)random_below(random, 5));
     while (tree.count < nodes)
@@ -103,8 +103,8 @@ static size_t damage(Random *random, size_t length)
         image[length] = (uint32_t)random_word(random);
         image[length + 1] = 0;
         return length + 1 + random_below(random, 2);
-    case 3:
-        image[0] = (uint32_t)random_below(random, 2002);
+    case 3: /* another n, often 0, with the words left */
+        image[0] = random_below(random, 4) == 0 ? 0 : (uint32_t)random_below(random, 2002);
         return length;
     case 4:
         image[1] = (uint32_t)random_below(random, 18);

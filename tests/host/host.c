@@ -43,6 +43,7 @@ int main(int count, char **arguments)
     buffers_exact(count == 4);
     test_paper();
     test_refusals();
+    test_no_routine();
     test_names();
     test_chance((size_t)images, seed);
     test_bytes((size_t)images, seed);

@@ -125,8 +125,11 @@ static void test_lengths(void)
     expect(&call, PI_REFUSAL_LENGTH, 0, 0);
     tree_list(&tree, 0, nodes, 0);
     call = call_of_tree();
-    expect(&call, PI_REFUSAL_COUNTS, 0, 0);
+    expect(&call, PI_REFUSAL_NONE, 0, 0);
     image[0] = PI_MOST_NODES + 1;
+    expect(&call, PI_REFUSAL_COUNTS, 0, 0);
+    tree_list(&tree, PI_MOST_REGISTERS + 1, nodes, 0);
+    call = call_of_tree();
     expect(&call, PI_REFUSAL_COUNTS, 0, 0);
     test_end();
 }

@@ -15,6 +15,9 @@ Call paper_call(size_t index, uint32_t *image);
 /* Every refusal by name and place, their order, and the limits from both sides. */
 void test_refusals(void);
 
+/* An image with no node, and images near it. */
+void test_no_routine(void);
+
 /* The header's list of refusals, all of which the calls before have met; and its version. */
 void test_names(void);
 

@@ -254,6 +254,8 @@ void tree_by_chance(Tree *tree, Random *random)
         growth.names[growth.count] = name;
         growth.count += 1;
     }
+    if (random_below(random, 32) == 0)
+        return;
     if (tree->registers == 0 || random_below(random, 4) == 0) {
         if (random_below(random, 2) == 0)
             grow_integer(&growth, levels);

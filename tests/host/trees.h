@@ -51,7 +51,7 @@ typedef struct Tower {
 
 void tree_of_tower(Tree *tree, const Tower *tower);
 
-/* A tree that passes: commands over the registers, cells and functions, or an expression. */
+/* A tree that passes: commands over the registers, cells and functions, an expression, or no node. */
 void tree_by_chance(Tree *tree, Random *random);
 
 #endif

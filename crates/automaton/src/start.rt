@@ -15,11 +15,11 @@ use machine::memory::put_row;
 // A register's number is its name, and the pointer of the row below it.
 const REGISTER_UNIT: u64 = POINTER_UNIT + 1;
 
-// The root on control, and a cell and a name for each register.
-pub fn start(work: &mut [u64], registers: &[u64]) -> Machine
+// The root of a tree of so many nodes on control, and a cell and a name for each register. With no node control is empty.
+pub fn start(work: &mut [u64], registers: &[u64], nodes: usize) -> Machine
     requires { ⌜ work-words ≤ length (now work) ⌝ }
     requires { ⌜ length (now registers) ≤ most-registers ⌝ }
-    ensures { λ r. ⌜ ((t : Root) → RootAt (now (work .entry)) t → StartsAt t (now (registers .entry)) r (now (work .entry)) (now (work .exit))) ⌝ }
+    ensures { λ r. ⌜ ((t : Root) → RootAt (now (work .entry)) nodes t → StartsAt t (now (registers .entry)) r (now (work .entry)) (now (work .exit))) ⌝ }
 {
     let mut m = Machine {
         control: 0,
@@ -45,5 +45,8 @@ pub fn start(work: &mut [u64], registers: &[u64]) -> Machine
         base: i,
         bindings: i,
     };
+    if nodes == 0 {
+        return ready;
+    }
     put_control(work, ready, 0)
 }

@@ -31,24 +31,27 @@ use Rattle.calls.proofs.CheckLaws.{cleared-same}
 
 -- ---- What was loaded.
 
-pub record FoundPassed (image : List ℕ) (registers : ℕ) (a : Passed) (before after : List ℕ) : Type 0 where
+pub record FoundPassed (image : List ℕ) (registers nodes : ℕ) (a : Passed) (before after : List ℕ) : Type 0 where
   pub tree : Root
   pub passes : check-image image ≡ passed registers tree a
-  pub stands : RootAt after tree
+  pub stands : RootAt after nodes tree
   pub beyond : KeptBeyond work-words before after
 
 -- What the root is, by its number.
-pub record FoundRoot (image : List ℕ) (number registers : ℕ) (before after : List ℕ) : Type 0 where
+pub record FoundRoot (image : List ℕ) (number registers nodes : ℕ) (before after : List ℕ) : Type 0 where
   pub root : Passed
   pub number-is : number ≡ root-number root
   pub code-low : (k : ℕ) → root ≡ expression-of-code k → k < codes
-  pub found : FoundPassed image registers root before after
+  pub found : FoundPassed image registers nodes root before after
 
 same-root : (e : Loaded) (number n nodes other-number m other-nodes : ℕ) → e ≡ Load.Passed number n nodes → e ≡ Load.Passed other-number m other-nodes → number ≡ other-number
 same-root e number n nodes other-number m other-nodes p q = cc
 
 same-count : (e : Loaded) (number n nodes other-number m other-nodes : ℕ) → e ≡ Load.Passed number n nodes → e ≡ Load.Passed other-number m other-nodes → m ≡ n
 same-count e number n nodes other-number m other-nodes p q = cc
+
+same-nodes : (e : Loaded) (number n nodes other-number m other-nodes : ℕ) → e ≡ Load.Passed number n nodes → e ≡ Load.Passed other-number m other-nodes → other-nodes ≡ nodes
+same-nodes e number n nodes other-number m other-nodes p q = cc
 
 same-refusal : (e : Loaded) (x p y q : ℕ) → e ≡ Load.Refused x p → e ≡ Load.Refused y q → Refused x p 0 ≡ Refused y q 0
 same-refusal e x p y q g h = cc
@@ -58,31 +61,31 @@ passed-refused e number n nodes x p g h = let z : _≡_ {A = ℕ} 0 1 = cc in om
 
 module _ (image before after : List ℕ) (e : Loaded) (a : LoadAnswer (check-image image) e before after) where
   module _ (number n nodes : ℕ) (q : e ≡ Load.Passed number n nodes) where
-    pub found-root : FoundRoot image number n before after
+    pub found-root : FoundRoot image number n nodes before after
     found-root = by (check-image image) refl a
       where
-        by : (k : Checked) → check-image image ≡ k → LoadAnswer k e before after → FoundRoot image number n before after
+        by : (k : Checked) → check-image image ≡ k → LoadAnswer k e before after → FoundRoot image number n nodes before after
         by (turned-back x p) u t = absurd (passed-refused e number n nodes (refusal-number x) p q (t .answer))
         by (passed r t c) u f =
             record {
               root = c;
               number-is = same-root e number n nodes (root-number c) r _ q (f .answer);
               code-low = f .code-low;
-              found = record { tree = t; passes = u ∙ ap (λ i. passed i t c) (same-count e number n nodes (root-number c) r _ q (f .answer)); stands = f .stands; beyond = f .beyond };
+              found = record { tree = t; passes = u ∙ ap (λ i. passed i t c) (same-count e number n nodes (root-number c) r _ q (f .answer)); stands = subst (λ i. RootAt after i t) (same-nodes e number n nodes (root-number c) r _ q (f .answer)) (f .stands); beyond = f .beyond };
             }
 
-    pub found-command : number ≡ command-number → FoundPassed image n a-command before after
+    pub found-command : number ≡ command-number → FoundPassed image n nodes a-command before after
     found-command eight = let o = found-root in by (o .root) (o .number-is) (o .code-low) (o .found)
       where
-        by : (c : Passed) → number ≡ root-number c → ((k : ℕ) → c ≡ expression-of-code k → k < codes) → FoundPassed image n c before after → FoundPassed image n a-command before after
+        by : (c : Passed) → number ≡ root-number c → ((k : ℕ) → c ≡ expression-of-code k → k < codes) → FoundPassed image n nodes c before after → FoundPassed image n nodes a-command before after
         by (expression-of-code k) is low f = absurd (omega (arith, is, eight, low k refl))
         by a-command is low f = f
 
-    pub found-expression : (number ≡ command-number → ⊥) → FoundPassed image n (expression-of-code number) before after
+    pub found-expression : (number ≡ command-number → ⊥) → FoundPassed image n nodes (expression-of-code number) before after
     found-expression other = let o = found-root in by (o .root) (o .number-is) (o .found)
       where
-        by : (c : Passed) → number ≡ root-number c → FoundPassed image n c before after → FoundPassed image n (expression-of-code number) before after
-        by (expression-of-code k) is f = subst (λ i. FoundPassed image n (expression-of-code i) before after) (sym is) f
+        by : (c : Passed) → number ≡ root-number c → FoundPassed image n nodes c before after → FoundPassed image n nodes (expression-of-code number) before after
+        by (expression-of-code k) is f = subst (λ i. FoundPassed image n nodes (expression-of-code i) before after) (sym is) f
         by a-command is f = absurd (other is)
 
   -- The image is refused: 0 steps, and the registers are kept.
@@ -96,7 +99,7 @@ module _ (image before after : List ℕ) (e : Loaded) (a : LoadAnswer (check-ima
 
 -- ---- 20.
 
-module _ (image registers : List ℕ) (n : ℕ) (a : Passed) (budget : ℕ) (before middle : List ℕ) (found : FoundPassed image n a before middle) where
+module _ (image registers : List ℕ) (n nodes : ℕ) (a : Passed) (budget : ℕ) (before middle : List ℕ) (found : FoundPassed image n nodes a before middle) where
   pub count-refused : ((i : ℕ) → i < length registers → getD registers i 0 < 18446744073709551616) → (length registers ≡ n → ⊥) →
       Performed (run-checked (check-image image) (integers-of registers) budget []) (Refused 20 0 0) registers before middle
   unfolding refusal-number

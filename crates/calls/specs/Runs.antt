@@ -57,17 +57,17 @@ ExecuteAnswer (ended k σ) count answer registers before after = ExecutedEnd (λ
 ExecuteAnswer (stopped x k σ) count answer registers before after = ExecutedEnd (λ m. Stopped (reason-number x) k m) σ count answer registers before after
 ExecuteAnswer (lost k σ) count answer registers before after = ⊥
 
--- A tree that the checker passed, as an expression of some code or as a command, stands in the work words.
-abbrev pub TreeStands : (count : ℕ) (work : List ℕ) → Type 0
-TreeStands count work = (image : List ℕ) × (t : Root) × (a : Passed) × (check-image image ≡ passed count t a) × RootAt work t
+-- A tree of so many nodes that the checker passed, as an expression of some code or as a command, stands in the work words.
+abbrev pub TreeStands : (count : ℕ) (work : List ℕ) (nodes : ℕ) → Type 0
+TreeStands count work nodes = (image : List ℕ) × (t : Root) × (a : Passed) × (check-image image ≡ passed count t a) × RootAt work nodes t
 
-abbrev pub TreeStandsAs : (count : ℕ) (a : Passed) (work : List ℕ) → Type 0
-TreeStandsAs count a work = (image : List ℕ) × (t : Root) × (check-image image ≡ passed count t a) × RootAt work t
+abbrev pub TreeStandsAs : (count : ℕ) (a : Passed) (work : List ℕ) (nodes : ℕ) → Type 0
+TreeStandsAs count a work nodes = (image : List ℕ) × (t : Root) × (check-image image ≡ passed count t a) × RootAt work nodes t
 
 -- Every such tree that stands there is run from the registers.
-abbrev pub ExecutesTree : (registers : List ℕ) (budget : ℕ) → Endings.Ending → (last before after : List ℕ) → Type 0
-ExecutesTree registers budget answer last before after =
-    (image : List ℕ) (t : Root) (a : Passed) → check-image image ≡ passed (length registers) t a → RootAt before t →
+abbrev pub ExecutesTree : (registers : List ℕ) (budget nodes : ℕ) → Endings.Ending → (last before after : List ℕ) → Type 0
+ExecutesTree registers budget nodes answer last before after =
+    (image : List ℕ) (t : Root) (a : Passed) → check-image image ≡ passed (length registers) t a → RootAt before nodes t →
     ExecuteAnswer (run budget 0 (start (length registers) t (integers-of registers))) (length registers) answer last before after
 
 -- A call's reply and registers, with the words behind the first 8,192 as they were.
@@ -81,9 +81,9 @@ abbrev pub RunOf : (registers : List ℕ) → Root → (budget : ℕ) → Called
 RunOf registers t budget = finish (length registers) [] (run budget 0 (start (length registers) t (integers-of registers)))
 
 -- Every tree passed so that stands in the work words is run from the registers.
-abbrev pub RunsTreeAs : Passed → (registers : List ℕ) (budget : ℕ) → Ran → (last before after : List ℕ) → Type 0
-RunsTreeAs a registers budget answer last before after =
-    (image : List ℕ) (t : Root) → check-image image ≡ passed (length registers) t a → RootAt before t → Performed (RunOf registers t budget) answer last before after
+abbrev pub RunsTreeAs : Passed → (registers : List ℕ) (budget nodes : ℕ) → Ran → (last before after : List ℕ) → Type 0
+RunsTreeAs a registers budget nodes answer last before after =
+    (image : List ℕ) (t : Root) → check-image image ≡ passed (length registers) t a → RootAt before nodes t → Performed (RunOf registers t budget) answer last before after
 
 -- The run of an image behind the tests of the work words and of the budget.
 abbrev pub run-of-image : (image registers : List ℕ) (budget : ℕ) → Called

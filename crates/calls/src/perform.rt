@@ -18,13 +18,13 @@ use loader::Loaded;
 use loader::load;
 use machine::Machine;
 
-// The tree that stands in the work words is run from the registers, which take what it leaves in them.
-fn execute(registers: &mut [u64], budget: u64, work: &mut [u64]) -> Ending
+// The tree of so many nodes that stands in the work words is run from the registers, which take what it leaves in them.
+fn execute(registers: &mut [u64], budget: u64, work: &mut [u64], nodes: usize) -> Ending
     requires { ⌜ work-words ≤ length (now work) ⌝ }
-    requires { ⌜ TreeStands (length (now registers)) (now work) ⌝ }
-    ensures { λ r. ⌜ ExecutesTree (now (registers .entry)) budget r (now (registers .exit)) (now (work .entry)) (now (work .exit)) ⌝ }
+    requires { ⌜ TreeStands (length (now registers)) (now work) nodes ⌝ }
+    ensures { λ r. ⌜ ExecutesTree (now (registers .entry)) budget nodes r (now (registers .exit)) (now (work .entry)) (now (work .exit)) ⌝ }
 {
-    let first = start(work, registers);
+    let first = start(work, registers, nodes);
     let ending = automaton::run(work, first, budget);
     take_registers(work, registers);
     ending
@@ -46,25 +46,31 @@ fn result(work: &[u64], last: Machine, code: usize, steps: u64) -> Ran
 }
 
 // An expression of this code.
-fn run_expression(registers: &mut [u64], budget: u64, work: &mut [u64], code: usize) -> Ran
+fn run_expression(
+    registers: &mut [u64],
+    budget: u64,
+    work: &mut [u64],
+    nodes: usize,
+    code: usize,
+) -> Ran
     requires { ⌜ work-words ≤ length (now work) ⌝ }
-    requires { ⌜ TreeStandsAs (length (now registers)) (expression-of-code code) (now work) ⌝ }
-    ensures { λ r. ⌜ RunsTreeAs (expression-of-code code) (now (registers .entry)) budget r (now (registers .exit)) (now (work .entry)) (now (work .exit)) ⌝ }
+    requires { ⌜ TreeStandsAs (length (now registers)) (expression-of-code code) (now work) nodes ⌝ }
+    ensures { λ r. ⌜ RunsTreeAs (expression-of-code code) (now (registers .entry)) budget nodes r (now (registers .exit)) (now (work .entry)) (now (work .exit)) ⌝ }
 {
-    let ending = execute(registers, budget, work);
+    let ending = execute(registers, budget, work, nodes);
     match ending {
         Ending::Ended(steps, last) => result(work, last, code, steps),
         Ending::Stopped(reason, steps, last) => Ran::Refused(reason, 0, steps),
     }
 }
 
-// A command.
-fn run_command(registers: &mut [u64], budget: u64, work: &mut [u64]) -> Ran
+// A command; with no node, one with no rule to apply.
+fn run_command(registers: &mut [u64], budget: u64, work: &mut [u64], nodes: usize) -> Ran
     requires { ⌜ work-words ≤ length (now work) ⌝ }
-    requires { ⌜ TreeStandsAs (length (now registers)) a-command (now work) ⌝ }
-    ensures { λ r. ⌜ RunsTreeAs a-command (now (registers .entry)) budget r (now (registers .exit)) (now (work .entry)) (now (work .exit)) ⌝ }
+    requires { ⌜ TreeStandsAs (length (now registers)) a-command (now work) nodes ⌝ }
+    ensures { λ r. ⌜ RunsTreeAs a-command (now (registers .entry)) budget nodes r (now (registers .exit)) (now (work .entry)) (now (work .exit)) ⌝ }
 {
-    let ending = execute(registers, budget, work);
+    let ending = execute(registers, budget, work, nodes);
     match ending {
         Ending::Ended(steps, last) => Ran::Nothing(steps),
         Ending::Stopped(reason, steps, last) => Ran::Refused(reason, 0, steps),
@@ -83,9 +89,9 @@ pub(crate) fn run_image(image: &[u32], registers: &mut [u64], budget: u64, work:
                 return Ran::Refused(REFUSED_REGISTERS, 0, 0);
             }
             if number == COMMAND {
-                return run_command(registers, budget, work);
+                return run_command(registers, budget, work, nodes);
             }
-            run_expression(registers, budget, work, number)
+            run_expression(registers, budget, work, nodes, number)
         }
         Loaded::Refused(number, place) => Ran::Refused(number, place, 0),
     }

@@ -124,6 +124,6 @@ root-number a-command = command-number
 abbrev pub root-answer : Judged Passed → Answer
 root-answer = answer root-number
 
--- What the root is, with the registers in scope; or its first fault.
-abbrev pub RootJudgedAt : List ℕ → (registers : ℕ) → Answer → Type 0
-RootJudgedAt words registers r = (t : Root) → RootAt words t → r ≡ root-answer (root-is (register-scope registers) t)
+-- What the root of a tree of so many nodes is, with the registers in scope; or its first fault.
+abbrev pub RootJudgedAt : List ℕ → (registers nodes : ℕ) → Answer → Type 0
+RootJudgedAt words registers nodes r = (t : Root) → RootAt words nodes t → r ≡ root-answer (root-is (register-scope registers) t)

@@ -1,9 +1,9 @@
 -- Bytes in place of words: the image's words and the registers' values that some bytes stand for, and the bytes of values. Words are
 -- little-endian of 4 bytes, registers two's complement of 8 bytes, least byte first. `BytesRead` shows what an image of bytes comes to, in the
 -- paper's order, and `BytesKept` that registers that keep their values keep their bytes.
-use Prim.Native.Nat.{ℕ, _+_, _/_, _%_}
+use Prim.Native.Nat.{ℕ, _+_, _*_, _/_, _%_}
 use mathlib.Core.Bool.{Bool, cond, _&&_}
-use mathlib.Core.List.{List}
+use mathlib.Core.List.{List, [], _∷_, _++_}
 use lib.Dec.{eqb, leb, ltb}
 use lib.IntN.{ℤ, pos}
 use lib.ListN.{length, replicate}
@@ -19,13 +19,18 @@ whole size most bytes = eqb (bytes % size) 0 && leb (bytes / size) most
 
 -- ---- The image.
 
--- All words of the bytes, where they are a whole count of words and at most 2 + 2 × 2,000. Other bytes are no image of any n, so that n and r
--- alone are judged like them; fewer than 8 bytes have not even these.
+-- How many words are taken from so many bytes: all, where they are a whole count of words and at most 2 + 2 × 2,000. Of other bytes only n and r
+-- are judged; fewer than 8 bytes have not even these.
 unfoldable pub image-count : (bytes : ℕ) → ℕ
 image-count bytes = cond (ltb bytes 8) 0 (cond (whole 4 most-image-words bytes) (bytes / 4) 2)
 
+-- Bytes that are left over are no words of an image of any n. One word stands for them behind n and r, and three words are no such image
+-- either.
+abbrev pub left-over : (bytes : ℕ) → List ℕ
+left-over bytes = cond (eqb (4 * image-count bytes) bytes) [] (0 ∷ [])
+
 unfoldable pub image-of-bytes : List ℕ → List ℕ
-image-of-bytes bytes = numbers 4 (image-count (length bytes)) bytes
+image-of-bytes bytes = numbers 4 (image-count (length bytes)) bytes ++ left-over (length bytes)
 
 -- ---- The registers.
 

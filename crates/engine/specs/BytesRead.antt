@@ -4,11 +4,11 @@
 use Prim.Native.Nat.{ℕ, suc, _+_, _-_, _*_, _/_, _%_, _<_, _≤_}
 use mathlib.Core.Path.{_≡_, refl, sym, ap, _∙_, subst}
 use mathlib.Core.Bool.{Bool, true, false, cond, _&&_}
-use mathlib.Core.List.{List, _∷_}
+use mathlib.Core.List.{List, [], _∷_, _++_}
 use native.Mathlib.Omega.{arith}
 use native.Mathlib.Nat.{mul-mod-right, div-eq-of-eq-mul-right}
-use lib.Dec.{leb}
-use lib.ListN.{length, take, drop}
+use lib.Dec.{T, eqb, leb}
+use lib.ListN.{length, take, drop, length-append}
 use borrow.Author.Tests.{le-ltb, lt-ltb, le-leb, eq-eqb, ne-eqb}
 use Rattle.calls.specs.Sizes.{most-image-words}
 use Rattle.rules.specs.paper.Refusals as Refusals
@@ -17,8 +17,9 @@ use Rattle.rules.specs.paper.Tree.{Root}
 use Rattle.rules.specs.paper.Checker.{Passed}
 use Rattle.rules.specs.paper.Reader.{read, bad, size-fits}
 use Rattle.rules.specs.paper.Engine.{check-image, passed, run-checked, refusing}
+use Rattle.rules.specs.proofs.Basics.{append-nothing}
 use Rattle.rules.specs.proofs.checking.ImageExact.{check-exact}
-use Rattle.reader.specs.SizeLaws.{some-nodes, few-nodes}
+use Rattle.reader.specs.SizeLaws.{few-nodes}
 use Rattle.integers.specs.Words.{integers-of}
 use Rattle.integers.specs.WordLaws.{integers-length}
 use Rattle.little_endian.specs.Numbers.{little-endian, numbers}
@@ -44,25 +45,42 @@ registers-said bytes = little-endian (take 4 (drop 4 bytes))
 -- Fewer than 8 bytes: 1.
 pub few-bytes : (bytes : List ℕ) → length bytes < 8 → read (image-of-bytes bytes) ≡ bad Refusals.Length 0
 unfolding image-of-bytes image-count numbers read
-few-bytes bytes h = rw (lt-ltb (length bytes) 8 h)
+few-bytes bytes h = rw (lt-ltb (length bytes) 8 h) (one-word (eqb (4 * 0) (length bytes)))
+  where
+    one-word : (none : Bool) → read (cond none [] (0 ∷ [])) ≡ bad Refusals.Length 0
+    one-word true = refl
+    one-word false = refl
 
 -- From 8 bytes on, n and r are the first two words, and what is behind them is as long as 2 n words only where the length is 8 + 8 n.
 record Headed (bytes : List ℕ) : Type 0 where
   rest : List ℕ
   words : image-of-bytes bytes ≡ nodes-said bytes ∷ registers-said bytes ∷ rest
-  fits : (n : ℕ) → 0 < n → length rest ≡ 2 * n → length bytes ≡ 8 + 8 * n
+  fits : (n : ℕ) → length rest ≡ 2 * n → length bytes ≡ 8 + 8 * n
 
 two-words : (count k : ℕ) (bytes : List ℕ) → count ≡ suc (suc k) → numbers 4 count bytes ≡ nodes-said bytes ∷ registers-said bytes ∷ numbers 4 k (drop 4 (drop 4 bytes))
 unfolding numbers
 two-words count k bytes q = ap (λ c. numbers 4 c bytes) q
 
-count-handed : (bytes : ℕ) (all : Bool) → 8 ≤ bytes → whole 4 most-image-words bytes ≡ all → image-count bytes ≡ cond all (bytes / 4) 2
+count-taken : (bytes : ℕ) (all : Bool) → 8 ≤ bytes → whole 4 most-image-words bytes ≡ all → image-count bytes ≡ cond all (bytes / 4) 2
 unfolding image-count
-count-handed bytes all h p = ap (λ few. cond few 0 (cond (whole 4 most-image-words bytes) (bytes / 4) 2)) (le-ltb bytes 8 h) ∙ ap (λ a. cond a (bytes / 4) 2) p
+count-taken bytes all h p = ap (λ few. cond few 0 (cond (whole 4 most-image-words bytes) (bytes / 4) 2)) (le-ltb bytes 8 h) ∙ ap (λ a. cond a (bytes / 4) 2) p
 
-image-of-bytes-is : (bytes : List ℕ) (count : ℕ) → image-count (length bytes) ≡ count → image-of-bytes bytes ≡ numbers 4 count bytes
+-- All bytes are taken, or one word stands for those that are left over.
+all-taken : (bytes : List ℕ) (count : ℕ) → image-count (length bytes) ≡ count → 4 * count ≡ length bytes → image-of-bytes bytes ≡ numbers 4 count bytes
 unfolding image-of-bytes
-image-of-bytes-is bytes count q = ap (λ k. numbers 4 k bytes) q
+all-taken bytes count q all =
+    ap (λ t. numbers 4 (image-count (length bytes)) bytes ++ cond t [] (0 ∷ [])) (eq-eqb (4 * image-count (length bytes)) (length bytes) (ap (λ k. 4 * k) q ∙ all))
+    ∙ append-nothing (numbers 4 (image-count (length bytes)) bytes) ∙ ap (λ k. numbers 4 k bytes) q
+
+some-left : (bytes : List ℕ) (count : ℕ) → image-count (length bytes) ≡ count → (4 * count ≡ length bytes → ⊥) → image-of-bytes bytes ≡ numbers 4 count bytes ++ 0 ∷ []
+unfolding image-of-bytes
+some-left bytes count q more =
+    ap (λ t. numbers 4 (image-count (length bytes)) bytes ++ cond t [] (0 ∷ [])) (ne-eqb (4 * image-count (length bytes)) (length bytes) (λ all. more (ap (λ k. 4 * k) (sym q) ∙ all)))
+    ∙ ap (λ k. numbers 4 k bytes ++ 0 ∷ []) q
+
+-- Bytes that are no whole count of words are not those of n and r alone.
+not-eight : (bytes : ℕ) → whole 4 most-image-words bytes ≡ false → 4 * 2 ≡ bytes → ⊥
+not-eight bytes p q = let z : _≡_ {A = Bool} true false = sym (is-whole 4 most-image-words bytes 2 (omega arith) (sym q) (omega arith)) ∙ p in subst T z tt
 
 headed : (bytes : List ℕ) → 8 ≤ length bytes → Headed bytes
 headed bytes h = by (whole 4 most-image-words (length bytes)) refl
@@ -72,14 +90,14 @@ headed bytes h = by (whole 4 most-image-words (length bytes)) refl
         let same = count-whole 4 most-image-words (length bytes) p in
         record {
           rest = numbers 4 (length bytes / 4 - 2) (drop 4 (drop 4 bytes));
-          words = image-of-bytes-is bytes (length bytes / 4) (count-handed (length bytes) true h p) ∙ two-words (length bytes / 4) (length bytes / 4 - 2) bytes (omega (arith, same, h));
-          fits = λ n positive e. omega (arith, same, h, e, numbers-length 4 (length bytes / 4 - 2) (drop 4 (drop 4 bytes)));
+          words = all-taken bytes (length bytes / 4) (count-taken (length bytes) true h p) (sym same) ∙ two-words (length bytes / 4) (length bytes / 4 - 2) bytes (omega (arith, same, h));
+          fits = λ n e. omega (arith, same, h, e, numbers-length 4 (length bytes / 4 - 2) (drop 4 (drop 4 bytes)));
         }
     by false p =
         record {
-          rest = numbers 4 0 (drop 4 (drop 4 bytes));
-          words = image-of-bytes-is bytes 2 (count-handed (length bytes) false h p) ∙ two-words 2 0 bytes refl;
-          fits = λ n positive e. absurd (omega (arith, positive, e, numbers-length 4 0 (drop 4 (drop 4 bytes))));
+          rest = numbers 4 0 (drop 4 (drop 4 bytes)) ++ 0 ∷ [];
+          words = some-left bytes 2 (count-taken (length bytes) false h p) (not-eight (length bytes) p) ∙ ap (λ ws. ws ++ 0 ∷ []) (two-words 2 0 bytes refl);
+          fits = λ n e. absurd (omega (arith, e, length-append (numbers 4 0 (drop 4 (drop 4 bytes))) (0 ∷ []), numbers-length 4 0 (drop 4 (drop 4 bytes))));
         }
 
 -- n or r out of range: 2.
@@ -93,14 +111,15 @@ pub length-refused : (bytes : List ℕ) → 8 ≤ length bytes → size-fits (no
 unfolding read
 length-refused bytes h q other =
     let head = headed bytes h in
-    ap read (head .words) ∙ rw (q, ne-eqb (length (head .rest)) (2 * nodes-said bytes) (λ e. other (head .fits (nodes-said bytes) (some-nodes (nodes-said bytes) (registers-said bytes) q) e)))
+    ap read (head .words) ∙ rw (q, ne-eqb (length (head .rest)) (2 * nodes-said bytes) (λ e. other (head .fits (nodes-said bytes) e)))
 
 -- 8 + 8 n bytes: exactly the 2 + 2 n words are read.
 pub whole-image : (bytes : List ℕ) → size-fits (nodes-said bytes) (registers-said bytes) ≡ true → length bytes ≡ 8 + 8 * nodes-said bytes → image-of-bytes bytes ≡ numbers 4 (2 + 2 * nodes-said bytes) bytes
 whole-image bytes q same =
-    image-of-bytes-is bytes (2 + 2 * nodes-said bytes)
-    (count-handed (length bytes) true (omega (arith, same)) (is-whole 4 most-image-words (length bytes) (2 + 2 * nodes-said bytes) (omega arith) (omega (arith, same)) (omega (arith, few-nodes (nodes-said bytes) (registers-said bytes) q)))
+    all-taken bytes (2 + 2 * nodes-said bytes)
+    (count-taken (length bytes) true (omega (arith, same)) (is-whole 4 most-image-words (length bytes) (2 + 2 * nodes-said bytes) (omega arith) (omega (arith, same)) (omega (arith, few-nodes (nodes-said bytes) (registers-said bytes) q)))
     ∙ div-eq-of-eq-mul-right (omega arith) (omega (arith, same)))
+    (omega (arith, same))
 
 -- ---- The registers.
 

@@ -26,7 +26,7 @@ use reader::MOST_REGISTERS;
 // A count of registers that no image has.
 const TOO_MANY_REGISTERS: usize = MOST_REGISTERS + 1;
 
-// How many words of an image of this many bytes are handed on.
+// How many words are taken from an image of this many bytes.
 fn image_count(bytes: usize) -> usize
     ensures { λ r. ⌜ r ≡ image-count bytes ⌝ }
 {
@@ -42,7 +42,7 @@ fn image_count(bytes: usize) -> usize
     bytes / 4
 }
 
-// The words that are handed on stand first then; the answer is their count.
+// The words that are handed on stand first then; the answer is their count. One word stands for bytes that are left over.
 fn unpack_image(image: &[u8], words: &mut [u32]) -> usize
     requires { ⌜ most-image-words ≤ length (now words) ⌝ }
     ensures { λ r. ⌜ r ≤ length (now (words .exit)) ⌝ }
@@ -50,7 +50,11 @@ fn unpack_image(image: &[u8], words: &mut [u32]) -> usize
 {
     let count = image_count(image.len());
     unpack_words(image, &mut words[..count]);
-    count
+    if 4 * count == image.len() {
+        return count;
+    }
+    words[count] = 0;
+    count + 1
 }
 
 // `pi_check` on an image of bytes. Its words are laid out on the stack, which takes 16 KB.

@@ -17,7 +17,7 @@ use Rattle.rules.specs.paper.Engine.{check-image, check-reading, checked}
 use Rattle.reader.specs.Pack.{root-words}
 use Rattle.reader.specs.Put.{KeptBeyond, put-length, put-beyond}
 use Rattle.reader.specs.Answers.{ShapeAnswer}
-use Rattle.reader.specs.Stored.{StoredRoot, root-expression, root-command, RootAt}
+use Rattle.reader.specs.Stored.{StoredRoot, root-expression, root-command, root-absent, RootAt}
 use Rattle.reader.specs.StoredLaws.{SameNodes, same-expression, same-command, stored-by-put, root-next}
 use Rattle.reader.specs.declared.Shape.{Shape}
 use Rattle.reader.specs.declared.Shape.the-variants as Shapes
@@ -90,13 +90,12 @@ module _ (words before after : List ℕ) (shape : Shape) (answered : ShapeAnswer
       by (bad y o) a = record { answer = same-refused shape x p (refusal-number y) o q (a .answer); beyond = beyond-read (a .kept) }
       by (image r t) a = absurd (two-shapes shape (length (root-nodes t)) r x p (a .answer) q)
 
-  -- A tree that was read stands in the work words, and ends at its count of nodes.
+  -- A tree that was read stands in the work words, with as many nodes as were counted.
   pub record TreeRead (nodes registers : ℕ) : Type 0 where
     pub tree : Root
     pub reads : read words ≡ image registers tree
     pub counted : nodes ≡ length (root-nodes tree)
-    pub stands : RootAt after tree
-    pub ends : stands .next ≡ length (root-nodes tree)
+    pub stands : RootAt after nodes tree
     pub beyond : KeptBeyond work-words before after
 
   pub tree-read : (nodes registers : ℕ) → work-words ≤ length before → shape ≡ Shapes.Image nodes registers → TreeRead nodes registers
@@ -110,8 +109,12 @@ module _ (words before after : List ℕ) (shape : Shape) (answered : ShapeAnswer
             tree = t;
             reads = e ∙ ap (λ k. image k t) (same-registers shape (length (root-nodes t)) r nodes registers (a .answer) q);
             counted = same-nodes shape nodes registers (length (root-nodes t)) r q (a .answer);
-            stands = record { depth = most-depth; next = length (root-nodes t); stored = subst (λ ws. StoredRoot ws most-depth 0 (length (root-nodes t)) t) (sym (a .written)) (stored-by-put before (is .shape) (is .size) (omega (arith, room))) };
-            ends = refl;
+            stands = record {
+              depth = most-depth;
+              stored =
+                  subst (λ n. StoredRoot after most-depth 0 n t) (sym (same-nodes shape nodes registers (length (root-nodes t)) r q (a .answer)))
+                  (subst (λ ws. StoredRoot ws most-depth 0 (length (root-nodes t)) t) (sym (a .written)) (stored-by-put before (is .shape) (is .size) (omega (arith, room))));
+            };
             beyond = record {
               same-length = ap length (a .written) ∙ put-length 0 (root-words t) before;
               same-beyond = ap (drop work-words) (a .written) ∙ put-beyond work-words 0 (root-words t) before (omega (arith, root-next (is .shape), is .size));
@@ -123,10 +126,11 @@ module _ (words before after : List ℕ) (shape : Shape) (answered : ShapeAnswer
 same-root : (words words′ : List ℕ) → SameNodes words words′ → {d i j : ℕ} {t : Root} → StoredRoot words d i j t → StoredRoot words′ d i j t
 same-root words words′ same (root-expression h) = root-expression (same-expression words words′ same h)
 same-root words words′ same (root-command h) = root-command (same-command words words′ same h)
+same-root words words′ same root-absent = root-absent
 
 -- The checker leaves the tree where it stands.
-tree-kept : {a b : List ℕ} {t : Root} → WritesRowsFrom a b 0 → RootAt a t → RootAt b t
-tree-kept {a} {b} k s = record { depth = s .depth; next = s .next; stored = same-root a b (λ i h. k .same-below i (omega (arith, h))) (s .stored) }
+tree-kept : {a b : List ℕ} {nodes : ℕ} {t : Root} → WritesRowsFrom a b 0 → RootAt a nodes t → RootAt b nodes t
+tree-kept {a} {b} k s = record { depth = s .depth; stored = same-root a b (λ i h. k .same-below i (omega (arith, h))) (s .stored) }
 
 two-answers : (a x p : ℕ) → Is a ≡ Fault x p → ⊥
 two-answers a x p h = let z : _≡_ {A = ℕ} 0 1 = cc in omega arith
@@ -138,7 +142,7 @@ as-refused : (x p y q : ℕ) → Fault x p ≡ Fault y q → Load.Refused x p �
 as-refused x p y q h = cc
 
 module _ (words before middle after : List ℕ) (shape : Shape) (answered : ShapeAnswer (read words) shape before middle) (nodes registers : ℕ) (tree : TreeRead words before middle shape answered nodes registers)
-    (kept : WritesRowsFrom middle after 0) (r : Answer) (judged : RootJudgedAt middle registers r) where
+    (kept : WritesRowsFrom middle after 0) (r : Answer) (judged : RootJudgedAt middle registers nodes r) where
   all-beyond : KeptBeyond work-words before after
   all-beyond = beyond-then (tree .beyond) (beyond-kept kept)
 
@@ -149,7 +153,6 @@ module _ (words before middle after : List ℕ) (shape : Shape) (answered : Shap
       subst (λ g. LoadAnswer (check-reading g) a before after) (sym (tree .reads)) (done (root-is (register-scope registers) (tree .tree)) refl (judged (tree .tree) (tree .stands)))
 
   pub root-passes : (number : ℕ) → r ≡ Is number → LoadAnswer (check-image words) (Load.Passed number registers nodes) before after
-  unfolding tree-kept
   root-passes number q = of-reading (Load.Passed number registers nodes) (λ j e h. by j e (sym q ∙ h))
     where
       by : (j : Judged Passed) → root-is (register-scope registers) (tree .tree) ≡ j → Is number ≡ root-answer j → LoadAnswer (checked registers (tree .tree) j) (Load.Passed number registers nodes) before after
@@ -157,8 +160,7 @@ module _ (words before middle after : List ℕ) (shape : Shape) (answered : Shap
       by (fine c) e h =
           record {
             answer = ap (λ k. Load.Passed k registers nodes) (same-is number (root-number c) h) ∙ ap (Load.Passed (root-number c) registers) (tree .counted);
-            stands = tree-kept kept (tree .stands);
-            ends = tree .ends;
+            stands = subst (λ n. RootAt after n (tree .tree)) (tree .counted) (tree-kept kept (tree .stands));
             code-low = λ k known. root-code-low registers (tree .tree) k (e ∙ ap fine known);
             beyond = all-beyond;
           }

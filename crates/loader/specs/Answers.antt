@@ -21,12 +21,11 @@ pub record LoadRefused (x : Refusal) (place : ℕ) (r : Loaded) (before after : 
   pub answer : r ≡ Refused (refusal-number x) place
   pub beyond : KeptBeyond work-words before after
 
--- The image passes: its tree stands in the work words and ends at its count of nodes. The code of an expression is a type code, so the
+-- The image passes: its tree, of as many nodes as the answer says, stands in the work words. The code of an expression is a type code, so the
 -- root's number tells it from a command.
 pub record LoadPassed (registers : ℕ) (t : Root) (c : Rules.Passed) (r : Loaded) (before after : List ℕ) : Type 0 where
   pub answer : r ≡ Passed (root-number c) registers (length (root-nodes t))
-  pub stands : RootAt after t
-  pub ends : stands .next ≡ length (root-nodes t)
+  pub stands : RootAt after (length (root-nodes t)) t
   pub code-low : (k : ℕ) → c ≡ expression-of-code k → k < codes
   pub beyond : KeptBeyond work-words before after
 

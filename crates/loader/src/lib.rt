@@ -28,7 +28,7 @@ pub fn load(image: &[u32], work: &mut [u64]) -> Loaded
     let shape = read_image(work, image);
     match shape {
         Shape::Image(nodes, registers) => {
-            let judged = root(work, registers);
+            let judged = root(work, registers, nodes);
             match judged {
                 Answer::Is(number) => Loaded::Passed(number, registers, nodes),
                 Answer::Fault(number, place) => Loaded::Refused(number, place),

@@ -11,7 +11,7 @@ use lib.ListN.{length, getD, drop}
 use Rattle.rules.specs.proofs.Basics.{true-test, false-test}
 use Rattle.rules.specs.paper.Tree.{Root}
 use Rattle.rules.specs.paper.Refusals.{refusal-number}
-use Rattle.rules.specs.paper.Reader.{Node, Got, refused, got, image, whole, size-fits, read-root, read}
+use Rattle.rules.specs.paper.Reader.{Node, Got, refused, got, image, whole, size-fits, read-root, read-routine, read}
 use Rattle.rules.specs.claims.Listing.{root-nodes, image-words}
 use Rattle.rules.specs.proofs.reading.ReaderExact.{read-exact}
 use Rattle.reader.specs.Pack.{root-words}
@@ -19,7 +19,7 @@ use Rattle.rules.specs.paper.Kinds.{a-root}
 use Rattle.rules.specs.paper.Limits.{most-nodes, most-depth}
 use Rattle.reader.specs.SizeLaws.{few-nodes}
 use Rattle.reader.specs.Tables.{sort-number}
-use Rattle.reader.specs.Put.{KeptBeyond, put-length, put-beyond}
+use Rattle.reader.specs.Put.{KeptBeyond, put, put-length, put-beyond}
 use Rattle.reader.specs.Answers.{nodes-at, Read-on, Outcome, ShapeAnswer}
 use Rattle.reader.specs.declared.Scanned.{Scanned}
 use Rattle.reader.specs.declared.Scanned.the-variants.{Next, Refused}
@@ -56,7 +56,7 @@ refuse-length (n ∷ r ∷ words) work h q l =
 
 -- Where the length is right too, the nodes are read.
 read-nodes : (words : List ℕ) → 2 ≤ length words → size-fits (getD words 0 0) (getD words 1 0) ≡ true → length words ≡ 2 + 2 * getD words 0 0 →
-    read words ≡ whole (getD words 1 0) (read-root most-depth 0 (nodes-at words (getD words 0 0)))
+    read words ≡ whole (getD words 1 0) (read-routine (nodes-at words (getD words 0 0)))
 unfolding read
 read-nodes [] h q l = absurd (not-suc-le-zero h)
 read-nodes (a ∷ []) h q l = absurd (not-suc-le-zero (le-of-suc-le-suc h))
@@ -65,6 +65,19 @@ read-nodes (n ∷ r ∷ words) h q l =
   where
     shorter : suc (suc (length words)) ≡ 2 + 2 * n → length words ≡ 2 * n
     shorter e = omega arith
+
+-- with no node the root is absent, and no work word is written
+pub absent-image : (words work : List ℕ) → 2 ≤ length words → size-fits (getD words 0 0) (getD words 1 0) ≡ true → length words ≡ 2 + 2 * getD words 0 0 →
+    getD words 0 0 ≡ 0 → ShapeAnswer (read words) (Shapes.Image (getD words 0 0) (getD words 1 0)) work work
+unfolding root-words root-nodes put
+absent-image words work h q l none =
+    subst (λ s. ShapeAnswer s (Shapes.Image (getD words 0 0) (getD words 1 0)) work work)
+    (sym (read-nodes words h q l ∙ ap (λ ns. whole (getD words 1 0) (read-routine ns)) (nodes-past words (getD words 0 0) l 0 (omega (arith, none)))))
+    (record { answer = ap (λ n. Shapes.Image n (getD words 1 0)) none; written = refl })
+
+-- with a node the root is read
+root-first : (nodes rest : List Node) (n : Node) → nodes ≡ n ∷ rest → read-routine nodes ≡ read-root most-depth 0 nodes
+root-first nodes rest n q = ap read-routine q ∙ ap (read-root most-depth 0) (sym q)
 
 drop-more : (n k : ℕ) (ws : List ℕ) → drop (n + k) ws ≡ drop k (drop n ws)
 drop-more zero k ws = ap (λ i. drop i ws) (zero-add k)
@@ -80,7 +93,7 @@ further n m before after h q =
     apart g = omega arith
 
 module _ (words work work′ : List ℕ) (r : Scanned) (h : 2 ≤ length words) (sized : size-fits (getD words 0 0) (getD words 1 0) ≡ true)
-    (l : length words ≡ 2 + 2 * getD words 0 0) where
+    (l : length words ≡ 2 + 2 * getD words 0 0) (some : ¬ (getD words 0 0 ≡ 0)) where
   abbrev n : ℕ
   n = getD words 0 0
 
@@ -97,7 +110,8 @@ module _ (words work work′ : List ℕ) (r : Scanned) (h : 2 ≤ length words) 
   shape-by : (answer : Shape) → ((m : Got Root) → read words ≡ whole (getD words 1 0) m → Root-outcome m → ShapeAnswer (whole (getD words 1 0) m) answer work work′) →
       Node-outcome words n 0 (sort-number a-root) most-depth r work work′ → ShapeAnswer (read words) answer work work′
   shape-by answer k o =
-      subst (λ s. ShapeAnswer s answer work work′) (sym (read-nodes words h sized l)) (k (read-root most-depth 0 nodes) (read-nodes words h sized l) (root-outcome o))
+      let reads : read words ≡ whole (getD words 1 0) (read-root most-depth 0 nodes) = read-nodes words h sized l ∙ ap (whole (getD words 1 0)) (root-first nodes _ _ (node-here words n l 0 (omega (arith, some)))) in
+      subst (λ s. ShapeAnswer s answer work work′) (sym reads) (k (read-root most-depth 0 nodes) reads (root-outcome o))
 
   count-head : (t : Root) → read words ≡ image (getD words 1 0) t → n ≡ length (root-nodes t)
   unfolding image-words

@@ -3,7 +3,7 @@ use Prim.Native.Nat.{ℕ, suc, _+_, _*_, _/_, _%_}
 use mathlib.Core.List.{List, [], _∷_, _++_}
 use lib.ListN.{length}
 use Rattle.rules.specs.paper.Kinds.{operator-number}
-use Rattle.rules.specs.paper.Tree.{Expression, Num, Boo, Id, DeRef, ValRef, Binary, Not, Formal, Command, Assign, Loop, CSeq, block, Call, Block, Blk, Declaration, Bind, DSeq, Bound, plain, Ref, Abs, Root, expression, command}
+use Rattle.rules.specs.paper.Tree.{Expression, Num, Boo, Id, DeRef, ValRef, Binary, Not, Formal, Command, Assign, Loop, CSeq, block, Call, Block, Blk, Declaration, Bind, DSeq, Bound, plain, Ref, Abs, Root, expression, command, absent}
 use Rattle.rules.specs.paper.Limits.{names}
 use Rattle.rules.specs.claims.Listing.{truth-word}
 use Rattle.reader.specs.KindNumbers.{num-number, boo-number, id-number, not-number, deref-number, valref-number, assign-number, loop-number, cseq-number, blk-number, call-number, bind-number, dseq-number, ref-number, abs-number, formal-number}
@@ -75,3 +75,4 @@ unfoldable mutual
 unfoldable pub root-words : Root → List ℕ
 root-words (expression e) = expression-words e
 root-words (command c) = command-words c
+root-words absent = []

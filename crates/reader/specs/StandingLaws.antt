@@ -1,16 +1,16 @@
 -- Where a stored tree stands and ends: the word of its root, its kind's bounds, its place and the node after its descendants. Whoever goes
 -- over a tree in the work words cites these.
 use Prim.Native.Nat.{ℕ, suc, _+_, _*_, _/_, _%_, _<_, _≤_}
-use mathlib.Core.Path.{_≡_}
+use mathlib.Core.Path.{_≡_, refl}
 use mathlib.Core.List.{List}
 use native.Mathlib.Omega.{arith}
 use lib.ListN.{getD}
 use Rattle.rules.specs.paper.Limits.{names, most-nodes}
 use Rattle.rules.specs.paper.Kinds.{operator-number}
-use Rattle.rules.specs.paper.Tree.{Operator, arithmetic, Eq, order, logic, Sum, Sub, Mul, Div, Lt, Le, Gt, Ge, And, Or, Expression, Formal, Command, Block, Declaration, Bound}
+use Rattle.rules.specs.paper.Tree.{Operator, arithmetic, Eq, order, logic, Sum, Sub, Mul, Div, Lt, Le, Gt, Ge, And, Or, Expression, Formal, Command, Block, Declaration, Bound, Root, absent}
 use Rattle.reader.specs.KindNumbers.{id-number, not-number}
 use Rattle.reader.specs.Pack.{kinds-room, packed-kind, packed-end}
-use Rattle.reader.specs.Stored.{HasWord, kind-is, end-is, StoredExpression, num, boo, id, deref, valref, binary, negation, StoredActuals, no-actuals, one-actual, StoredFormals, no-formals, one-formal, StoredCommand, assign, loop, cseq, block-of, call, StoredBlock, blk, StoredDeclaration, bind, dseq, StoredBound, plain-of, ref, abs}
+use Rattle.reader.specs.Stored.{HasWord, kind-is, end-is, StoredExpression, num, boo, id, deref, valref, binary, negation, StoredActuals, no-actuals, one-actual, StoredFormals, no-formals, one-formal, StoredCommand, assign, loop, cseq, block-of, call, StoredBlock, blk, StoredDeclaration, bind, dseq, StoredBound, plain-of, ref, abs, StoredRoot, root-expression, root-command, root-absent, RootAt}
 
 -- ---- Places, and the parts of an operand.
 
@@ -162,3 +162,13 @@ mutual
   bound-on (plain-of a) = expression-on a
   bound-on (ref h a) = omega (arith, expression-on a)
   bound-on (abs l h a b) = omega (arith, formals-on a, block-on b)
+
+-- ---- A root with no node is absent.
+
+pub absent-root : {words : List ℕ} {nodes : ℕ} {t : Root} → nodes ≡ 0 → RootAt words nodes t → t ≡ absent
+absent-root none at = by none (at .stored)
+  where
+    by : {words : List ℕ} {d j : ℕ} {t : Root} → j ≡ 0 → StoredRoot words d 0 j t → t ≡ absent
+    by q (root-expression s) = absurd (omega (arith, q, expression-on s))
+    by q (root-command s) = absurd (omega (arith, q, command-on s))
+    by q root-absent = refl

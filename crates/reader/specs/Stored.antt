@@ -7,7 +7,7 @@ use mathlib.Core.List.{List, [], _∷_}
 use native.Mathlib.Omega.{arith}
 use lib.ListN.{length, getD}
 use Rattle.rules.specs.paper.Kinds.{operator-number}
-use Rattle.rules.specs.paper.Tree.{Operator, Expression, Num, Boo, Id, DeRef, ValRef, Binary, Not, Formal, Command, Assign, Loop, CSeq, block, Call, Block, Blk, Declaration, Bind, DSeq, Bound, plain, Ref, Abs, Root, expression, command}
+use Rattle.rules.specs.paper.Tree.{Operator, Expression, Num, Boo, Id, DeRef, ValRef, Binary, Not, Formal, Command, Assign, Loop, CSeq, block, Call, Block, Blk, Declaration, Bind, DSeq, Bound, plain, Ref, Abs, Root, expression, command, absent}
 use Rattle.rules.specs.paper.Limits as Limits
 use Rattle.rules.specs.paper.Limits.{most-nodes, names, codes, most-parameters}
 use Rattle.rules.specs.claims.Listing.{truth-word}
@@ -83,9 +83,9 @@ mutual
 pub data StoredRoot (words : List ℕ) : (depth place next : ℕ) → Root → Type 0 where
   root-expression : {d i j : ℕ} {e : Expression} → StoredExpression words d i j e → StoredRoot words d i j (expression e)
   root-command : {d i j : ℕ} {c : Command} → StoredCommand words d i j c → StoredRoot words d i j (command c)
+  root-absent : {d i : ℕ} → StoredRoot words d i i absent
 
--- A tree stands in the work words from node 0 on.
-pub record RootAt (words : List ℕ) (t : Root) : Type 0 where
+-- A tree of so many nodes stands in the work words from node 0 on. The count tells an absent root from all others.
+pub record RootAt (words : List ℕ) (nodes : ℕ) (t : Root) : Type 0 where
   pub depth : ℕ
-  pub next : ℕ
-  pub stored : StoredRoot words depth 0 next t
+  pub stored : StoredRoot words depth 0 nodes t

@@ -207,11 +207,13 @@ module _ (words : List ℕ) where
   unfolding root-words
   root-stored (Shape.root-expression h) l s = Stored.root-expression (expression-stored h l s)
   root-stored (Shape.root-command h) l s = Stored.root-command (command-stored h l s)
+  root-stored Shape.root-absent l s = Stored.root-absent
 
 pub root-next : {d i j : ℕ} {t : Root} → ShapedRoot d i j t → j ≡ i + length (root-words t)
 unfolding root-words
 root-next (Shape.root-expression h) = expression-next h
 root-next (Shape.root-command h) = command-next h
+root-next (Shape.root-absent {i = i}) = omega arith
 
 -- What `read_image` writes of a tree stores it.
 pub stored-by-put : {n : ℕ} {t : Root} (work : List ℕ) → ShapedRoot most-depth 0 n t → n ≤ most-nodes → most-nodes ≤ length work → StoredRoot (put 0 (root-words t) work) most-depth 0 n t

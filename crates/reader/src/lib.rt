@@ -97,16 +97,14 @@ fn read_node(
 pub fn size_fits(n: usize, registers: usize) -> bool
     ensures { λ r. ⌜ r ≡ size-fits n registers ⌝ }
 {
-    if n == 0 {
-        return false;
-    }
     if MOST_NODES < n {
         return false;
     }
     registers <= MOST_REGISTERS
 }
 
-// The whole image: its shape, with a work word for each node; or the first refusal, and then the first 2,000 work words are spoilt.
+// The whole image: its shape, with a work word for each node (none where the root is absent); or the first refusal, and then the first 2,000
+// work words are spoilt.
 pub fn read_image(work: &mut [u64], image: &[u32]) -> Shape
     requires { ⌜ most-nodes ≤ length (now work) ⌝ }
     ensures { λ r. ⌜ ShapeAnswer (read (now (image .entry))) r (now (work .entry)) (now (work .exit)) ⌝ }
@@ -121,6 +119,9 @@ pub fn read_image(work: &mut [u64], image: &[u32]) -> Shape
     }
     if image.len() != 2 + 2 * n {
         return Shape::Refused(refusals::LENGTH, 0);
+    }
+    if n == 0 {
+        return Shape::Image(n, registers);
     }
     let root = read_node(work, image, n, 0, tables::ROOT, MOST_DEPTH);
     match root {

@@ -6,3 +6,4 @@ pub mod Image
 pub mod History
 pub mod Claim
 pub mod Ends
+pub mod NoRoutine

@@ -98,10 +98,12 @@ fn with_another_count(image: &[u8], random: &mut Random) -> Vec<u8> {
     image
 }
 
-/// Another n and the length that fits it: nodes are missing, left over or others.
+/// Another n and the length that fits it: nodes are missing, left over or others, or
+/// there is none.
 fn with_a_fitting_length(image: &[u8], random: &mut Random) -> Vec<u8> {
     let nodes = match random.below(8) {
         0 => *random.pick(&[1_999, 2_000, 2_001]),
+        1 => 0,
         _ => random.between(1, image.len() / 8 + 3),
     };
     let mut image = image.to_vec();

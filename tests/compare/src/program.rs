@@ -2,6 +2,7 @@
 //! output, nothing on standard error, and exit status 0.
 
 use crate::difference::Difference;
+use crate::inputs::split_image;
 use second::bytes::{integers, words};
 use std::env;
 use std::io::{ErrorKind, Write};
@@ -180,7 +181,6 @@ fn quoted(bytes: &[u8]) -> String {
 /// The image's words in an input as far as they are there, and the whole values
 /// behind them.
 fn parts(input: &[u8]) -> (Vec<u32>, Vec<i64>) {
-    let nodes = words(input).first().map_or(0, |nodes| *nodes as usize);
-    let (image, rest) = input.split_at(input.len().min(8 + 8 * nodes));
+    let (image, rest) = split_image(input);
     (words(image), integers(rest))
 }

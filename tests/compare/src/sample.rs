@@ -39,7 +39,7 @@ pub struct Sample {
 }
 
 /// How many of each hundred samples are of which family.
-pub type Mixture = [(usize, Family); 10];
+pub type Mixture = [(usize, Family); 11];
 
 /// For checks, and for calls on bytes. Large cases take the second interpreter
 /// longest and are seldom.
@@ -49,21 +49,23 @@ pub const CHECKED: Mixture = [
     (2, Family::Large),
     (6, Family::Faulty),
     (6, Family::Limits),
-    (25, Family::Damaged),
-    (15, Family::Shaped),
-    (10, Family::Plausible),
+    (24, Family::Damaged),
+    (4, Family::Empty),
+    (14, Family::Shaped),
+    (8, Family::Plausible),
     (4, Family::Words),
     (6, Family::Host),
 ];
 
 /// For runs, the program's too: more of what passes the checker.
 pub const RUN: Mixture = [
-    (36, Family::Small),
+    (34, Family::Small),
     (10, Family::Medium),
     (4, Family::Large),
-    (18, Family::Faulty),
+    (17, Family::Faulty),
     (8, Family::Limits),
     (8, Family::Damaged),
+    (3, Family::Empty),
     (6, Family::Shaped),
     (2, Family::Plausible),
     (2, Family::Words),

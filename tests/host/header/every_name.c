@@ -13,6 +13,7 @@
 HOLDS(version_is_text, sizeof PI_VERSION >= sizeof "0.0.0");
 HOLDS(check_reply_is_three_words, sizeof(PiCheckReply) == 3 * sizeof(uint64_t));
 HOLDS(run_reply_is_five_words, sizeof(PiRunReply) == 5 * sizeof(uint64_t));
+HOLDS(smallest_image, PI_IMAGE_WORDS(0) == 2 && PI_IMAGE_BYTES(0) == 8);
 HOLDS(largest_image_in_words, PI_IMAGE_WORDS(PI_MOST_NODES) == 4002);
 HOLDS(largest_image_in_bytes, PI_IMAGE_BYTES(PI_MOST_NODES) == 16008);
 HOLDS(registers_are_cells, PI_MOST_REGISTERS <= PI_MOST_CELLS && PI_MOST_REGISTERS <= PI_NAMES);

@@ -11,6 +11,7 @@ pub fn find_node(file: &str, listing: &Listing, number: &str) -> Result<String, 
     let node = number.parse().ok().and_then(|number: usize| listing.nodes.get(number));
     match (node, listing.nodes.len()) {
         (Some(node), _) => Ok(format!("{file}:{}\n", node.position)),
+        (None, 0) => Err(format!("{} has no routine, so it has no node {number}", named(file))),
         (None, 1) => Err(format!("{} has node 0 alone, not {number}", named(file))),
         (None, count) => Err(format!("{} has nodes 0 to {}, not {number}", named(file), count - 1)),
     }
@@ -20,6 +21,9 @@ pub fn find_node(file: &str, listing: &Listing, number: &str) -> Result<String, 
 /// or what it passes as.
 pub fn find_refusal(file: &str, listing: &Listing) -> String {
     match check(&listing.image(), WORK_WORDS) {
+        Answer::Command if listing.nodes.is_empty() => {
+            format!("{file}: passes as a command (no routine)\n")
+        }
         Answer::Command => format!("{file}: passes as a command\n"),
         Answer::Code(code) => {
             format!("{file}: passes with type code {code} ({})\n", in_words(code))

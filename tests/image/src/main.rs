@@ -29,7 +29,8 @@ usage: image COMMAND FILE
   refusals               the refusals, one a line: number, name and what it says
   help                   prints this, and so does --help behind any command
 
-FILE is - for standard input. A text is a line `registers R` and one list, such as
+FILE is - for standard input. A text is a line `registers R` and one list, or `()` for a
+slot with no routine; such as
 
   registers 1
   ; twice what register 0 holds

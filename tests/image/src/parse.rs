@@ -1,7 +1,8 @@
 //! A text to the nodes of its image, or what is wrong and where.
 //!
-//! `registers R`, then one list: a kind, what its operand says, its children. A
-//! text that is read so has the right shape; scope and types are not looked at.
+//! `registers R`, then one list: a kind, what its operand says, its children; or `()`
+//! where there is no routine. A text that is read so has the right shape; scope and
+//! types are not looked at.
 
 use crate::pieces::{pieces, Piece, Position};
 use second::kinds::{Kind, Row, Wanted, CODES, MOST_COUNT, MOST_DEPTH, MOST_NODES};
@@ -21,7 +22,8 @@ impl fmt::Display for Fault {
     }
 }
 
-/// The nodes in preorder, each with where it begins in the text.
+/// The nodes in preorder, each with where it begins in the text; none where there is no
+/// routine.
 #[derive(Clone, Debug, PartialEq, Eq)]
 pub struct Listing {
     pub registers: u32,
@@ -49,10 +51,13 @@ impl Listing {
 pub fn parse(text: &str) -> Result<Listing, Fault> {
     let mut parser = Parser { pieces: pieces(text), next: 0, nodes: Vec::new() };
     let registers = parser.registers()?;
-    parser.node(Wanted::Root, 1)?;
+    parser.root()?;
     match parser.peek() {
         (Piece::End, _) => Ok(Listing { registers, nodes: parser.nodes }),
         (Piece::Close, position) => fault(position, "this `)` closes nothing"),
+        (piece, position) if parser.nodes.is_empty() => {
+            fault(position, format!("the text must end behind `()`, and not go on with {piece}"))
+        }
         (piece, position) => fault(position, format!("the tree has ended before {piece}")),
     }
 }
@@ -110,6 +115,12 @@ impl Parser {
         self.pieces[self.next].clone()
     }
 
+    /// Whether these pieces come next.
+    fn pieces_follow(&self, wanted: &[Piece]) -> bool {
+        let mut next = self.pieces[self.next..].iter();
+        wanted.iter().all(|piece| next.next().is_some_and(|(found, _)| found == piece))
+    }
+
     fn take(&mut self) -> (Piece, Position) {
         let piece = self.peek();
         if piece.0 != Piece::End {
@@ -152,6 +163,22 @@ impl Parser {
                 fault(position, format!("the text begins with `registers R`, not with {other}"))
             }
         }
+    }
+
+    /// The root's list, or `()`. Only what is written says that there is no routine: a
+    /// text that ends before it has a fault, which tells how that is written.
+    fn root(&mut self) -> Result<(), Fault> {
+        if self.pieces_follow(&[Piece::Open, Piece::Close]) {
+            self.next += 2;
+            return Ok(());
+        }
+        let ends = self.pieces_follow(&[Piece::End]);
+        self.node(Wanted::Root, 1).map_err(|mut fault| {
+            if ends {
+                fault.message += "; where there is no routine, write `()`";
+            }
+            fault
+        })
     }
 
     /// The row of the kind that a list begins with, past its parenthesis.
@@ -268,13 +295,9 @@ impl Parser {
 
     /// Whether a list of this sort comes next: any list, or one that begins with Formal.
     fn child_follows(&self, wanted: Wanted) -> bool {
-        let begins = self.pieces[self.next].0 == Piece::Open;
         match wanted {
-            Wanted::Formal => {
-                let formal = Piece::Word("Formal".to_string());
-                begins && self.pieces.get(self.next + 1).is_some_and(|next| next.0 == formal)
-            }
-            _ => begins,
+            Wanted::Formal => self.pieces_follow(&[Piece::Open, Piece::Word("Formal".to_string())]),
+            _ => self.pieces_follow(&[Piece::Open]),
         }
     }
 

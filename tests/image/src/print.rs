@@ -8,10 +8,13 @@ use second::tree::Routine;
 const WIDTH: usize = 80;
 
 /// `registers R`, then the tree: a node on one line if it fits, else its children
-/// each on a line of its own.
+/// each on a line of its own; or `()` where there is no routine.
 pub fn print(routine: &Routine) -> String {
     let mut text = format!("registers {}\n", routine.registers);
-    write(&mut text, Node::from(&routine.root), 0, 0);
+    match routine.root.node() {
+        Some(node) => write(&mut text, node, 0, 0),
+        None => text += "()",
+    }
     text.push('\n');
     text
 }

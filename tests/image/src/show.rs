@@ -11,6 +11,7 @@ use second::kinds::{MOST_REGISTERS, NAMES};
 use second::program::print_answer;
 use second::reader::Counts;
 use second::refusal::{self, Refusal, COUNTS, DEPTH, KIND, LENGTH, OPERAND, TREE, UNBOUND};
+use second::show::NO_ROUTINE;
 
 /// The tree in these bytes: an image, or an image with its starting values. The
 /// last line is the checker's answer; where that is a refusal, a line with its name
@@ -35,7 +36,7 @@ pub fn show(bytes: &[u8]) -> String {
             text += &match counts {
                 Ok(counts) => mark(LENGTH, &length_fault(counts, bytes.len())),
                 Err(_) => {
-                    let counts = format!("nodes are 1 to {MOST_NODES}");
+                    let counts = format!("nodes are 0 to {MOST_NODES}");
                     mark(COUNTS, &format!("{counts}, registers 0 to {MOST_REGISTERS}"))
                 }
             };
@@ -43,10 +44,13 @@ pub fn show(bytes: &[u8]) -> String {
         }
     };
     text.push('\n');
-    // Where n says nothing, the words that are there are halved.
+    // Where the counts say nothing, the words that are there are halved.
     let listed = &all[2..];
     let count = if counts.is_ok() { nodes as usize } else { listed.len() / 2 };
     let (kinds, operands) = listed.split_at(count.min(listed.len()));
+    if nodes == 0 && kinds.is_empty() {
+        return text + NO_ROUTINE + &answer_lines(answer);
+    }
     let shown = kinds.len().min(MOST_NODES as usize);
     let mut walk = Walk {
         kinds: &kinds[..shown],

@@ -133,6 +133,11 @@ pub fn declarations(mut all: Vec<Declaration>) -> Declaration {
     dseq(declarations(all), declarations(second))
 }
 
+/// No tree: a slot with no routine.
+pub fn absent() -> Root {
+    Root::Absent
+}
+
 impl From<Expression> for Root {
     fn from(root: Expression) -> Root {
         Root::Expression(root)

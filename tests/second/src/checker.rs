@@ -12,6 +12,7 @@ use crate::tree::*;
 pub enum Passed {
     /// The root is an expression of this code.
     Code(Code),
+    /// The root is a command, or there is no node.
     Command,
 }
 
@@ -35,6 +36,7 @@ pub fn judge(routine: &Routine) -> Result<Passed, Refusal> {
     match &routine.root {
         Root::Expression(root) => expression(&scope, root).map(Passed::Code),
         Root::Command(root) => command(&scope, root).map(|()| Passed::Command),
+        Root::Absent => Ok(Passed::Command),
     }
 }
 

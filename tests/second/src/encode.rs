@@ -4,11 +4,10 @@
 //! places noted in the tree are not looked at.
 
 use crate::kinds::by_kind;
-use crate::node::Node;
 use crate::tree::Routine;
 
 pub fn encode(routine: &Routine) -> Vec<u32> {
-    let nodes = Node::from(&routine.root).preorder();
+    let nodes = routine.root.preorder();
     let mut words = vec![nodes.len() as u32, routine.registers];
     words.extend(nodes.iter().map(|(node, _)| by_kind(node.kind()).number));
     words.extend(nodes.iter().map(|(node, _)| node.operand()));

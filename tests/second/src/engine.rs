@@ -19,6 +19,7 @@ pub const WORK_WORDS: usize = 8_192;
 pub enum Answer {
     /// The root is an expression of this code.
     Code(Code),
+    /// The root is a command, or there is no node.
     Command,
     Refused(Refusal),
 }
@@ -121,8 +122,8 @@ fn refused(refusal: Refusal, steps: u64) -> Reply {
     Reply { outcome: Outcome::Refused(refusal), steps }
 }
 
-/// The outcome of a run that ended normally: V is empty for a command, or holds
-/// the expression's one value.
+/// The outcome of a run that ended normally: V is empty for a command, and where
+/// there is no routine; else it holds the expression's one value.
 fn outcome(state: &State) -> Outcome {
     match state.values.as_slice() {
         [] => Outcome::None,

@@ -117,12 +117,19 @@ impl<'t> Node<'t> {
     }
 }
 
-impl<'t> From<&'t Root> for Node<'t> {
-    fn from(root: &'t Root) -> Node<'t> {
-        match root {
-            Root::Expression(node) => Node::Expression(node),
-            Root::Command(node) => node.into(),
+impl Root {
+    /// The root's node, if there is one.
+    pub fn node(&self) -> Option<Node<'_>> {
+        match self {
+            Root::Expression(node) => Some(Node::Expression(node)),
+            Root::Command(node) => Some(node.into()),
+            Root::Absent => None,
         }
+    }
+
+    /// Every node in preorder, each with its depth.
+    pub fn preorder(&self) -> Vec<(Node<'_>, u32)> {
+        self.node().map_or(Vec::new(), Node::preorder)
     }
 }
 

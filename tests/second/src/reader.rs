@@ -1,9 +1,9 @@
 //! Words to tree, or the refusal with its place (the paper's "The image").
 //!
 //! Order of the shape checks: fewer than 2 words (1); n or r (2); length other
-//! than 2 + 2n (1). Then each node in preorder: node missing (5), kind (3),
-//! wrong sort of child or root (5), operand (4), depth (6). Last, nodes left
-//! over (5).
+//! than 2 + 2n (1). With n 0 that is all. Otherwise each node in preorder: node
+//! missing (5), kind (3), wrong sort of child or root (5), operand (4), depth (6).
+//! Last, nodes left over (5).
 
 use crate::kinds::{by_number, Kind, Wanted, MOST_DEPTH, MOST_NODES, MOST_REGISTERS, NAMES};
 use crate::refusal::{self, Refusal};
@@ -17,9 +17,9 @@ pub struct Counts {
 }
 
 impl Counts {
-    /// n is 1 to 2,000 and r is 0 to 16, else 2.
+    /// n is 0 to 2,000 and r is 0 to 16, else 2.
     pub fn judge(nodes: u32, registers: u32) -> Result<Counts, Refusal> {
-        if !(1..=MOST_NODES).contains(&nodes) || registers > MOST_REGISTERS {
+        if nodes > MOST_NODES || registers > MOST_REGISTERS {
             return Err(Refusal::whole(refusal::COUNTS));
         }
         Ok(Counts { nodes, registers })
@@ -100,8 +100,11 @@ impl Reader<'_> {
         Ok(Head { place, kind: row.kind, operand })
     }
 
-    /// The root is an expression or a command, at depth 1.
+    /// The root is an expression or a command, at depth 1; with n 0 there is none.
     fn root(&mut self) -> Result<Root, Refusal> {
+        if self.kinds.is_empty() {
+            return Ok(Root::Absent);
+        }
         let head = self.head(Wanted::Root, 1)?;
         match head.kind {
             Kind::Assign | Kind::Loop | Kind::CSeq | Kind::Blk | Kind::Call => {

@@ -79,7 +79,7 @@ const fn whole(number: u32, name: &'static str, sentence: &'static str) -> Row {
 /// Every refusal, by number.
 pub const TABLE: [Row; 21] = [
     whole(LENGTH, "length", "the length does not fit the counts"),
-    whole(COUNTS, "counts", "n is not 1 to 2,000, or r is not 0 to 16"),
+    whole(COUNTS, "counts", "n is above 2,000, or r is above 16"),
     at_node(KIND, "kind", "no such kind of node"),
     at_node(OPERAND, "operand", "the kind does not take this operand"),
     at_node(TREE, "tree", "a node of another sort, missing or left over"),

@@ -5,10 +5,17 @@ use crate::kinds::{by_kind, Kind, NAMES};
 use crate::node::Node;
 use crate::tree::Routine;
 
+/// What stands in place of the nodes where there are none.
+pub const NO_ROUTINE: &str = "   - no routine\n";
+
 /// The registers, then each node with its place, indented by its depth.
 pub fn show(routine: &Routine) -> String {
     let mut text = format!("registers {}\n", routine.registers);
-    for (node, depth) in Node::from(&routine.root).preorder() {
+    let nodes = routine.root.preorder();
+    if nodes.is_empty() {
+        text += NO_ROUTINE;
+    }
+    for (node, depth) in nodes {
         let indent = "  ".repeat(depth as usize - 1);
         text += &format!("{:>4} {indent}{}\n", node.place(), label(node));
     }

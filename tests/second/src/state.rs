@@ -78,7 +78,7 @@ pub struct State<'t> {
 
 impl<'t> State<'t> {
     /// The start: the root on control, V empty, registers at cells 0 to r − 1,
-    /// L empty.
+    /// L empty. With no root control is empty, and the run has ended.
     pub fn start(routine: &'t Routine, starts: &[i64]) -> State<'t> {
         assert_eq!(starts.len(), routine.registers as usize, "one start a register");
         let store = Store::of_registers(starts);
@@ -88,7 +88,7 @@ impl<'t> State<'t> {
             environment = environment.with((name as Name, bound));
         }
         State {
-            control: vec![ControlEntry::Node(Node::from(&routine.root))],
+            control: routine.root.node().into_iter().map(ControlEntry::Node).collect(),
             values: Vec::new(),
             environment,
             store,

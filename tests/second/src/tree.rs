@@ -23,6 +23,9 @@ pub struct Routine {
 pub enum Root {
     Expression(Expression),
     Command(Command),
+    /// There is no node, as in a slot with no routine: a command with no rule to
+    /// apply.
+    Absent,
 }
 
 #[derive(Clone, Debug, PartialEq, Eq)]

@@ -10,12 +10,13 @@ use lib.IntN.{ℤ, pos}
 use lib.ListN.{length, getD, take, drop}
 use lib.Seq.{getD-take}
 use Rattle.rules.specs.proofs.Basics.{true-test}
-use Rattle.rules.specs.paper.Tree.{Root, expression, command}
+use Rattle.rules.specs.paper.Tree.{Root, expression, command, absent}
 use Rattle.rules.specs.paper.States.{value, location, bound}
-use Rattle.rules.specs.paper.Engine.{register-environment, register-store, root-item, start}
+use Rattle.rules.specs.paper.Engine.{register-environment, register-store, root-control, start}
 use Rattle.rules.specs.paper.Limits.{most-nodes, most-bindings, work-words}
 use Rattle.machine.specs.Layout.{row-labels, row-payloads, cell-payloads, cell-labels, link}
-use Rattle.reader.specs.Stored.{StoredRoot, root-expression, root-command, RootAt}
+use Rattle.reader.specs.Stored.{StoredRoot, root-expression, root-command, root-absent, RootAt}
+use Rattle.reader.specs.StandingLaws.{absent-root}
 use Rattle.reader.specs.StoredLaws.{same-expression, same-command}
 use Rattle.integers.specs.Words.{integer-of, integers-of}
 use Rattle.integers.specs.WordLaws.{integers-at}
@@ -115,7 +116,7 @@ module _ (before registers words named after : List ℕ) (m r s : Machine) (i : 
         same-size = ap (λ κ. κ .size) all ∙ so-far .same-size;
       }
 
--- ---- The root on control.
+-- ---- The root on control; with no node control is empty.
 
 abbrev pub ready : ℕ → Machine
 ready i = record { control = 0; values = 0; environment = i; declared = i; cells = i; base = i; bindings = i }
@@ -125,53 +126,67 @@ ready-fits before registers words m i so-far =
     let f = subst (Fits words) (so-far .machine-is) (so-far .fits) in
     record { room = f .room; few-control = omega arith; few-values = omega arith; few-bindings = f .few-bindings; few-cells = f .few-cells }
 
-root-on : (nodes : List ℕ) (t : Root) {d j : ℕ} → StoredRoot nodes d 0 j t → ControlAs nodes (running []) (0 ∷ []) (root-item t ∷ [])
-root-on nodes (expression e) (root-expression h) = expression-on h nothing-left
-root-on nodes (command c) (root-command h) = command-on h nothing-left
+root-on : (nodes : List ℕ) (t : Root) {d j : ℕ} → (j ≡ 0 → ⊥) → StoredRoot nodes d 0 j t → ControlAs nodes (running []) (0 ∷ []) (root-control t)
+root-on nodes (expression e) any (root-expression h) = expression-on h nothing-left
+root-on nodes (command c) any (root-command h) = command-on h nothing-left
+root-on nodes absent any root-absent = absurd (any refl)
 
 in-nodes : (before : List ℕ) (t : Root) {d j : ℕ} → StoredRoot before d 0 j t → StoredRoot (take most-nodes before) d 0 j t
 in-nodes before (expression e) (root-expression h) = root-expression (same-expression before (take most-nodes before) (λ i l. getD-take most-nodes before i 0 l) h)
 in-nodes before (command c) (root-command h) = root-command (same-command before (take most-nodes before) (λ i l. getD-take most-nodes before i 0 l) h)
+in-nodes before absent root-absent = root-absent
 
-module _ (before registers words after : List ℕ) (m r : Machine) (i : ℕ) (so-far : RegistersSet before registers words m i) (all-set : i ≡ length registers)
-    (control-is : r ≡ raised-control (ready i)) (control-are : regions after (raised-control (ready i)) ≡ with-control 0 (regions words (ready i))) (t : Root) (stands : RootAt before t) where
-  regions-ready : regions words (ready i) ≡
-      record { nodes = take most-nodes before; control = []; values = []; rows = regions words (with-registers i) .rows; cells = regions words (with-registers i) .cells; environment = i; declared = i; base = i; beyond = drop work-words before; size = length before }
-  unfolding regions stack slots
+module _ (before registers words : List ℕ) (m : Machine) (i : ℕ) (so-far : RegistersSet before registers words m i) (all-set : i ≡ length registers) where
+  -- The regions at the start, with these entries on control.
+  start-regions : (entries : List ℕ) → Regions
+  start-regions entries =
+      record { nodes = take most-nodes before; control = entries; values = []; rows = regions words (with-registers i) .rows; cells = regions words (with-registers i) .cells; environment = i; declared = i; base = i; beyond = drop work-words before; size = length before }
+
+  regions-ready : regions words (ready i) ≡ start-regions []
+  unfolding regions stack slots start-regions
   regions-ready =
       let same = subst (λ k. RegistersSet before registers words k i) (so-far .machine-is) so-far in
       rw (same .same-nodes, same .same-beyond, same .same-size)
 
-  whole : regions after r ≡
-      record { nodes = take most-nodes before; control = 0 ∷ []; values = []; rows = regions words (with-registers i) .rows; cells = regions words (with-registers i) .cells; environment = i; declared = i; base = i; beyond = drop work-words before; size = length before }
-  whole = ap (regions after) control-is ∙ control-are ∙ ap (with-control 0) regions-ready
+  module _ (after : List ℕ) (r : Machine) (entries : List ℕ) (t : Root) (whole : regions after r ≡ start-regions entries) (fits : Fits after r)
+      (on-control : ControlAs (take most-nodes before) (running []) entries (root-control t)) where
+    models : Models (start-regions entries) (root-control t) [] (register-environment i) (register-store i (integers-of registers)) [] i
+    unfolding start-regions
+    models =
+        let same = subst (λ k. RegistersSet before registers words k i) (so-far .machine-is) so-far in
+        record {
+          mode = running [];
+          control-as = on-control;
+          values-as = nothing-on;
+          environment-as = same .names-as (take most-nodes before);
+          store-as = same .cells-as;
+          locations-as = subst (λ k. Since i k []) (sym (cells-height words (with-registers i))) none-since;
+          bindings-as = sym (rows-height words (with-registers i));
+        }
 
-  models : Models
-      (record { nodes = take most-nodes before; control = 0 ∷ []; values = []; rows = regions words (with-registers i) .rows; cells = regions words (with-registers i) .cells; environment = i; declared = i; base = i; beyond = drop work-words before; size = length before })
-      (root-item t ∷ []) [] (register-environment i) (register-store i (integers-of registers)) [] i
-  models =
-      let same = subst (λ k. RegistersSet before registers words k i) (so-far .machine-is) so-far in
-      record {
-        mode = running [];
-        control-as = root-on (take most-nodes before) t (in-nodes before t (stands .stored));
-        values-as = nothing-on;
-        environment-as = same .names-as (take most-nodes before);
-        store-as = same .cells-as;
-        locations-as = subst (λ k. Since i k []) (sym (cells-height words (with-registers i))) none-since;
-        bindings-as = sym (rows-height words (with-registers i));
-      }
+    holds : Holds after r (start i t (integers-of registers))
+    unfolding start
+    holds =
+        record { fits = fits; models = subst (λ κ. Models κ (root-control t) [] (register-environment i) (register-store i (integers-of registers)) [] i) (sym whole) models }
 
-  holds : Holds after r (start i t (integers-of registers))
-  unfolding start
-  holds =
-      record {
-        fits = subst (Fits after) (sym control-is) (fits-still words after (ready i) (raised-control (ready i)) (ready-fits before registers words m i so-far) (ap (λ κ. κ .size) control-are) (omega arith) (omega arith) (ready-fits before registers words m i so-far .few-bindings) (ready-fits before registers words m i so-far .few-cells));
-        models = subst (λ κ. Models κ (root-item t ∷ []) [] (register-environment i) (register-store i (integers-of registers)) [] i) (sym whole) models;
-      }
+    kept : Untouched before after
+    unfolding regions start-regions
+    kept = record { same-nodes = ap (λ κ. κ .nodes) whole; same-beyond = ap (λ κ. κ .beyond) whole; same-length = ap (λ κ. κ .size) whole }
 
-  kept : Untouched before after
-  unfolding regions
-  kept = record { same-nodes = ap (λ κ. κ .nodes) whole; same-beyond = ap (λ κ. κ .beyond) whole; same-length = ap (λ κ. κ .size) whole }
+    starts : StartsAt t registers r before after
+    starts = record { holds = subst (λ k. Holds after r (start k t (integers-of registers))) all-set holds; untouched = kept }
 
-  pub started : StartsAt t registers r before after
-  started = record { holds = subst (λ k. Holds after r (start k t (integers-of registers))) all-set holds; untouched = kept }
+  pub absent-started : (count : ℕ) → count ≡ 0 → (t : Root) → RootAt before count t → StartsAt t registers (ready i) before words
+  absent-started count none t stands =
+      subst (λ u. StartsAt u registers (ready i) before words) (sym (absent-root none stands))
+      (starts words (ready i) [] absent regions-ready (ready-fits before registers words m i so-far) nothing-left)
+
+  pub root-started : (after : List ℕ) (r : Machine) → r ≡ raised-control (ready i) → regions after (raised-control (ready i)) ≡ with-control 0 (regions words (ready i)) →
+      (count : ℕ) → (count ≡ 0 → ⊥) → (t : Root) → RootAt before count t → StartsAt t registers r before after
+  unfolding start-regions
+  root-started after r control-is control-are count any t stands =
+      let f = ready-fits before registers words m i so-far in
+      starts after r (0 ∷ []) t
+      (ap (regions after) control-is ∙ control-are ∙ ap (with-control 0) regions-ready)
+      (subst (Fits after) (sym control-is) (fits-still words after (ready i) (raised-control (ready i)) f (ap (λ κ. κ .size) control-are) (omega arith) (omega arith) (f .few-bindings) (f .few-cells)))
+      (root-on (take most-nodes before) t any (in-nodes before t (stands .stored)))

@@ -1,5 +1,5 @@
 -- `read_image` answers what the rules' reader reads of the image. In a need's answer, `start` is where the function begins, `long` the test
--- for two words, `size` the test of the image's length, `root` the call of read_node, `arm` the arm of the match.
+-- for two words, `size` the test of the image's length, `some` the test for a node, `root` the call of read_node, `arm` the arm of the match.
 use Prim.Native.Nat.{_≤_}
 use mathlib.Core.Path.{_≡_, sym, _∙_}
 use mathlib.Core.Bool.{true}
@@ -10,7 +10,7 @@ use lib.ListN.{getD}
 use Rattle.rules.specs.paper.Limits.{most-nodes}
 use Rattle.rules.specs.paper.Reader.{size-fits}
 use Rattle.reader.specs.SizeLaws.{few-nodes}
-use Rattle.reader.proofs.ImageLaws.{short, refuse-size, refuse-length, whole-image, left-over, refused-image}
+use Rattle.reader.proofs.ImageLaws.{short, refuse-size, refuse-length, absent-image, whole-image, left-over, refused-image}
 use borrow.Author.Needs.{needs}
 use Rattle.reader.proofs.read_image.Statement.{statement}
 use Rattle.reader.proofs.read_image.Tie as tie
@@ -67,9 +67,16 @@ returns-3 c =
     let start = long .before .before .before in
     refuse-length (now (start .args .image)) (now (start .args .work)) (long .if1 .left) (sized (c .before)) (c .if3 .taken)
 
+returns-4 : tie.Need-returns-4
+returns-4 c =
+    let size = c .before in
+    let long = size .before .before .before .before .before in
+    let start = long .before .before .before in
+    absent-image (now (start .args .image)) (now (start .args .work)) (long .if1 .left) (sized (size .before)) (size .if3 .left) (c .if4 .taken)
+
 read-node-requires : tie.Need-read-node-requires
 read-node-requires c κs =
-    let at-most = few (c .before .before) in search needs
+    let at-most = few (c .before .before .before) in search needs
 
 enum-known-root : tie.Need-enum-known-root
 enum-known-root c = search needs
@@ -80,43 +87,46 @@ enum-known-root-2 c = search needs
 same-length : tie.Need-same-length
 same-length c = search needs
 
-returns-4 : tie.Need-returns-4
-returns-4 c =
-    let arm = c .before .before in
-    let root = arm .before .before .before .before in
-    let size = root .before .before in
-    let long = size .before .before .before .before .before in
-    let start = long .before .before .before in
-    whole-image (now (start .args .image)) (now (start .args .work)) (root .read-node .last .0) (root .read-node .result)
-    (long .if1 .left) (sized (size .before)) (size .if3 .left)
-    (arm .root .given .0 .0) (arm .root .given .1) (c .if4 .taken) (root .read-node .ensures)
-
-same-length-2 : tie.Need-same-length-2
-same-length-2 c = search needs
-
 returns-5 : tie.Need-returns-5
 returns-5 c =
     let arm = c .before .before in
     let root = arm .before .before .before .before in
-    let size = root .before .before in
+    let some = root .before .before in
+    let size = some .before in
+    let long = size .before .before .before .before .before in
+    let start = long .before .before .before in
+    whole-image (now (start .args .image)) (now (start .args .work)) (root .read-node .last .0) (root .read-node .result)
+    (long .if1 .left) (sized (size .before)) (size .if3 .left) (some .if4 .left)
+    (arm .root .given .0 .0) (arm .root .given .1) (c .if5 .taken) (root .read-node .ensures)
+
+same-length-2 : tie.Need-same-length-2
+same-length-2 c = search needs
+
+returns-6 : tie.Need-returns-6
+returns-6 c =
+    let arm = c .before .before in
+    let root = arm .before .before .before .before in
+    let some = root .before .before in
+    let size = some .before in
     let long = size .before .before .before .before .before in
     let start = long .before .before .before in
     left-over (now (start .args .image)) (now (start .args .work)) (root .read-node .last .0) (root .read-node .result)
-    (long .if1 .left) (sized (size .before)) (size .if3 .left)
-    (arm .root .given .0 .0) (arm .root .given .1) (c .if4 .left) (root .read-node .ensures)
+    (long .if1 .left) (sized (size .before)) (size .if3 .left) (some .if4 .left)
+    (arm .root .given .0 .0) (arm .root .given .1) (c .if5 .left) (root .read-node .ensures)
 
 same-length-3 : tie.Need-same-length-3
 same-length-3 c = search needs
 
-returns-6 : tie.Need-returns-6
-returns-6 c =
+returns-7 : tie.Need-returns-7
+returns-7 c =
     let arm = c .before in
     let root = arm .before .before .before .before in
-    let size = root .before .before in
+    let some = root .before .before in
+    let size = some .before in
     let long = size .before .before .before .before .before in
     let start = long .before .before .before in
     refused-image (now (start .args .image)) (now (start .args .work)) (root .read-node .last .0) (root .read-node .result)
-    (long .if1 .left) (sized (size .before)) (size .if3 .left)
+    (long .if1 .left) (sized (size .before)) (size .if3 .left) (some .if4 .left)
     (arm .root2 .given .0 .0) (arm .root2 .given .0 .1 .0) (arm .root2 .given .1) (root .read-node .ensures)
 
 pub read-image-spec : {M : Type 1} → statement M
@@ -133,12 +143,13 @@ read-image-spec =
     mul-if3
     add-if3
     returns-3
+    returns-4
     read-node-requires
     enum-known-root
     enum-known-root-2
     same-length
-    returns-4
-    same-length-2
     returns-5
+    same-length-2
+    returns-6
     same-length-3
-    returns-6)
+    returns-7)

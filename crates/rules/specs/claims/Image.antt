@@ -18,7 +18,7 @@ use Rattle.rules.specs.claims.Typing.{RootOk}
 pub record IsImage (ws : List ℕ) (r : ℕ) (t : Root) : Type 0 where
   -- n, r and the preorder listing: kinds, then operands
   pub words : ws ≡ image-words r t
-  -- n is 1 to 2,000 (a tree has a node), r is 0 to 16
+  -- n is at most 2,000 (0 where the root is absent), r at most 16
   pub size : length (root-nodes t) ≤ most-nodes
   pub registers : r ≤ most-registers
   -- places, names, counts, codes and depth (Shape.antt)

@@ -3,7 +3,7 @@ use Prim.Native.Nat.{ℕ, zero, suc, _+_, _*_}
 use mathlib.Core.Bool.{Bool, true, false}
 use mathlib.Core.List.{List, [], _∷_, _++_}
 use lib.ListN.{length}
-use Rattle.rules.specs.paper.Tree.{Expression, Num, Boo, Id, DeRef, ValRef, Binary, Not, Formal, Command, Assign, Loop, CSeq, block, Call, Block, Blk, Declaration, Bind, DSeq, Bound, plain, Ref, Abs, Root, expression, command}
+use Rattle.rules.specs.paper.Tree.{Expression, Num, Boo, Id, DeRef, ValRef, Binary, Not, Formal, Command, Assign, Loop, CSeq, block, Call, Block, Blk, Declaration, Bind, DSeq, Bound, plain, Ref, Abs, Root, expression, command, absent}
 use Rattle.rules.specs.paper.Limits.{names}
 use Rattle.rules.specs.paper.Kinds.{Kind, num, boo, id, deref, valref, binary, negation, assign, loop, cseq, blk, call, bind, dseq, expression-kind, command-kind, declaration-kind, ref, abs, formal, kind-number}
 use Rattle.rules.specs.paper.Reader.{Node}
@@ -59,6 +59,7 @@ unfoldable mutual
 unfoldable pub root-nodes : Root → List Node
 root-nodes (expression e) = expression-nodes e
 root-nodes (command c) = command-nodes c
+root-nodes absent = []
 
 -- The two parallel arrays: kinds, then operands.
 unfoldable pub kind-words : List Node → List ℕ

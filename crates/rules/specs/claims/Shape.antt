@@ -6,7 +6,7 @@ use mathlib.Core.Path.{_≡_}
 use mathlib.Core.Bool.{Bool}
 use mathlib.Core.List.{List, [], _∷_}
 use lib.ListN.{length}
-use Rattle.rules.specs.paper.Tree.{Operator, Expression, Num, Boo, Id, DeRef, ValRef, Binary, Not, Formal, Command, Assign, Loop, CSeq, block, Call, Block, Blk, Declaration, Bind, DSeq, Bound, plain, Ref, Abs, Root, expression, command}
+use Rattle.rules.specs.paper.Tree.{Operator, Expression, Num, Boo, Id, DeRef, ValRef, Binary, Not, Formal, Command, Assign, Loop, CSeq, block, Call, Block, Blk, Declaration, Bind, DSeq, Bound, plain, Ref, Abs, Root, expression, command, absent}
 use Rattle.rules.specs.paper.Limits.{words, names, codes, most-parameters}
 
 pub data ShapedExpression : (depth place next : ℕ) → Expression → Type 0 where
@@ -52,3 +52,5 @@ mutual
 pub data ShapedRoot : (depth place next : ℕ) → Root → Type 0 where
   root-expression : {d i j : ℕ} {e : Expression} → ShapedExpression d i j e → ShapedRoot d i j (expression e)
   root-command : {d i j : ℕ} {c : Command} → ShapedCommand d i j c → ShapedRoot d i j (command c)
+  -- no node
+  root-absent : {d i : ℕ} → ShapedRoot d i i absent

@@ -5,7 +5,7 @@ use mathlib.Core.Path.{_≡_}
 use mathlib.Core.Bool.{Bool}
 use mathlib.Core.List.{List, [], _∷_, _++_}
 use mathlib.Core.Option.{Option, none, some}
-use Rattle.rules.specs.paper.Tree.{Arithmetic, Order, Logic, Operator, arithmetic, Eq, order, logic, Expression, Num, Boo, Id, DeRef, ValRef, Binary, Not, Formal, Command, Assign, Loop, CSeq, block, Call, Block, Blk, Declaration, Bind, DSeq, Bound, plain, Ref, Abs, Root, expression, command}
+use Rattle.rules.specs.paper.Tree.{Arithmetic, Order, Logic, Operator, arithmetic, Eq, order, logic, Expression, Num, Boo, Id, DeRef, ValRef, Binary, Not, Formal, Command, Assign, Loop, CSeq, block, Call, Block, Blk, Declaration, Bind, DSeq, Bound, plain, Ref, Abs, Root, expression, command, absent}
 use Rattle.rules.specs.paper.Limits.{plain-codes}
 use Rattle.rules.specs.paper.Checker.{Meaning, code, function, Named, Scope, meaning-of, with-formals, Passed, expression-of-code, a-command}
 
@@ -82,3 +82,5 @@ mutual
 pub data RootOk (Γ : Scope) : Root → Passed → Type 0 where
   root-expression : {e : Expression} {c : ℕ} → HasCode Γ e c → RootOk Γ (expression e) (expression-of-code c)
   root-command : {c : Command} → CommandOk Γ c → RootOk Γ (command c) a-command
+  -- A slot with no routine is a command with no rule to apply.
+  root-absent : RootOk Γ absent a-command

@@ -6,7 +6,7 @@ use mathlib.Core.Bool.{Bool, true, false, cond, _||_}
 use mathlib.Core.List.{List, [], _∷_, _++_}
 use mathlib.Core.Option.{Option, none, some}
 use lib.Dec.{eqb, ltb}
-use Rattle.rules.specs.paper.Tree.{Operator, arithmetic, Eq, order, logic, Expression, Num, Boo, Id, DeRef, ValRef, Binary, Not, Formal, Command, Assign, Loop, CSeq, block, Call, Block, Blk, Declaration, Bind, DSeq, Bound, plain, Ref, Abs, Root, expression, command}
+use Rattle.rules.specs.paper.Tree.{Operator, arithmetic, Eq, order, logic, Expression, Num, Boo, Id, DeRef, ValRef, Binary, Not, Formal, Command, Assign, Loop, CSeq, block, Call, Block, Blk, Declaration, Bind, DSeq, Bound, plain, Ref, Abs, Root, expression, command, absent}
 use Rattle.rules.specs.paper.Limits.{plain-codes}
 use Rattle.rules.specs.paper.Refusals.{Refusal, Unbound, Mistyped, Repeated, NotAssignable, BadCall}
 
@@ -228,3 +228,4 @@ pub data Passed : Type 0 where
 unfoldable pub root-is : Scope → Root → Judged Passed
 root-is Γ (expression e) = expression-code Γ e >>= λ c. fine (expression-of-code c)
 root-is Γ (command c) = command-ok Γ c >>= λ done. fine a-command
+root-is Γ absent = fine a-command

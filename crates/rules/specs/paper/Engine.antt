@@ -34,10 +34,11 @@ check-reading (image r t) = checked r t (root-is (register-scope r) t)
 unfoldable pub check-image : List ℕ → Checked
 check-image ws = check-reading (read ws)
 
--- Start: the root on control, V empty, registers at cells 0 to r − 1, L empty.
-abbrev pub root-item : Root → Item
-root-item (Tree.expression e) = expression e
-root-item (Tree.command c) = command c
+-- Start: the root on control, V empty, registers at cells 0 to r − 1, L empty. With no root control is empty.
+abbrev pub root-control : Root → List Item
+root-control (Tree.expression e) = expression e ∷ []
+root-control (Tree.command c) = command c ∷ []
+root-control Tree.absent = []
 
 unfoldable pub register-environment : ℕ → Environment
 register-environment zero = empty
@@ -48,7 +49,7 @@ register-store zero zs = []
 register-store (suc r) zs = record { where-at = r; contents = integer (getD zs r (pos 0)) } ∷ register-store r zs
 
 unfoldable pub start : ℕ → Root → List ℤ → State
-start r t zs = state (root-item t ∷ []) [] (register-environment r) (register-store r zs) [] r
+start r t zs = state (root-control t) [] (register-environment r) (register-store r zs) [] r
 
 -- The outcome of a run that ends: the value that is left, or none after a command.
 pub data Outcome : Type 0 where

@@ -5,9 +5,9 @@ use Prim.Native.Nat.{ℕ, zero, suc, _+_, _*_, _%_}
 use mathlib.Core.Bool.{Bool, true, false, cond, _&&_}
 use mathlib.Core.List.{List, [], _∷_}
 use mathlib.Core.Option.{Option, none, some}
-use lib.Dec.{eqb, leb, ltb}
+use lib.Dec.{eqb, leb}
 use lib.ListN.{length, take, drop}
-use Rattle.rules.specs.paper.Tree.{Expression, Num, Boo, Id, DeRef, ValRef, Binary, Not, Formal, Command, Assign, Loop, CSeq, block, Call, Block, Blk, Declaration, Bind, DSeq, Bound, plain, Ref, Abs, Root, expression, command}
+use Rattle.rules.specs.paper.Tree.{Expression, Num, Boo, Id, DeRef, ValRef, Binary, Not, Formal, Command, Assign, Loop, CSeq, block, Call, Block, Blk, Declaration, Bind, DSeq, Bound, plain, Ref, Abs, Root, expression, command, absent}
 use Rattle.rules.specs.paper.Refusals.{Refusal}
 use Rattle.rules.specs.paper.Refusals as Refusals
 use Rattle.rules.specs.paper.Limits.{names, most-nodes, most-registers, most-depth}
@@ -225,6 +225,11 @@ read-root (suc d) =
     node wants-root >>= λ h.
     root-by (h .kind) (h .place) (h .operand) (read-expression d) (read-command d) (read-declaration d)
 
+-- All nodes of an image: with none of them the root is absent.
+abbrev pub read-routine : List Node → Got Root
+read-routine [] = got absent 0 []
+read-routine (n ∷ ns) = read-root most-depth 0 (n ∷ ns)
+
 -- The two parallel arrays of n words, as n nodes.
 unfoldable pub nodes-of : (kinds operands : List ℕ) → List Node
 nodes-of [] ws = []
@@ -242,15 +247,15 @@ whole r (refused x p) = bad x p
 whole r (got t i []) = image r t
 whole r (got t i (n ∷ ns)) = bad Refusals.Tree i
 
--- n is 1 to 2,000 and r is 0 to 16.
+-- n is at most 2,000 and r at most 16.
 abbrev pub size-fits : (n r : ℕ) → Bool
-size-fits n r = ltb 0 n && leb n most-nodes && leb r most-registers
+size-fits n r = leb n most-nodes && leb r most-registers
 
 -- Order of the shape checks: fewer than 2 words (1); n or r (2); length other than 2 + 2n (1); then the nodes.
 unfoldable pub read : List ℕ → Reading
 read [] = bad Refusals.Length 0
 read (n ∷ []) = bad Refusals.Length 0
 read (n ∷ r ∷ ws) =
-    let nodes = whole r (read-root most-depth 0 (nodes-of (take n ws) (drop n ws))) in
+    let nodes = whole r (read-routine (nodes-of (take n ws) (drop n ws))) in
     let sized = cond (eqb (length ws) (2 * n)) nodes (bad Refusals.Length 0) in
     cond (size-fits n r) sized (bad Refusals.Size 0)

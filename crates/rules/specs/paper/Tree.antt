@@ -60,7 +60,8 @@ mutual
     Ref : (place : ℕ) → Expression → Bound
     Abs : (place : ℕ) → List Formal → Block → Bound
 
--- The root is an expression or a command.
+-- The root is an expression or a command; a slot with no routine has none.
 pub data Root : Type 0 where
   expression : Expression → Root
   command : Command → Root
+  absent : Root

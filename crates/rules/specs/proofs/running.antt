@@ -11,3 +11,4 @@ pub mod FrameSteps
 pub mod Judging
 pub mod WholeRun
 pub mod RunEnds
+pub mod NoRoutine

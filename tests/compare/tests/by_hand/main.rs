@@ -17,6 +17,8 @@ mod calls;
 mod cases;
 #[path = "../../../second/tests/suite/limits.rs"]
 mod limits;
+#[path = "../../../second/tests/suite/no_routine.rs"]
+mod no_routine;
 #[path = "../../../second/tests/suite/shape.rs"]
 mod shape;
 #[path = "../../../second/tests/suite/types.rs"]

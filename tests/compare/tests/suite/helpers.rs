@@ -125,6 +125,14 @@ pub fn gathered(values: impl IntoIterator<Item = i64>) -> i64 {
     values.into_iter().fold(0, |total, value| 3 * total + value)
 }
 
+/// The first words of an image with n 0 and this r, so many of them; behind r this word
+/// stands, as often as it takes.
+pub fn without_nodes(registers: u32, count: usize, behind: u32) -> Vec<u32> {
+    let mut words = vec![0, registers];
+    words.resize(count, behind);
+    words
+}
+
 /// A call with the greatest budget and work words enough.
 pub fn with_starts(image: Vec<u32>, starts: &[i64]) -> Case {
     Case { image, registers: starts.to_vec(), budget: MOST_BUDGET, work_length: WORK_WORDS }

@@ -18,6 +18,43 @@ fn make_show_text_and_find() {
     assert_eq!(said(&["find", "-", "4"], DOUBLE.as_bytes()), b"-:2:28\n");
 }
 
+/// A slot with no routine goes through every command.
+#[test]
+fn no_routine() {
+    let text = "registers 2\n()\n";
+    let input = said(&["make", "-", "-5", "6"], text.as_bytes());
+    assert_eq!(input, program_input(&[0, 2], &[-5, 6]));
+    assert_eq!(
+        text_said(&["show", "-"], &input),
+        "nodes 0, registers 2
+register 0 starts at -5
+register 1 starts at 6
+   - no routine
+command
+"
+    );
+    assert_eq!(text_said(&["text", "-"], &input), text);
+    assert_eq!(text_said(&["text", "-"], &bytes_of(&[0, 2])), text);
+    assert_eq!(said(&["make", "-"], b"registers 0 ()"), bytes_of(&[0, 0]));
+    assert_eq!(text_said(&["find", "-"], text.as_bytes()), "-: passes as a command (no routine)\n");
+    let no_node = |number: &str| {
+        let message = format!("standard input has no routine, so it has no node {number}");
+        wrong(&["find", "-", number], text.as_bytes(), &message);
+    };
+    no_node("0");
+    no_node("x");
+    let hint = "where there is no routine, write `()`";
+    let ends = "an expression or a command must stand here, not the end of the text";
+    wrong(&["make", "-"], b"registers 2\n", &format!("-:2:1: {ends}; {hint}"));
+    let length = "1 length: the length does not fit the counts";
+    let shows = "`image show -` shows what there is";
+    let behind = bytes_of(&[0, 2, 1]);
+    wrong(&["text", "-"], &behind, &format!("-: refused 1 at 0 ({length}); {shows}"));
+    let counts = "2 counts: n is above 2,000, or r is above 16";
+    let many = bytes_of(&[0, 17]);
+    wrong(&["text", "-"], &many, &format!("-: refused 2 at 0 ({counts}); {shows}"));
+}
+
 /// An image without its starting values is shown like any other.
 #[test]
 fn show_needs_no_starting_values() {
@@ -60,7 +97,8 @@ fn codes_in_words() {
 #[test]
 fn refusals_prints_the_table() {
     let lines = text_said(&["refusals"], &[]);
-    assert!(lines.starts_with("1 length: the length does not fit the counts\n2 counts: n is "));
+    let first = "1 length: the length does not fit the counts\n";
+    assert!(lines.starts_with(&format!("{first}2 counts: n is above 2,000, or r is above 16\n")));
     assert!(lines.contains("\n13 not assignable: the name cannot be set\n"));
     assert!(lines.ends_with("\n36 control: a 513th entry would be on the control stack\n"));
     assert_eq!(lines.lines().count(), second::refusal::TABLE.len());

@@ -27,12 +27,8 @@ fn kinds_and_sorts() {
     let said = |tree: &str| fault(&format!("registers 1\n{tree}"));
     assert_eq!(said("(Add (Num 1) (Num 2))"), "2:2: `Add` is no kind of node");
     assert_eq!(said("(sum (Num 1) (Num 2))"), "2:2: `sum` is no kind of node; Sum is");
-    assert_eq!(said("()"), "2:2: a kind of node must stand here, not `)`");
+    assert_eq!(said("(Not ())"), "2:7: a kind of node must stand here, not `)`");
     assert_eq!(said("5"), "2:1: an expression or a command must stand here, not `5`");
-    assert_eq!(
-        said(""),
-        "2:1: an expression or a command must stand here, not the end of the text"
-    );
     assert_eq!(
         said("(Bind 1 (Num 1))"),
         "2:1: an expression or a command must stand here, not Bind"
@@ -50,6 +46,35 @@ fn kinds_and_sorts() {
     assert_eq!(
         said("(Blk (Bind 1 (Abs (Num 1))) (Call 1))"),
         "2:19: a Blk must stand here, not Num"
+    );
+}
+
+/// A slot with no routine is written `()`; a routine that is forgotten is a fault, and so
+/// is `()` anywhere else.
+#[test]
+fn no_routine() {
+    let said = |tree: &str| fault(&format!("registers 1\n{tree}"));
+    let ends = "an expression or a command must stand here, not the end of the text";
+    let hint = "; where there is no routine, write `()`";
+    assert_eq!(said(""), format!("2:1: {ends}{hint}"));
+    assert_eq!(said("; (Num 1)\n"), format!("3:1: {ends}{hint}"));
+    assert_eq!(fault("registers 1"), format!("1:12: {ends}{hint}"));
+    assert_eq!(said("("), "2:2: a kind of node must stand here, not the end of the text");
+    assert_eq!(said(")"), "2:1: an expression or a command must stand here, not `)`");
+    let behind = "the text must end behind `()`, and not go on with";
+    assert_eq!(said("() ()"), format!("2:4: {behind} `(`"));
+    assert_eq!(said("()\n(Num 1)"), format!("3:1: {behind} `(`"));
+    assert_eq!(said("() 5"), format!("2:4: {behind} `5`"));
+    assert_eq!(said("())"), "2:3: this `)` closes nothing");
+    let kind = "a kind of node must stand here, not";
+    assert_eq!(said("(()"), format!("2:2: {kind} `(`"));
+    assert_eq!(said("(Assign 0 ())"), format!("2:12: {kind} `)`"));
+    assert_eq!(said("(CSeq (Assign 0 (Num 1)) ())"), format!("2:27: {kind} `)`"));
+    assert_eq!(said("(Blk () (Assign 0 (Num 1)))"), format!("2:7: {kind} `)`"));
+    assert_eq!(said("(Call 1 ())"), format!("2:10: {kind} `)`"));
+    assert_eq!(
+        fault("registers 17 ()"),
+        "1:11: the count of registers must stand here, 0 to 16, not `17`"
     );
 }
 

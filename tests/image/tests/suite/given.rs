@@ -37,6 +37,10 @@ fn missing_starting_values() {
     );
     assert_eq!(status, 0);
 
+    let (output, error, status) = run(&["make", "-"], b"registers 1 ()");
+    assert_eq!((output, status), (bytes_of(&[0, 1]), 0));
+    assert!(error.contains("1 register and no starting value was given"), "{error}");
+
     assert_eq!(said(&["make", "-"], b"registers 0 (Num 1)"), bytes_of(&image(0, num(1))));
 }
 
@@ -78,7 +82,13 @@ fn wrong_counts_of_starting_values() {
 
 #[test]
 fn an_image_where_a_text_is_wanted() {
-    for content in [bytes_of(&double()), program_input(&double(), &[5]), bytes_of(&[1, 0, 99])] {
+    for content in [
+        bytes_of(&double()),
+        program_input(&double(), &[5]),
+        bytes_of(&[1, 0, 99]),
+        bytes_of(&[0, 0]),
+        program_input(&[0, 1], &[5]),
+    ] {
         let file = stored("given.image", &content);
         let message =
             format!("{file} is an image, not a text; `image text {file}` makes a text of it");

@@ -13,7 +13,7 @@ use std::collections::HashSet;
 #[test]
 fn trees_go_to_text_and_back() {
     let mut kinds = HashSet::new();
-    let mut trees = 0;
+    let (mut trees, mut absent) = (0, 0);
     for (name, family) in Family::ALL {
         let count = if name == "large" || name == "limits" { 60 } else { 400 };
         for seed in 0..count {
@@ -24,10 +24,27 @@ fn trees_go_to_text_and_back() {
             assert_eq!(listing.image(), image, "{text}");
             kinds.extend(listing.nodes.iter().map(|node| node.kind));
             trees += 1;
+            absent += u32::from(listing.nodes.is_empty());
         }
     }
-    assert!(trees > 1_000, "{trees}");
+    assert!(trees > 1_000 && absent > 100, "{trees} {absent}");
     assert_eq!(kinds.len(), TABLE.len(), "every kind is met");
+}
+
+/// `()` stands for no routine, however it is written.
+#[test]
+fn no_routine_goes_to_text_and_back() {
+    for registers in 0..=16 {
+        let words = image(registers, absent());
+        assert_eq!(words, [0, registers]);
+        let text = print(&read(&words).unwrap());
+        assert_eq!(text, format!("registers {registers}\n()\n"));
+        assert_eq!(parse(&text).unwrap().image(), words);
+    }
+    for text in ["registers 2()", "registers 2 ( ; nothing\n )", "\u{feff}registers 2\n()\n; end"] {
+        let listing = parse(text).unwrap();
+        assert_eq!((listing.image(), listing.nodes.len()), (vec![0, 2], 0));
+    }
 }
 
 /// Each list begins where its node says, with that kind's name.
@@ -91,5 +108,13 @@ fn starting_values_are_split_off() {
     assert_eq!(split(&program_input(&image, &[])), Ok((image.clone(), vec![])));
     assert_eq!(split(&program_input(&image, &[1])).unwrap_err().number, 1);
     assert_eq!(split(&[0; 7]).unwrap_err().number, 1);
-    assert_eq!(split(&[0; 8]).unwrap_err().number, 2);
+    assert_eq!(split(&[255; 8]).unwrap_err().number, 2);
+    // With no routine: 8 bytes, and 8 for each register or none of them.
+    assert_eq!(split(&[0; 8]), Ok((vec![0, 0], vec![])));
+    assert_eq!(split(&program_input(&[0, 2], &[])), Ok((vec![0, 2], vec![])));
+    assert_eq!(split(&program_input(&[0, 2], &[5, -6])), Ok((vec![0, 2], vec![5, -6])));
+    for bytes in [vec![0; 9], vec![0; 12], vec![0; 16], program_input(&[0, 2], &[5])] {
+        assert_eq!(split(&bytes).unwrap_err().number, 1, "{bytes:?}");
+    }
+    assert_eq!(split(&program_input(&[0, 17], &[0; 17])).unwrap_err().number, 2);
 }

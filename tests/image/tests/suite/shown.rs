@@ -96,6 +96,56 @@ code 0
     assert_eq!(show(&input), expected);
 }
 
+/// An image with no node, and what is refused near it: no node is looked for.
+#[test]
+fn no_routine() {
+    let said = |words: &[u32]| show(&bytes_of(words));
+    assert_eq!(said(&[0, 0]), "nodes 0, registers 0\n   - no routine\ncommand\n");
+    assert_eq!(
+        show(&program_input(&[0, 2], &[7, -8])),
+        "nodes 0, registers 2
+register 0 starts at 7
+register 1 starts at -8
+   - no routine
+command
+"
+    );
+    assert_eq!(
+        said(&[0, 0, 15, 2, 0, 1]),
+        "nodes 0, registers 0 <- 1 length: these take 8 bytes, and there are 24
+   - no routine
+refused 1 at 0
+1 length: the length does not fit the counts
+"
+    );
+    assert_eq!(
+        said(&[0, 3, 1]),
+        "nodes 0, registers 3 <- 1 length: \
+         these take 8 bytes, or 32 with starting values, and there are 12
+   - no routine
+refused 1 at 0
+1 length: the length does not fit the counts
+"
+    );
+    assert_eq!(
+        said(&[0, 17]),
+        "nodes 0, registers 17 <- 2 counts: nodes are 0 to 2000, registers 0 to 16
+   - no routine
+refused 2 at 0
+2 counts: n is above 2,000, or r is above 16
+"
+    );
+    assert_eq!(
+        show(&[0; 7]),
+        "7 bytes <- 1 length: no image has fewer than 8
+refused 1 at 0
+1 length: the length does not fit the counts
+"
+    );
+    // A node that is counted is missing.
+    assert!(said(&[1, 0]).contains("   - missing <- 5 tree: "));
+}
+
 /// Each refusal of the shape, at its node.
 #[test]
 fn damaged_images() {
@@ -159,11 +209,11 @@ refused 1 at 0
     );
     assert_eq!(
         said(&[0, 17, 15, 2, 0, 1]),
-        "nodes 0, registers 17 <- 2 counts: nodes are 1 to 2000, registers 0 to 16
+        "nodes 0, registers 17 <- 2 counts: nodes are 0 to 2000, registers 0 to 16
    0 Not
    1   Boo 1
 refused 2 at 0
-2 counts: n is not 1 to 2,000, or r is not 0 to 16
+2 counts: n is above 2,000, or r is above 16
 "
     );
     assert!(said(&[1, 2, 3, 0, 0]).starts_with(
@@ -186,7 +236,7 @@ fn no_more_nodes_than_any_image_has() {
     words[1] = 0;
     let shown = show(&bytes_of(&words));
     let end = "further nodes, not shown: 98000\nrefused 2 at 0\n\
-               2 counts: n is not 1 to 2,000, or r is not 0 to 16\n";
+               2 counts: n is above 2,000, or r is above 16\n";
     assert!(shown.ends_with(end));
     assert_eq!(shown.lines().count(), 1 + 2_000 + 3);
     assert!(!shown.contains("missing"));

@@ -31,7 +31,8 @@ impl Parts {
     }
 }
 
-/// A well-shaped image with one fault, or one change that may be none.
+/// A well-shaped image of one node or more with one fault, or one change that may
+/// be none.
 pub fn damage(random: &mut Random, image: &[u32]) -> Vec<u32> {
     if random.chance(1, 6) {
         return damage_counts(random, image);
@@ -66,11 +67,16 @@ pub fn damage(random: &mut Random, image: &[u32]) -> Vec<u32> {
 /// Faults of the first two words and of the length.
 fn damage_counts(random: &mut Random, image: &[u32]) -> Vec<u32> {
     let mut words = image.to_vec();
-    match random.below(5) {
+    match random.below(6) {
         0 => words.truncate(random.below(image.len())),
         1 => words.extend(vec![0; random.between(1, 3)]),
-        2 => words[0] = *random.pick(&[0, 2_001, 2_002, u32::MAX, 1 << 31]),
+        2 => words[0] = *random.pick(&[2_001, 2_002, u32::MAX, 1 << 31]),
         3 => words[1] = *random.pick(&[17, 18, 64, u32::MAX]),
+        4 => {
+            // No node, with all words left behind r, with one of them, or with none.
+            words[0] = 0;
+            words.truncate(*random.pick(&[2, 2, 3, image.len()]));
+        }
         _ => words[0] = random.between(1, 2_000) as u32,
     }
     words

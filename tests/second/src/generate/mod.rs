@@ -1,6 +1,7 @@
 //! Cases made from a seed, the same for the same seed everywhere.
 
 pub mod damage;
+pub mod empty;
 pub mod limits;
 pub mod noise;
 pub mod random;
@@ -11,7 +12,6 @@ pub mod well_typed;
 use crate::encode::encode;
 use crate::engine::{MOST_BUDGET, WORK_WORDS};
 use crate::kinds::{MOST_DEPTH, MOST_REGISTERS};
-use crate::node::Node;
 use crate::tree::Routine;
 use random::{starting_value, Random};
 use scope::Scope;
@@ -30,11 +30,11 @@ pub struct Case {
 /// The kinds of cases.
 #[derive(Clone, Copy, Debug, PartialEq, Eq)]
 pub enum Family {
-    /// Well-typed, up to 40 nodes: short enough to compare at every budget.
+    /// Well-typed, up to 40 nodes or none: short enough to compare at every budget.
     Small,
-    /// Well-typed, up to 300 nodes.
+    /// Well-typed, up to 300 nodes or none.
     Medium,
-    /// Well-typed, up to 2,000 nodes.
+    /// Well-typed, up to 2,000 nodes or none.
     Large,
     /// Well-typed, up to 80 nodes, with faults of arithmetic in many places.
     Faulty,
@@ -42,6 +42,8 @@ pub enum Family {
     Limits,
     /// A well-typed image with one fault.
     Damaged,
+    /// No node, or near that, with any budget and now and then a fault of the host.
+    Empty,
     /// The right shape, with names and types left to chance.
     Shaped,
     /// Words in plausible ranges.
@@ -53,13 +55,14 @@ pub enum Family {
 }
 
 impl Family {
-    pub const ALL: [(&'static str, Family); 10] = [
+    pub const ALL: [(&'static str, Family); 11] = [
         ("small", Family::Small),
         ("medium", Family::Medium),
         ("large", Family::Large),
         ("faulty", Family::Faulty),
         ("limits", Family::Limits),
         ("damaged", Family::Damaged),
+        ("empty", Family::Empty),
         ("shaped", Family::Shaped),
         ("plausible", Family::Plausible),
         ("words", Family::Words),
@@ -86,6 +89,7 @@ impl Family {
                 case_of(random, image, false)
             }
             Family::Damaged => damaged_case(random),
+            Family::Empty => empty_case(random),
             Family::Shaped => {
                 let nodes = random.between(1, 30);
                 let image = noise::shaped(random, nodes);
@@ -114,14 +118,19 @@ pub fn well_typed_routine(random: &mut Random, most_nodes: usize, temper: Temper
     loop {
         let room = Room { nodes, levels: MOST_DEPTH as usize };
         let root = Generator { random, temper }.root(&Scope::of_registers(registers), room);
-        if Node::from(&root).preorder().len() <= most_nodes {
+        if root.preorder().len() <= most_nodes {
             return Routine { registers, root };
         }
         nodes = (nodes * 7 / 8).max(LEAST_COMMAND.nodes);
     }
 }
 
+/// A well-typed case; one in 32 has no node.
 fn well_typed_case(random: &mut Random, most_nodes: usize) -> Case {
+    if random.chance(1, 32) {
+        let image = empty::without_nodes(random);
+        return case_of(random, image, false);
+    }
     let temper = if random.chance(3, 4) { Temper::Calm } else { Temper::Wild };
     let image = encode(&well_typed_routine(random, most_nodes, temper));
     case_of(random, image, temper == Temper::Calm)
@@ -132,6 +141,16 @@ fn damaged_case(random: &mut Random) -> Case {
     let image = encode(&well_typed_routine(random, most_nodes, Temper::Calm));
     let image = damage::damage(random, &image);
     case_of(random, image, true)
+}
+
+fn empty_case(random: &mut Random) -> Case {
+    let image = empty::near_empty(random);
+    let mut case = case_of(random, image, false);
+    case.budget = *random.pick(&[0, 0, 1, 2, 1_000, MOST_BUDGET - 1, MOST_BUDGET]);
+    if random.chance(1, 3) {
+        add_faults_of_the_host(random, &mut case);
+    }
+    case
 }
 
 /// A case with as many starting values as its image has registers, small ones or
@@ -150,6 +169,12 @@ fn case_of(random: &mut Random, image: Vec<u32>, small: bool) -> Case {
 fn host_case(random: &mut Random) -> Case {
     let mut case =
         if random.chance(1, 2) { well_typed_case(random, 20) } else { damaged_case(random) };
+    add_faults_of_the_host(random, &mut case);
+    case
+}
+
+/// One fault or more: of the register slice, the budget, the work slice.
+fn add_faults_of_the_host(random: &mut Random, case: &mut Case) {
     let faults = random.between(1, 7);
     if faults & 1 != 0 {
         let registers = case.registers.len();
@@ -166,5 +191,4 @@ fn host_case(random: &mut Random) -> Case {
     if faults & 4 != 0 {
         case.work_length = *random.pick(&[0, 1, WORK_WORDS - 1, WORK_WORDS, WORK_WORDS + 1]);
     }
-    case
 }

@@ -4,13 +4,21 @@
 use super::random::Random;
 use crate::kinds::{Kind, Row, Wanted, MOST_COUNT, NAMES, TABLE};
 
-/// Entirely random words, few of them.
+/// Entirely random words, few of them; in one of twelve cases n is 0, r is near its
+/// range and hardly a word is behind it.
 pub fn random_words(random: &mut Random) -> Vec<u32> {
     let count = random.below(40);
-    (0..count).map(|_| random.word() as u32).collect()
+    let mut words: Vec<u32> = (0..count).map(|_| random.word() as u32).collect();
+    if random.chance(1, 12) {
+        let counts = [0, random.below(20) as u32];
+        words.splice(..count.min(2), counts);
+        words.truncate(random.between(1, 4));
+    }
+    words
 }
 
-/// Words in the ranges an image has, in no order that makes a tree.
+/// Words in the ranges an image has, in no order that makes a tree; one in thirteen
+/// has no node.
 pub fn plausible_words(random: &mut Random) -> Vec<u32> {
     let nodes = random.between(0, 12);
     let length = if random.chance(1, 10) { random.below(30) } else { 2 + 2 * nodes };

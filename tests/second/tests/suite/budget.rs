@@ -62,6 +62,15 @@ fn the_empty_control_stack_is_no_step() {
     }
 }
 
+/// With no routine it is empty from the start, so even budget 0 is enough.
+#[test]
+fn no_routine_needs_no_budget() {
+    for budget in [0, 1, MOST_BUDGET] {
+        let expected = (Reply { outcome: Outcome::None, steps: 0 }, vec![4, 5]);
+        assert_eq!(run_at(&image(2, absent()), &[4, 5], budget), expected);
+    }
+}
+
 /// A withheld step changes nothing, whatever it is withheld for.
 #[test]
 fn a_withheld_step_can_be_asked_for_again() {

@@ -55,7 +55,7 @@ fn fewer_than_8_bytes_are_1() {
 #[test]
 fn n_and_r_come_before_the_length() {
     let wrong = [
-        [0, 0, 0, 0, 0, 0, 0, 0],
+        [0, 0, 0, 0, 17, 0, 0, 0],
         [1, 1, 1, 0, 0, 0, 0, 0],
         [1, 0, 1, 0, 0, 0, 0, 0],
         [1, 0, 0, 1, 0, 0, 0, 0],

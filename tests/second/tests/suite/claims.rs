@@ -7,8 +7,9 @@
 //! none does.
 
 use crate::helpers::*;
+use second::build::{absent, image};
 use second::checker::Passed;
-use second::engine::{pass, Outcome};
+use second::engine::{pass, Outcome, MOST_BUDGET, WORK_WORDS};
 use second::execution::{reasons_of_room, Advance, Execution};
 use second::generate::{Case, Family};
 use second::node::Node;
@@ -239,6 +240,20 @@ fn claims_hold_in_large_runs() {
 fn claims_hold_near_the_limits() {
     let steps: u64 = (0..80).map(|seed| hold(&Family::Limits.case(seed), 8_000, false)).sum();
     assert!(steps > 20_000, "{steps} steps are few");
+}
+
+/// With no routine the start is the only state, and it is the end.
+#[test]
+fn claims_hold_with_no_routine() {
+    for count in 0..=16 {
+        let registers = vec![-3; count];
+        let image = image(count as u32, absent());
+        for budget in [0, 1, MOST_BUDGET] {
+            let (image, registers) = (image.clone(), registers.clone());
+            let case = Case { image, registers, budget, work_length: WORK_WORDS };
+            assert_eq!(hold(&case, budget, true), 0);
+        }
+    }
 }
 
 /// Shaped trees have whatever types chance gives; those the checker passes run.

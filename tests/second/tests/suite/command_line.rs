@@ -42,6 +42,9 @@ fn program_and_run() {
     assert_eq!(said(&["run", "2"], &input), "refused 30 at 0\nsteps 2\nregister 0 5\n");
     assert_eq!(said(&["run", "1000001"], &input), "refused 21 at 0\nsteps 0\n");
     assert_eq!(said(&["program", "--hex"], b"1 0 1 ff"), "number 255\nsteps 1\n");
+    let slot = program_input(&image(1, absent()), &[5]);
+    assert_eq!(said(&["program"], &slot), "none\nsteps 0\nregister 0 5\n");
+    assert_eq!(said(&["run", "0"], &slot), "none\nsteps 0\nregister 0 5\n");
 }
 
 #[test]
@@ -50,7 +53,8 @@ fn check_says_code_command_or_refusal() {
     assert_eq!(said(&["check"], &bytes_of(&image(1, assign(0, num(1))))), "command\n");
     assert_eq!(said(&["check"], &bytes_of(&image(0, id(3)))), "refused 10 at 0\n");
     assert_eq!(said(&["check"], &[]), "refused 1 at 0\n");
-    assert_eq!(said(&["check"], &bytes_of(&[0, 0])), "refused 2 at 0\n");
+    assert_eq!(said(&["check"], &bytes_of(&[0, 0])), "command\n");
+    assert_eq!(said(&["check"], &bytes_of(&[0, 17])), "refused 2 at 0\n");
     let mut odd = bytes_of(&image(0, boo(true)));
     odd.push(0);
     assert_eq!(said(&["check"], &odd), "refused 1 at 0\n");
@@ -76,6 +80,7 @@ fn show_prints_the_tree() {
   11     Num 7
 ";
     assert_eq!(said(&["show"], &bytes_of(&image(1, root))), expected);
+    assert_eq!(said(&["show"], &bytes_of(&[0, 2])), "registers 2\n   - no routine\n");
     assert_eq!(said(&["show"], &bytes_of(&[1, 0, 99, 0])), "refused 3 at 0\n");
 }
 

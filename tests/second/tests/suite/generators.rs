@@ -53,7 +53,7 @@ fn well_typed_cases_have_everything() {
         let routine = read(&case.image).unwrap();
         registers.insert(routine.registers);
         roots.insert(format!("{:?}", checked(&case.image)));
-        for (node, _) in Node::from(&routine.root).preorder() {
+        for (node, _) in routine.root.preorder() {
             kinds.insert(second::kinds::by_kind(node.kind()).number);
             match node {
                 Node::Formal(node) => {
@@ -160,6 +160,87 @@ fn hosts_faults_reach_20_21_and_22() {
     for number in [0, 10, 20, 21, 22] {
         assert!(numbers.contains(&number), "{number} not in {numbers:?}");
     }
+}
+
+/// What an image with no node, or one near it, is.
+fn near_empty(image: &[u32]) -> Option<&'static str> {
+    match *image {
+        [0] => Some("n 0 alone"),
+        [0, 0..=16] => Some("no node"),
+        [0, 0..=16, ..] => Some("no node, words behind"),
+        [0, _] => Some("no node, r above 16"),
+        [0, ..] => Some("no node, r above 16, words behind"),
+        [1, 0..=16] => Some("n 1, no node there"),
+        _ => None,
+    }
+}
+
+#[test]
+fn images_with_no_node_and_near_ones_come_up() {
+    let all = [
+        "n 0 alone",
+        "no node",
+        "no node, words behind",
+        "no node, r above 16",
+        "no node, r above 16, words behind",
+        "n 1, no node there",
+    ];
+    let families: [(Family, u64, &[&str]); 8] = [
+        (Family::Small, 1_000, &all[1..2]),
+        (Family::Medium, 1_000, &all[1..2]),
+        (Family::Large, 400, &all[1..2]),
+        (Family::Damaged, 3_000, &all[1..3]),
+        (Family::Empty, 1_000, &all),
+        (Family::Plausible, 3_000, &all[1..4]),
+        (Family::Words, 3_000, &all[..5]),
+        (Family::Host, 2_000, &all[1..3]),
+    ];
+    for (family, count, expected) in families {
+        let mut met: BTreeMap<&str, u32> = BTreeMap::new();
+        for seed in 0..count {
+            if let Some(sort) = near_empty(&family.case(seed).image) {
+                *met.entry(sort).or_default() += 1;
+            }
+        }
+        for sort in expected {
+            assert!(
+                met.get(sort).is_some_and(|times| *times >= 5),
+                "{family:?}: {sort} in {met:?}"
+            );
+        }
+    }
+}
+
+/// Images with no node end normally with the least budget, the greatest and others,
+/// with every count of registers, and meet each fault of the host.
+#[test]
+fn images_with_no_node_meet_every_budget_and_every_fault_of_the_host() {
+    let mut budgets = BTreeSet::new();
+    let mut counts = BTreeSet::new();
+    let mut refusals = BTreeSet::new();
+    for seed in 0..2_000 {
+        let mut case = Family::Empty.case(seed);
+        if near_empty(&case.image) == Some("no node") {
+            let starts = case.registers.clone();
+            let reply = run(&case.image, &mut case.registers, case.budget, case.work_length);
+            assert_eq!((reply.steps, &case.registers), (0, &starts));
+            match reply.refusal() {
+                Some(refusal) => {
+                    refusals.insert(refusal.number);
+                }
+                None => {
+                    assert_eq!(reply.outcome, Outcome::None);
+                    budgets.insert(case.budget);
+                    counts.insert(starts.len());
+                }
+            }
+        }
+    }
+    assert_eq!(budgets, BTreeSet::from([0, 1, 2, 1_000, MOST_BUDGET - 1, MOST_BUDGET]));
+    assert_eq!(counts, (0..17).collect());
+    assert_eq!(refusals, BTreeSet::from([20, 21, 22]));
+    let numbers: Vec<u32> = ends(Family::Empty, 1_000).into_keys().collect();
+    assert_eq!(numbers, [0, 1, 2, 20, 21, 22]);
 }
 
 #[test]

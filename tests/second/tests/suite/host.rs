@@ -40,6 +40,29 @@ fn a_run_tests_22_then_21_then_the_image_then_20() {
     assert_eq!(reply(&good(), &mut [1], 0, WORK_WORDS), refused(30, 0));
 }
 
+/// With no routine too, and then nothing is left to refuse: no step is withheld.
+#[test]
+fn a_run_with_no_routine_tests_the_same() {
+    let good = image(1, absent());
+    for work in [0, FEW] {
+        assert_eq!(check(&good, work), answer_refused(22, 0));
+        assert_eq!(reply(&good, &mut [], MANY, work), refused(22, 0));
+    }
+    assert_eq!(reply(&good, &mut [], MANY, WORK_WORDS), refused(21, 0));
+    assert_eq!(reply(&[0, 1, 1], &mut [], 0, WORK_WORDS), refused(1, 0));
+    assert_eq!(reply(&[0, 17], &mut [], 0, WORK_WORDS), refused(2, 0));
+    assert_eq!(reply(&[0, 17, 1], &mut [], 0, WORK_WORDS), refused(2, 0));
+    for length in [0, 2, 16, 17] {
+        assert_eq!(reply(&good, &mut vec![7; length], 0, WORK_WORDS), refused(20, 0));
+    }
+    for work in [WORK_WORDS, WORK_WORDS + 1, usize::MAX] {
+        assert_eq!(check(&good, work), Answer::Command);
+        for budget in [0, 1, MOST_BUDGET] {
+            assert_eq!(reply(&good, &mut [7], budget, work), Outcome::None);
+        }
+    }
+}
+
 #[test]
 fn register_slices_of_other_lengths_are_20() {
     for length in [0, 2, 16, 17] {

@@ -15,6 +15,7 @@ mod command_line;
 mod generators;
 mod host;
 mod limits;
+mod no_routine;
 mod program;
 mod shape;
 mod types;

@@ -63,7 +63,7 @@ fn byte_counts() {
         assert_eq!(output(&vec![255; length]), refused_1);
         assert_eq!(output(&vec![0; length]), refused_1);
     }
-    assert_eq!(output(&[0; 8]), refused_2);
+    assert_eq!(output(&bytes_of(&[0, 17])), refused_2);
     assert_eq!(output(&[255; 8]), refused_2);
     assert_eq!(output(&[255; 9]), refused_2);
     let whole = program_input(&image(2, sum(id(0), id(1))), &[3, 4]);
@@ -93,6 +93,36 @@ fn starting_values_are_read_least_byte_first() {
     let mut input = bytes_of(&image(1, id(0)));
     input.extend([1, 2, 0, 0, 0, 0, 0, 0]);
     assert_eq!(output(&input), "number 513\nsteps 1\nregister 0 513\n");
+}
+
+/// n 0: 8 bytes and 8 for each starting value, and no other count.
+#[test]
+fn no_routine() {
+    for registers in [0, 1, 2, 15, 16] {
+        let starts: Vec<i64> = (0..registers).map(|index| -7 * index).collect();
+        let whole = program_input(&image(registers as u32, absent()), &starts);
+        assert_eq!(whole.len(), 8 + 8 * registers as usize);
+        let lines: String =
+            (0..registers).map(|index| format!("register {index} {}\n", -7 * index)).collect();
+        let expected = format!("none\nsteps 0\n{lines}");
+        for length in 0..whole.len() + 10 {
+            let mut input = whole.clone();
+            input.resize(length, 0);
+            let fits = length == whole.len();
+            let expected = if fits { &expected } else { "refused 1 at 0\nsteps 0\n" };
+            assert_eq!(output(&input), expected, "r {registers}, {length} bytes");
+        }
+        let at = |budget| String::from_utf8(with_budget(&whole, budget)).unwrap();
+        for budget in [0, 1, 1_000_000] {
+            assert_eq!(at(budget), expected, "budget {budget}");
+        }
+        assert_eq!(at(1_000_001), "refused 21 at 0\nsteps 0\n");
+    }
+    for length in 8..8 + 8 * 17 + 10 {
+        let mut input = bytes_of(&[0, 17]);
+        input.resize(length, 0);
+        assert_eq!(output(&input), "refused 2 at 0\nsteps 0\n", "{length} bytes");
+    }
 }
 
 #[test]

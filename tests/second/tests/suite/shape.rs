@@ -54,14 +54,16 @@ fn fewer_than_two_words_is_1_whatever_they_are() {
 
 #[test]
 fn counts_out_of_range_are_2_before_the_length() {
-    assert_eq!(shape(&[0, 0]), Some((2, 0)));
-    assert_eq!(shape(&[0, 0, 1, 0]), Some((2, 0)));
+    assert_eq!(shape(&[0, 17]), Some((2, 0)));
+    assert_eq!(shape(&[0, 17, 1, 0]), Some((2, 0)));
     assert_eq!(shape(&[2_001, 0]), Some((2, 0)));
     assert_eq!(shape(&[u32::MAX, 0]), Some((2, 0)));
     assert_eq!(shape(&[1 << 31, 0]), Some((2, 0)));
     assert_eq!(shape(&[1, 17, 1, 0]), Some((2, 0)));
     assert_eq!(shape(&[1, 17]), Some((2, 0)));
     assert_eq!(shape(&[1, 16, 1, 0]), None);
+    assert_eq!(shape(&[0, 0]), None);
+    assert_eq!(shape(&[0, 16]), None);
 }
 
 #[test]
@@ -70,6 +72,8 @@ fn any_other_length_than_2_and_2n_is_1() {
     assert_eq!(shape(&[1, 0, 1]), Some((1, 0)));
     assert_eq!(shape(&[1, 0, 1, 0, 0]), Some((1, 0)));
     assert_eq!(shape(&[1, 0, 1, 0]), None);
+    assert_eq!(shape(&[0, 0, 1]), Some((1, 0)));
+    assert_eq!(shape(&[0, 0, 1, 0]), Some((1, 0)));
     // Before anything of a node is looked at.
     assert_eq!(shape(&[1, 0, 18]), Some((1, 0)));
 }
@@ -304,8 +308,7 @@ fn what_is_read_is_what_was_written() {
         let words = encode(&routine);
         let read = read(&words).expect("a well-typed tree has the right shape");
         assert_eq!(encode(&read), words);
-        let root = second::node::Node::from(&read.root);
-        for (place, (node, _)) in root.preorder().into_iter().enumerate() {
+        for (place, (node, _)) in read.root.preorder().into_iter().enumerate() {
             assert_eq!(node.place(), place as u32);
             let row = by_number(words[2 + place]).unwrap();
             assert_eq!(node.kind(), row.kind);

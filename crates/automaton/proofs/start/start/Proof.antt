@@ -1,4 +1,4 @@
--- start: a row and a cell for each register, then the root.
+-- start: a row and a cell for each register, then the root, if there is one.
 use Prim.Native.Nat.{ℕ, _+_, _-_, _*_, _<_, _≤_}
 use mathlib.Core.Path.{_≡_, refl, sym, ap, _∙_}
 use mathlib.Core.List.{List}
@@ -7,7 +7,7 @@ use denote.Ref.{now}
 use borrow.Author.Needs.{needs}
 use lib.ListN.{length, getD}
 use Rattle.machine.specs.Regions.{regions}
-use Rattle.automaton.proofs.run_laws.StartLaws.{RegistersSet, none-set, row-fits, one-set, ready, ready-fits, started}
+use Rattle.automaton.proofs.run_laws.StartLaws.{RegistersSet, none-set, row-fits, one-set, ready-fits, absent-started, root-started}
 use Rattle.automaton.proofs.start.start.Statement.{statement}
 use Rattle.automaton.proofs.start.start.Tie as tie
 use Rattle.automaton.proofs.start.start.Reads as reads
@@ -17,10 +17,10 @@ use Rattle.machine.proofs.memory.put_control.Reads as put-control-reads
 use Rattle.machine.proofs.memory.put_row.Reads as put-row-reads
 
 abbrev Inv-loop : tie.InvT-loop
-Inv-loop work₀ registers m₀ i₀ work m i = (i ≤ length registers) × RegistersSet work₀ registers work m i
+Inv-loop work₀ registers nodes m₀ i₀ work m i = (i ≤ length registers) × RegistersSet work₀ registers work m i
 
 abbrev μ-loop : tie.MeasureT-loop
-μ-loop work₀ registers m₀ i₀ work m i = length registers - i
+μ-loop work₀ registers nodes m₀ i₀ work m i = length registers - i
 
 loop-holds : tie.Need-loop-holds Inv-loop μ-loop
 loop-holds c = (omega arith, none-set _ _ (c .before .before .pre .0))
@@ -62,20 +62,33 @@ loop-again c =
       one-set _ _ _ _ _ _ _ _ _ (c .before .before .before .before .before .before .before .before .before .before .loop .inv .1) (c .before .before .before .before .before .before .before .before .before .loop-test .taken) (c .before .before .before .before .before .before .before .before .before .before .before .before .before .pre .1) (c .before .before .before .shared-slice-known2 .given (c .before .before .before .before .before .before .before .before .before .before .loop .i) .fits) (row .ensures .0) (row .ensures .1) (cell .ensures .0) (cell .ensures .1),
     )
 
-put-control-requires : tie.Need-put-control-requires Inv-loop μ-loop
-put-control-requires c κs = (ready-fits _ _ _ _ _ (c .before .before .loop .inv .1), omega arith)
+-- Where the loop ends all registers are set.
+all-set : {i count : ℕ} → i ≤ count → count ≤ i → i ≡ count
+all-set p q = omega arith
 
 same-length : tie.Need-same-length Inv-loop μ-loop
 unfolding regions
-same-length c = c .before .before .put-control .kept .0 ∙ c .before .before .before .before .before .loop .inv .1 .same-size
+same-length c = c .before .before .loop .inv .1 .same-size
 
 returns : tie.Need-returns Inv-loop μ-loop
 returns c t stands =
-    let put = c .before .before .put-control in
-    started _ _ _ _ _ _ _ (c .before .before .before .before .before .loop .inv .1) (both (c .before .before .before .before .before .loop .inv .0) (c .before .before .before .before .loop-test .left)) (put .ensures .0) (put .ensures .1) t stands
-  where
-    both : {a d : ℕ} → a ≤ d → d ≤ a → a ≡ d
-    both p q = omega arith
+    let done = c .before in
+    let loop = done .before .loop in
+    absent-started _ _ _ _ _ (loop .inv .1) (all-set (loop .inv .0) (done .loop-test .left)) _ (c .if1 .taken) t stands
+
+put-control-requires : tie.Need-put-control-requires Inv-loop μ-loop
+put-control-requires c κs = (ready-fits _ _ _ _ _ (c .before .before .before .loop .inv .1), omega arith)
+
+same-length-2 : tie.Need-same-length-2 Inv-loop μ-loop
+unfolding regions
+same-length-2 c = c .before .before .put-control .kept .0 ∙ c .before .before .before .before .before .before .loop .inv .1 .same-size
+
+returns-2 : tie.Need-returns-2 Inv-loop μ-loop
+returns-2 c t stands =
+    let put = c .before .before in
+    let done = put .before .before .before in
+    let loop = done .before .loop in
+    root-started _ _ _ _ _ (loop .inv .1) (all-set (loop .inv .0) (done .loop-test .left)) _ _ (put .put-control .ensures .0) (put .put-control .ensures .1) _ (put .before .before .if1 .left) t stands
 
 pub start-spec : {M : Type 1} → statement M
 start-spec =
@@ -93,6 +106,8 @@ start-spec =
     add-i
     loop-less
     loop-again
-    put-control-requires
     same-length
-    returns)
+    returns
+    put-control-requires
+    same-length-2
+    returns-2)

@@ -27,13 +27,13 @@ returns c =
     let start = c .before .before .before .before .before .before .before .before .before .before .before in
     let known = c .before .before .before .before .before .before .before .before .before .slice-known .given in
     let root = found-root _ _ _ _ (c .before .before .before .before .before .before .load .ensures) _ _ _ (c .before .before .loaded .given .1) in
-    count-refused _ (now (start .args .registers)) _ _ _ _ _ (root .found) (λ i h. known i .fits) (c .if1 .taken)
+    count-refused _ (now (start .args .registers)) _ _ _ _ _ _ (root .found) (λ i h. known i .fits) (c .if1 .taken)
 
 run-command-requires : tie.Need-run-command-requires
 run-command-requires c κs =
     let start = c .before .before .before .before .before .before .before .before .before .before .before .before .before .before in
     let found = found-command _ _ _ _ (c .before .before .before .before .before .before .before .before .before .load .ensures) _ _ _ (c .before .before .before .before .before .loaded .given .1) (c .before .before .if2 .taken) in
-    (omega (arith, found .beyond .same-length, start .pre), (_, found .tree, counted _ (now (start .args .registers)) _ _ (start .args .budget) _ _ found (c .before .before .before .if1 .left), found .stands))
+    (omega (arith, found .beyond .same-length, start .pre), (_, found .tree, counted _ (now (start .args .registers)) _ _ _ (start .args .budget) _ _ found (c .before .before .before .if1 .left), found .stands))
 
 same-length-2 : tie.Need-same-length-2
 same-length-2 c = search needs
@@ -46,13 +46,13 @@ returns-2 c =
     let start = c .before .before .before .before .before .before .before .before .before .before .before .before .before .before .before .before .before .before .before in
     let found = found-command _ _ _ _ (c .before .before .before .before .before .before .before .before .before .before .before .before .before .before .load .ensures) _ _ _ (c .before .before .before .before .before .before .before .before .before .before .loaded .given .1) (c .before .before .before .before .before .before .before .if2 .taken) in
     let equal = c .before .before .before .before .before .before .before .before .if1 .left in
-    run-performed _ (now (start .args .registers)) _ _ (start .args .budget) _ _ found _ _ _ equal (c .before .before .before .before .run-command .ensures _ (found .tree) (counted _ (now (start .args .registers)) _ _ (start .args .budget) _ _ found equal) (found .stands))
+    run-performed _ (now (start .args .registers)) _ _ _ (start .args .budget) _ _ found _ _ _ equal (c .before .before .before .before .run-command .ensures _ (found .tree) (counted _ (now (start .args .registers)) _ _ _ (start .args .budget) _ _ found equal) (found .stands))
 
 run-expression-requires : tie.Need-run-expression-requires
 run-expression-requires c κs =
     let start = c .before .before .before .before .before .before .before .before .before .before .before .before .before .before in
     let found = found-expression _ _ _ _ (c .before .before .before .before .before .before .before .before .before .load .ensures) _ _ _ (c .before .before .before .before .before .loaded .given .1) (c .before .before .if2 .left) in
-    (omega (arith, found .beyond .same-length, start .pre), (_, found .tree, counted _ (now (start .args .registers)) _ _ (start .args .budget) _ _ found (c .before .before .before .if1 .left), found .stands))
+    (omega (arith, found .beyond .same-length, start .pre), (_, found .tree, counted _ (now (start .args .registers)) _ _ _ (start .args .budget) _ _ found (c .before .before .before .if1 .left), found .stands))
 
 enum-known-loaded-2 : tie.Need-enum-known-loaded-2
 enum-known-loaded-2 c = search needs
@@ -68,7 +68,7 @@ returns-3 c =
     let start = c .before .before .before .before .before .before .before .before .before .before .before .before .before .before .before .before .before .before .before in
     let found = found-expression _ _ _ _ (c .before .before .before .before .before .before .before .before .before .before .before .before .before .before .load .ensures) _ _ _ (c .before .before .before .before .before .before .before .before .before .before .loaded .given .1) (c .before .before .before .before .before .before .before .if2 .left) in
     let equal = c .before .before .before .before .before .before .before .before .if1 .left in
-    run-performed _ (now (start .args .registers)) _ _ (start .args .budget) _ _ found _ _ _ equal (c .before .before .before .before .run-expression .ensures _ (found .tree) (counted _ (now (start .args .registers)) _ _ (start .args .budget) _ _ found equal) (found .stands))
+    run-performed _ (now (start .args .registers)) _ _ _ (start .args .budget) _ _ found _ _ _ equal (c .before .before .before .before .run-expression .ensures _ (found .tree) (counted _ (now (start .args .registers)) _ _ _ (start .args .budget) _ _ found equal) (found .stands))
 
 same-length-6 : tie.Need-same-length-6
 same-length-6 c = search needs

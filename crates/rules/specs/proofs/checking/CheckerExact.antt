@@ -1,8 +1,8 @@
 -- The checker passes exactly what the rules derive (the halves are in CheckerSound.antt and CheckerComplete.antt).
 use Prim.Native.Nat.{ℕ}
-use mathlib.Core.Path.{_≡_, ap, subst}
+use mathlib.Core.Path.{_≡_, refl, ap, subst}
 use mathlib.Core.Logic.{_↔_}
-use Rattle.rules.specs.paper.Tree.{Expression, Command, Block, Declaration, Bound, Root, expression, command}
+use Rattle.rules.specs.paper.Tree.{Expression, Command, Block, Declaration, Bound, Root, expression, command, absent}
 use Rattle.rules.specs.paper.Checker.{Meaning, Scope, Judged, fault, fine, _>>=_, expression-code, Fine, ok, command-ok, block-ok, declaration-gives, bound-means, Passed, expression-of-code, a-command, root-is}
 use Rattle.rules.specs.claims.Typing.{HasCode, CommandOk, BlockOk, Gives, Means, RootOk}
 use Rattle.rules.specs.claims.Typing as Typing
@@ -38,11 +38,13 @@ root-satisfies Γ (command c) = pass (command-ok Γ c) (command-satisfies c Γ)
     pass : (m : Judged Fine) → Satisfies (λ done. CommandOk Γ c) m → Satisfies (RootOk Γ (command c)) (m >>= λ done. fine a-command)
     pass (fault r p) h = tt
     pass (fine d) h = Typing.root-command h
+root-satisfies Γ absent = Typing.root-absent
 
 root-fine : (Γ : Scope) (t : Root) (a : Passed) → RootOk Γ t a → root-is Γ t ≡ fine a
 unfolding root-is
 root-fine Γ t a (Typing.root-expression {e = e} {c = c} h) = rw (expression-fine Γ e c h)
 root-fine Γ t a (Typing.root-command h) = rw (command-fine h)
+root-fine Γ t a Typing.root-absent = refl
 
 -- The checker passes a tree with code c, or as a command, exactly when the rules derive it.
 pub root-exact : (Γ : Scope) (t : Root) (a : Passed) → (root-is Γ t ≡ fine a) ↔ RootOk Γ t a

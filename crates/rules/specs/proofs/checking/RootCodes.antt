@@ -9,7 +9,7 @@ use lib.Dec.{eqb}
 use Rattle.rules.specs.paper.Tree.{Expression, Root}
 use Rattle.rules.specs.paper.Checker.{Meaning, code, function, meaning-of, Passed, expression-of-code, a-command, register-scope}
 use Rattle.rules.specs.paper.Engine.{check-image, passed}
-use Rattle.rules.specs.claims.Typing.{HasCode, num, boo, id-plain, id-cell, deref, valref, arithmetic-of, order-of, equal-of, logic-of, not-of, RootOk, root-expression, root-command}
+use Rattle.rules.specs.claims.Typing.{HasCode, num, boo, id-plain, id-cell, deref, valref, arithmetic-of, order-of, equal-of, logic-of, not-of, RootOk, root-expression, root-command, root-absent}
 use Rattle.rules.specs.proofs.checking.ImageExact.{check-exact}
 
 -- The code that a name's meaning has, and a register's where it has none.
@@ -52,6 +52,7 @@ Low a-command = Unit {0}
 root-low : (r : ℕ) {t : Root} {a : Passed} → RootOk (register-scope r) t a → Low a
 root-low r (root-expression h) = expression-low r h
 root-low r (root-command h) = tt
+root-low r root-absent = tt
 
 pub root-codes : (ws : List ℕ) (r : ℕ) (t : Root) (c : ℕ) → check-image ws ≡ passed r t (expression-of-code c) → c ≤ 2
 root-codes ws r t c e = root-low r (check-exact ws r t (expression-of-code c) .0 e .types)

@@ -2,16 +2,16 @@
 use Prim.Native.Nat.{ℕ, zero, suc, _+_, _*_, _/_, _%_, _≤_, _<_}
 use mathlib.Core.Path.{_≡_, refl, sym, ap, _∙_, subst}
 use mathlib.Core.Bool.{Bool, true, false, cond}
-use mathlib.Core.List.{List, [], _∷_, _++_}
+use mathlib.Core.List.{List, [], _∷_, _++_, cons-ne-nil}
 use mathlib.Core.Option.{Option, none, some}
 use native.Mathlib.Omega.{arith}
 use lib.Dec.{T, ltb, lt→ltb, eqb}
 use lib.ListN.{length}
-use Rattle.rules.specs.proofs.Basics.{append-assoc, true-test}
+use Rattle.rules.specs.proofs.Basics.{append-assoc, append-nothing, true-test}
 use Rattle.rules.specs.paper.Tree.{Operator, arithmetic, Eq, order, logic, Sum, Sub, Mul, Div, Lt, Le, Gt, Ge, And, Or, Expression, Boo, Formal, Command, block, Block, Declaration, Bound, plain, Root, expression, command}
-use Rattle.rules.specs.paper.Limits.{words, names, codes, most-parameters}
+use Rattle.rules.specs.paper.Limits.{words, names, codes, most-parameters, most-depth}
 use Rattle.rules.specs.paper.Kinds.{Kind, ExpressionKind, CommandKind, DeclarationKind, num, boo, id, deref, valref, binary, negation, assign, loop, cseq, blk, call, bind, dseq, expression-kind, command-kind, declaration-kind, ref, abs, formal, kind-of, operand-fits, operator-number, upper-part, kind-number}
-use Rattle.rules.specs.paper.Reader.{Node, Got, refused, got, Read, then, _>>=_, give, Header, node, wants-expression, wants-command, wants-declaration, wants-blk, wants-bound, wants-formal, wants-root, read-expression, read-many, read-formal, read-command, read-block, read-declaration, read-bound, read-root, name-part, expression-by, command-by, blk-kind, plain-kind, root-expression, root-command}
+use Rattle.rules.specs.paper.Reader.{Node, Got, refused, got, Read, then, _>>=_, give, Header, node, wants-expression, wants-command, wants-declaration, wants-blk, wants-bound, wants-formal, wants-root, read-expression, read-many, read-formal, read-command, read-block, read-declaration, read-bound, read-root, read-routine, name-part, expression-by, command-by, blk-kind, plain-kind, root-expression, root-command}
 use Rattle.rules.specs.claims.Listing.{a-node, truth-word, expression-nodes, formal-nodes, all-nodes, command-nodes, block-nodes, declaration-nodes, bound-nodes, root-nodes}
 use Rattle.rules.specs.claims.Shape.{ShapedExpression, ShapedFormal, Many, none-left, one-more, ShapedCommand, ShapedBlock, ShapedDeclaration, ShapedBound, ShapedRoot}
 use Rattle.rules.specs.claims.Shape as Shape
@@ -306,12 +306,29 @@ mutual
         block-read h rest,
       )
 
--- The reader reads back the root's listing, whatever follows it.
-pub root-read : {d i j : ℕ} {t : Root} → ShapedRoot d i j t → (rest : List Node) → read-root d i (root-nodes t ++ rest) ≡ got t j rest
-unfolding read-root root-nodes
-root-read (Shape.root-expression {i = i} h) rest =
+-- The reader reads back the listing of a root that is an expression, and of one that is a command, whatever follows it.
+expression-root-read : {d i j : ℕ} {e : Expression} → ShapedExpression d i j e → (rest : List Node) → read-root d i (expression-nodes e ++ rest) ≡ got (expression e) j rest
+unfolding read-root
+expression-root-read {i = i} h rest =
     let o = opened h rest in
     rw (o .deep, o .listed, node-read wants-root (expression-kind (o .kind)) (root-expression (o .kind)) (o .operand) i (o .children) refl (o .fits), o .reads)
-root-read (Shape.root-command {i = i} {c = c} h) rest =
+
+command-root-read : {d i j : ℕ} {c : Command} → ShapedCommand d i j c → (rest : List Node) → read-root d i (command-nodes c ++ rest) ≡ got (command c) j rest
+unfolding read-root
+command-root-read {i = i} h rest =
     let o = opened-command h rest in
     rw (o .deep, o .listed, node-read wants-root (command-kind (o .kind)) (root-command (o .kind)) (o .operand) i (o .children) refl (o .fits), o .reads)
+
+-- Where a node follows, the root is not absent.
+routine-some : (ns more : List Node) (n : Node) → ns ++ [] ≡ n ∷ more → read-routine ns ≡ read-root most-depth 0 (ns ++ [])
+routine-some [] more n q = absurd (cons-ne-nil _ _ (sym q))
+routine-some (m ∷ ns) more n q = ap (λ rest. read-root most-depth 0 (m ∷ rest)) (sym (append-nothing ns))
+
+-- The reader reads back the listing of every root.
+pub routine-read : {j : ℕ} {t : Root} → ShapedRoot most-depth 0 j t → read-routine (root-nodes t) ≡ got t j []
+unfolding root-nodes
+routine-read (Shape.root-expression {e = e} h) =
+    let o = opened h [] in routine-some (expression-nodes e) _ _ (o .listed) ∙ expression-root-read h []
+routine-read (Shape.root-command {c = c} h) =
+    let o = opened-command h [] in routine-some (command-nodes c) _ _ (o .listed) ∙ command-root-read h []
+routine-read Shape.root-absent = refl

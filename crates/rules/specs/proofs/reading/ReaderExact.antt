@@ -1,25 +1,25 @@
 -- The reader gives the tree t with r registers exactly when the words are n, r and the preorder listing of t, within the paper's
 -- limits (the halves are in ReaderSound.antt and ReaderComplete.antt).
-use Prim.Native.Nat.{ℕ, zero, suc, _+_, _*_, _-_, _≤_, _<_, min}
+use Prim.Native.Nat.{ℕ, suc, _+_, _*_, _≤_}
 use mathlib.Core.Path.{_≡_, refl, sym, ap, _∙_, subst}
 use mathlib.Core.Logic.{_↔_}
-use mathlib.Core.Bool.{Bool, true, false, cond, _&&_}
+use mathlib.Core.Bool.{Bool, true, false, cond}
 use mathlib.Core.List.{List, [], _∷_, _++_}
 use native.Mathlib.Omega.{arith}
-use lib.Dec.{T, eqb, leb, ltb, eqb→eq, eqb-refl, leb→le, le→leb, ltb→lt, lt→ltb}
+use lib.Dec.{T, eqb, leb, eqb→eq, eqb-refl, leb→le, le→leb}
 use lib.ListN.{length, take, drop, take-append-drop, length-take, length-drop, length-append}
 use Rattle.rules.specs.proofs.Basics.{and-both, and-left, and-right, append-nothing, true-test}
-use Rattle.rules.specs.paper.Tree.{Expression, Formal, Command, Block, Declaration, Bound, Root, expression, command}
+use Rattle.rules.specs.paper.Tree.{Expression, Formal, Command, Block, Declaration, Bound, Root}
 use Rattle.rules.specs.paper.Refusals.{Refusal}
 use Rattle.rules.specs.paper.Limits.{most-nodes, most-registers, most-depth}
-use Rattle.rules.specs.paper.Reader.{Node, Got, refused, got, nodes-of, Reading, bad, image, whole, size-fits, read-root, read}
+use Rattle.rules.specs.paper.Reader.{Node, Got, refused, got, nodes-of, Reading, bad, image, whole, size-fits, read-routine, read}
 use Rattle.rules.specs.claims.Listing.{expression-nodes, formal-nodes, all-nodes, command-nodes, block-nodes, declaration-nodes, bound-nodes, root-nodes, kind-words, operand-words, image-words}
 use Rattle.rules.specs.claims.Shape.{ShapedExpression, ShapedFormal, Many, none-left, one-more, ShapedCommand, ShapedBlock, ShapedDeclaration, ShapedBound, ShapedRoot}
 use Rattle.rules.specs.claims.Shape as Shape
 use Rattle.rules.specs.claims.Image.{IsImage, ReadsExactly}
 use Rattle.rules.specs.proofs.reading.ReaderNodes.{Answers}
-use Rattle.rules.specs.proofs.reading.ReaderSound.{RootRead, root-answers}
-use Rattle.rules.specs.proofs.reading.ReaderComplete.{root-read}
+use Rattle.rules.specs.proofs.reading.ReaderSound.{RootRead, routine-answers}
+use Rattle.rules.specs.proofs.reading.ReaderComplete.{routine-read}
 
 -- ---- A tree's nodes are numbered up to the next place.
 
@@ -80,30 +80,7 @@ pub root-counted : {d i j : ℕ} {t : Root} → ShapedRoot d i j t → j ≡ i +
 unfolding root-nodes
 root-counted (Shape.root-expression {d = d} {i = i} {j = j} {e = e} h) = expression-counted d i j e h
 root-counted (Shape.root-command h) = command-counted h
-
-expression-some : (d i j : ℕ) (e : Expression) → ShapedExpression d i j e → 0 < length (expression-nodes e)
-unfolding expression-nodes
-expression-some d i j e (Shape.num h) = omega arith
-expression-some d i j e Shape.boo = omega arith
-expression-some d i j e (Shape.id h) = omega arith
-expression-some d i j e (Shape.deref h) = omega arith
-expression-some d i j e (Shape.valref h) = omega arith
-expression-some d i j e (Shape.binary h g) = omega arith
-expression-some d i j e (Shape.negation h) = omega arith
-
-command-some : {d i j : ℕ} {c : Command} → ShapedCommand d i j c → 0 < length (command-nodes c)
-unfolding command-nodes
-command-some (Shape.assign h g) = omega arith
-command-some (Shape.loop h g) = omega arith
-command-some (Shape.cseq h g) = omega arith
-command-some (Shape.block-of (Shape.blk h g)) = omega arith
-command-some (Shape.call h g m) = omega arith
-
--- A tree has a node.
-root-some : {d i j : ℕ} {t : Root} → ShapedRoot d i j t → 0 < length (root-nodes t)
-unfolding root-nodes
-root-some (Shape.root-expression {d = d} {i = i} {j = j} {e = e} h) = expression-some d i j e h
-root-some (Shape.root-command h) = command-some h
+root-counted (Shape.root-absent {i = i}) = omega arith
 
 -- ---- The two arrays and the nodes.
 
@@ -218,11 +195,11 @@ reading-sound (n ∷ r ∷ ws) =
     cond-reads (n ∷ r ∷ ws) (size-fits n r) _ _ (λ s.
     cond-reads (n ∷ r ∷ ws) (eqb (length ws) (2 * n)) _ _ (λ e.
     whole-reads n r ws
-    (leb→le n most-nodes (and-right (ltb 0 n) (leb n most-nodes) (and-left (ltb 0 n && leb n most-nodes) (leb r most-registers) s)))
-    (leb→le r most-registers (and-right (ltb 0 n && leb n most-nodes) (leb r most-registers) s))
+    (leb→le n most-nodes (and-left (leb n most-nodes) (leb r most-registers) s))
+    (leb→le r most-registers (and-right (leb n most-nodes) (leb r most-registers) s))
     (halves n ws (eqb→eq (length ws) (2 * n) e))
-    (read-root most-depth 0 (nodes-of (take n ws) (drop n ws)))
-    (root-answers most-depth 0 (nodes-of (take n ws) (drop n ws)))))
+    (read-routine (nodes-of (take n ws) (drop n ws)))
+    (routine-answers (nodes-of (take n ws) (drop n ws)))))
 
 -- ---- An image is read.
 
@@ -234,14 +211,12 @@ image-read r t h =
       true-test (eqb (length (kind-words (root-nodes t) ++ operand-words (root-nodes t))) (2 * length (root-nodes t))) twice,
       listed,
     )
-    (ap (whole r) (ap (read-root most-depth 0) (sym (append-nothing (root-nodes t))) ∙ root-read (h .shape) []))
+    (ap (whole r) (routine-read (h .shape)))
   where
     sized : T (size-fits (length (root-nodes t)) r)
     sized =
-        and-both (ltb 0 (length (root-nodes t)) && leb (length (root-nodes t)) most-nodes) (leb r most-registers)
-        (and-both (ltb 0 (length (root-nodes t))) (leb (length (root-nodes t)) most-nodes)
-        (lt→ltb 0 (length (root-nodes t)) (root-some (h .shape))) (le→leb (length (root-nodes t)) most-nodes (h .size)))
-        (le→leb r most-registers (h .registers))
+        and-both (leb (length (root-nodes t)) most-nodes) (leb r most-registers)
+        (le→leb (length (root-nodes t)) most-nodes (h .size)) (le→leb r most-registers (h .registers))
 
     lengths : length (kind-words (root-nodes t) ++ operand-words (root-nodes t)) ≡ 2 * length (root-nodes t)
     lengths = omega (arith, length-append (kind-words (root-nodes t)) (operand-words (root-nodes t)), kind-words-length (root-nodes t), operand-words-length (root-nodes t))

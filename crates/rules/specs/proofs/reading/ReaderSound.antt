@@ -1,15 +1,15 @@
 -- What the reader reads is a tree that the paper's image allows, and the words read are its listing: one half of ReaderExact.antt.
 use Prim.Native.Nat.{ℕ, zero, suc, _+_, _*_, _≤_, _<_}
 use mathlib.Core.Path.{_≡_, refl, sym, ap, _∙_, subst}
-use mathlib.Core.List.{List, _∷_, _++_}
+use mathlib.Core.List.{List, [], _∷_, _++_}
 use native.Mathlib.Omega.{arith}
 use lib.Dec.{T, eqb, ltb, ltb→lt}
 use lib.ListN.{length}
 use Rattle.rules.specs.proofs.Basics.{append-assoc}
 use Rattle.rules.specs.paper.Tree.{Expression, Formal, Command, Block, Blk, Declaration, Bound, Root}
-use Rattle.rules.specs.paper.Limits.{words, names, codes, most-parameters}
+use Rattle.rules.specs.paper.Limits.{words, names, codes, most-parameters, most-depth}
 use Rattle.rules.specs.paper.Kinds.{ExpressionKind, CommandKind, DeclarationKind, num, boo, id, deref, valref, binary, negation, assign, loop, cseq, blk, call, bind, dseq, expression-kind, command-kind, declaration-kind, ref, abs, formal, operand-fits, operator-number, kind-number, upper-part}
-use Rattle.rules.specs.paper.Reader.{Node, Read, then, _>>=_, give, node, wants-expression, wants-command, wants-declaration, wants-blk, BoundKind, plain-kind, ref-kind, abs-kind, wants-bound, wants-formal, RootKind, root-expression, root-command, wants-root, name-part, expression-by, command-by, declaration-by, bound-by, root-by, read-expression, read-many, read-formal, read-command, read-block, read-declaration, read-bound, read-root}
+use Rattle.rules.specs.paper.Reader.{Node, Read, then, _>>=_, give, node, wants-expression, wants-command, wants-declaration, wants-blk, BoundKind, plain-kind, ref-kind, abs-kind, wants-bound, wants-formal, RootKind, root-expression, root-command, wants-root, name-part, expression-by, command-by, declaration-by, bound-by, root-by, read-expression, read-many, read-formal, read-command, read-block, read-declaration, read-bound, read-root, read-routine}
 use Rattle.rules.specs.claims.Listing.{a-node, truth-word, expression-nodes, formal-nodes, all-nodes, command-nodes, block-nodes, declaration-nodes, bound-nodes, root-nodes}
 use Rattle.rules.specs.claims.Shape.{ShapedExpression, ShapedFormal, Many, none-left, one-more, ShapedCommand, ShapedBlock, ShapedDeclaration, ShapedBound, ShapedRoot}
 use Rattle.rules.specs.claims.Shape as Shape
@@ -234,8 +234,14 @@ root-by-answers d i ns (root-command k) w rest t q =
     then-answers (CommandRead (suc d) i ns) _ (command-by k i w (read-expression d) (read-command d) (read-declaration d) (suc i) rest) _
     (command-by-answers d (command-answers d) (declaration-answers d) i ns k w rest t q) (λ c j r h. (Shape.root-command (h .0), h .1))
 
-pub root-answers : (d i : ℕ) (ns : List Node) → Answers (RootRead d i ns) (read-root d i ns)
+root-answers : (d i : ℕ) (ns : List Node) → Answers (RootRead d i ns) (read-root d i ns)
 unfolding read-root
 root-answers zero i ns = sorted-then wants-root kind-of-root is-root _ (RootRead zero i ns) i ns (λ s w rest t q. tt)
 root-answers (suc d) i ns =
     sorted-then wants-root kind-of-root is-root _ (RootRead (suc d) i ns) i ns (root-by-answers d i ns)
+
+-- All nodes of an image: with none of them the root is absent.
+pub routine-answers : (ns : List Node) → Answers (RootRead most-depth 0 ns) (read-routine ns)
+unfolding root-nodes
+routine-answers [] = (Shape.root-absent, refl)
+routine-answers (n ∷ ns) = root-answers most-depth 0 (n ∷ ns)

@@ -11,6 +11,7 @@ use lib.IntN.{ℤ}
 use lib.ListN.{length}
 use Rattle.rules.specs.proofs.Basics.{passed-test, failed-test, false-test}
 use Rattle.rules.specs.paper.Tree.{Root}
+use Rattle.rules.specs.paper.Tree as Tree
 use Rattle.rules.specs.paper.Refusals.{Reason, Steps, ZeroDivisor, OutOfRange, Cells, Bindings, ValueEntries, ControlEntries, reason-number}
 use Rattle.rules.specs.paper.Limits.{most-cells, most-bindings, most-value-entries, most-control-entries, most-registers}
 use Rattle.rules.specs.paper.Checker.{code, Passed, expression-of-code, a-command}
@@ -18,7 +19,7 @@ use Rattle.rules.specs.paper.States.{Value, integer, Bindable, Environme
 use Rattle.rules.specs.paper.Rules.{Rule, Effect, goes, Applies}
 use Rattle.rules.specs.paper.Fire.{fire, fires}
 use Rattle.rules.specs.paper.Run.{Ending, ended, stopped, Verdict, made, withheld, proceed, judge, attempt, run}
-use Rattle.rules.specs.paper.Engine.{check-image, passed, register-store, start}
+use Rattle.rules.specs.paper.Engine.{check-image, passed, root-control, register-store, start}
 use Rattle.rules.specs.proofs.running.FireExact.{applies→fires}
 use Rattle.rules.specs.proofs.checking.ImageExact.{check-exact}
 use Rattle.rules.specs.claims.Image.{IsImage}
@@ -120,10 +121,16 @@ unfolding register-store
 store-count zero zs = refl
 store-count (suc r) zs = ap suc (store-count r zs)
 
+-- At most the root is on control.
+root-within : (t : Root) → length (root-control t) ≤ most-control-entries
+root-within (Tree.expression e) = lit≤ tt
+root-within (Tree.command c) = lit≤ tt
+root-within Tree.absent = lit≤ tt
+
 start-within : (r : ℕ) (t : Root) (zs : List ℤ) → r ≤ most-registers → Within (start r t zs)
 unfolding start
 start-within r t zs h =
-    record { few-cells = omega (arith, store-count r zs, h); few-bindings = omega (arith, h); few-values = lit≤ tt; few-control = lit≤ tt }
+    record { few-cells = omega (arith, store-count r zs, h); few-bindings = omega (arith, h); few-values = lit≤ tt; few-control = root-within t }
 
 -- What `judge` lets pass has no reason against it.
 made-no-reason : (budget steps : ℕ) (τ υ : State) → judge (eqb steps budget) (goes τ) ≡ made υ → (x : Reason) → ReasonHolds budget steps (goes τ) x → ⊥

@@ -19,7 +19,7 @@ use Rattle.rules.specs.claims.Shape as Shape
 use Rattle.rules.specs.paper.States.{Environment, Store, Entry, Item, State, state, control-of}
 use Rattle.rules.specs.paper.Rules.{Rule, Effect, goes, fails, Applies}
 use Rattle.rules.specs.paper.Run.{holds, settle, made, judge}
-use Rattle.rules.specs.paper.Engine.{check-image, passed, register-environment, register-store, start}
+use Rattle.rules.specs.paper.Engine.{check-image, passed, root-control, register-environment, register-store, start}
 use Rattle.rules.specs.proofs.running.FireExact.{one-rule}
 use Rattle.rules.specs.claims.Image.{Meets}
 use Rattle.rules.specs.proofs.checking.ImageExact.{check-exact}
@@ -127,9 +127,10 @@ registers-made (suc r) =
     ∙ ap {B = Made} (λ M. record { where-at = length (register-world r); code = some 0 } ∷ M) (registers-made r)
 
 start-control : (a : Passed) (r : ℕ) (t : Root) {d i j : ℕ} → ShapedRoot d i j t → RootOk (register-scope r) t a →
-    ControlTyped a (Rattle.rules.specs.paper.Engine.root-item t ∷ []) (register-scope r) end
+    ControlTyped a (root-control t) (register-scope r) end
 start-control a r t (Shape.root-expression s) (Typing.root-expression g) = expression-typed g (small-expression s) (done final-value)
 start-control a r t (Shape.root-command s) (Typing.root-command g) = command-typed g (small-command s) (done final-command)
+start-control a r t Shape.root-absent Typing.root-absent = done final-command
 
 pub start-invariant : (image : List ℕ) (r : ℕ) (t : Root) (a : Passed) → Meets image r t a → (zs : List ℤ) → AllInRange zs → Invariant a r (start r t zs) (first-history r)
 unfolding start open-states

@@ -48,6 +48,12 @@ fn damaged() {
 }
 
 #[test]
+fn empty() {
+    let tally = family(Family::Empty, 700);
+    reaches(&tally, &[0, 1, 2, 20, 21, 22], 50);
+}
+
+#[test]
 fn shaped() {
     let tally = family(Family::Shaped, 700);
     reaches(&tally, &[0, 1, 2, 10, 11, 20, 21, 22, 30], 10);
@@ -62,7 +68,7 @@ fn plausible() {
 #[test]
 fn words() {
     let tally = family(Family::Words, 400);
-    reaches(&tally, &[1, 2, 21, 22], 10);
+    reaches(&tally, &[0, 1, 2, 21, 22], 10);
 }
 
 #[test]

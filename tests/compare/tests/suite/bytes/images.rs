@@ -73,16 +73,17 @@ fn of_every_count() {
     let nodes = [0, 1, 2, 1_999, 2_000, 2_001, 1 << 16, 1 << 29, (1 << 29) + 1, u32::MAX];
     for nodes in nodes {
         for registers in [0, 1, 15, 16, 17, 256, 1 << 29, u32::MAX] {
-            let in_range = (1..=2_000).contains(&nodes) && registers <= 16;
+            let in_range = nodes <= 2_000 && registers <= 16;
             let fitting = 8 + 8 * u64::from(nodes);
             let near = (fitting - 8..fitting + 9).filter(|length| (8..20_000).contains(length));
             for length in near.chain([8, 15, 16, 17, 24]) {
                 let mut image = bytes_of(&[nodes, registers]);
                 image.resize(length as usize, 0);
-                // Kind 0 at every node.
+                // Kind 0 at every node, if there is one.
                 let expected = match (in_range, length == fitting) {
                     (false, _) => 2,
                     (true, false) => 1,
+                    (true, true) if nodes == 0 => 0,
                     (true, true) => 3,
                 };
                 let refused = refused_image(image, random);

@@ -5,4 +5,5 @@ mod differences;
 mod families;
 mod host;
 mod images;
+mod no_routine;
 mod registers;

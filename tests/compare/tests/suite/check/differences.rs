@@ -58,6 +58,24 @@ the image in hexadecimal:
 }
 
 #[test]
+fn an_image_with_no_node_is_shown_as_such() {
+    let refuse = |image: &[u32], work: &mut [u64]| {
+        right(image, work);
+        CheckReply { refusal: 2, value: 0, place: 0 }
+    };
+    let expected = "\
+check of 2 words, work slice of 8192 words
+  the second interpreter says command (refusal 0, value 8, place 0)
+  the engine says             refused 2 at 0 (refusal 2, value 0, place 0)
+the image as a tree:
+registers 3
+   - no routine
+the image in hexadecimal:
+0 3";
+    assert_eq!(found(refuse, &[0, 3], WORK_WORDS), expected);
+}
+
+#[test]
 fn an_image_that_is_no_tree_is_shown_as_its_words() {
     let pass = |image: &[u32], work: &mut [u64]| {
         right(image, work);
@@ -68,7 +86,7 @@ fn an_image_that_is_no_tree_is_shown_as_its_words() {
     assert!(text.contains("the image is no tree (3 at 1)"), "{text}");
     assert!(text.contains("   0 kind 15 (Not), operand 0\n"), "{text}");
     assert!(text.contains("   1 kind 99 (no kind), operand 7\n"), "{text}");
-    for image in [&[][..], &[7], &[u32::MAX, 1], &[3, 0, 1]] {
+    for image in [&[][..], &[7], &[u32::MAX, 1], &[3, 0, 1], &[0, 0, 1], &[0, 17]] {
         let text = found(pass, image, WORK_WORDS);
         assert!(text.contains("is no tree"), "{text}");
     }

@@ -1,7 +1,7 @@
-//! Every image of one, two and three nodes, as far as kinds go; operands at the
+//! Every image of no node, of one, two and three, as far as kinds go; operands at the
 //! ends of each range.
 
-use crate::helpers::agreed;
+use crate::helpers::{agreed, without_nodes};
 use second::generate::random::Random;
 use second::kinds::TABLE;
 
@@ -11,6 +11,22 @@ fn image(registers: u32, nodes: &[(u32, u32)]) -> Vec<u32> {
     words.extend(nodes.iter().map(|(kind, _)| kind));
     words.extend(nodes.iter().map(|(_, operand)| operand));
     words
+}
+
+/// With the words behind r that a node could have there.
+#[test]
+fn no_node() {
+    let random = &mut Random::new(4);
+    for registers in (0..48).chain([64, 257, 1 << 16, (1 << 16) + 1, 1 << 31, u32::MAX]) {
+        for count in 0..=6 {
+            agreed(&without_nodes(registers, count, 0), random);
+            for kind in 0..44 {
+                let mut words = without_nodes(registers, count.min(2), 0);
+                words.resize(count, kind);
+                agreed(&words, random);
+            }
+        }
+    }
 }
 
 #[test]

@@ -47,6 +47,12 @@ fn damaged() {
 }
 
 #[test]
+fn empty() {
+    let tally = family(Family::Empty, 4_000);
+    reaches(&tally, &[0, 1, 2, 22], 200);
+}
+
+#[test]
 fn shaped() {
     let tally = family(Family::Shaped, 10_000);
     reaches(&tally, &[0, 10, 11, 22], 50);
@@ -61,7 +67,7 @@ fn plausible() {
 #[test]
 fn words() {
     let tally = family(Family::Words, 4_000);
-    reaches(&tally, &[1, 2, 22], 50);
+    reaches(&tally, &[0, 1, 2, 22], 50);
 }
 
 #[test]

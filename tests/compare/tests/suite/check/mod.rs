@@ -6,5 +6,6 @@ mod every_depth;
 mod every_small_image;
 mod every_type;
 mod families;
+mod no_routine;
 mod paper;
 mod work_words;

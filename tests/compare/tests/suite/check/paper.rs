@@ -39,6 +39,7 @@ fn the_roots_code_or_command() {
     assert_eq!(agreed_tree(16, id(15)), Answer::Code(0));
     assert_eq!(agreed_tree(16, id(16)), refused(10, 0));
     assert_eq!(agreed_tree(2, factorial()), Answer::Command);
+    assert_eq!(agreed_tree(2, absent()), Answer::Command);
 }
 
 #[test]
@@ -77,10 +78,13 @@ fn fewer_than_two_words_is_1() {
 
 #[test]
 fn counts_come_before_the_length() {
-    for nodes in [0, 2_001, 1 << 31, u32::MAX] {
+    for nodes in [2_001, 1 << 31, u32::MAX] {
         assert_eq!(words(&[nodes, 0]), refused(2, 0));
         assert_eq!(words(&[nodes, 0, 1, 0]), refused(2, 0));
     }
+    assert_eq!(words(&[0, 17]), refused(2, 0));
+    assert_eq!(words(&[0, 17, 1, 0]), refused(2, 0));
+    assert_eq!(words(&[0, 0, 1, 0]), refused(1, 0));
     assert_eq!(words(&[1, 0]), refused(1, 0));
     assert_eq!(words(&[2_000, 16]), refused(1, 0));
     assert_eq!(words(&[2_000, 17]), refused(2, 0));

@@ -42,6 +42,11 @@ fn damaged() {
 }
 
 #[test]
+fn empty() {
+    reaches(&family(Family::Empty, 200), &[0, 1, 2], 20);
+}
+
+#[test]
 fn shaped() {
     reaches(&family(Family::Shaped, 200), &[0, 1, 2, 3, 10, 11], 5);
 }

@@ -37,9 +37,12 @@ fn one_to_sixteen_bytes() {
         inputs.extend((0..4).map(|_| random_bytes(length, random)));
         for input in inputs {
             let output = agreed_output(&input);
-            let whole = input == leaf;
+            // The leaf alone, and n and r both 0, are whole.
+            let (is_leaf, is_empty) = (input == leaf, input == [0; 8]);
+            let whole = is_leaf || is_empty;
             assert_eq!(output == LENGTH || output == COUNTS, !whole, "{input:?}: {output}");
-            assert_eq!(whole, output == "number 7\nsteps 1\n", "{input:?}: {output}");
+            assert_eq!(is_leaf, output == "number 7\nsteps 1\n", "{input:?}: {output}");
+            assert_eq!(is_empty, output == "none\nsteps 0\n", "{input:?}: {output}");
             assert!(length >= 8 || output == LENGTH, "{input:?}: {output}");
         }
     }
@@ -76,14 +79,23 @@ fn counts_near_their_limits() {
     for nodes in nodes {
         for registers in registers {
             let counts = bytes_of(&[nodes, registers]);
-            let fits = (1..=2_000).contains(&nodes) && registers <= 16;
-            let output = if fits { LENGTH } else { COUNTS };
+            let fits = nodes <= 2_000 && registers <= 16;
+            let output = match (fits, nodes, registers) {
+                (true, 0, 0) => "none\nsteps 0\n",
+                (true, ..) => LENGTH,
+                (false, ..) => COUNTS,
+            };
             assert_eq!(agreed_output(&counts), output, "n {nodes}, r {registers}");
             if fits {
-                // Kind 0 at every node, and then one byte less.
+                // Kind 0 at every node, if there is one, and then one byte less.
                 let mut input = counts;
                 input.resize(8 + 8 * nodes as usize + 8 * registers as usize, 0);
-                assert_eq!(agreed_output(&input), "refused 3 at 0\nsteps 0\n");
+                let lines = (0..registers).map(|index| format!("register {index} 0\n"));
+                let output = match nodes {
+                    0 => format!("none\nsteps 0\n{}", lines.collect::<String>()),
+                    _ => "refused 3 at 0\nsteps 0\n".to_string(),
+                };
+                assert_eq!(agreed_output(&input), output);
                 input.pop();
                 assert_eq!(agreed_output(&input), LENGTH);
             }

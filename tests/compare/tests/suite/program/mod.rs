@@ -5,6 +5,7 @@ mod differences;
 mod failures;
 mod families;
 mod inputs;
+mod no_routine;
 mod paper;
 mod refusals;
 mod streams;

@@ -45,6 +45,8 @@ fn each_sort_of_outcome() {
     assert_eq!(output_of(boo(true), &[]), "truth 1\nsteps 1\n");
     assert_eq!(output_of(deref(1), &[4, -4]), "cell 1\nsteps 1\nregister 0 4\nregister 1 -4\n");
     assert_eq!(output_of(assign(0, num(1)), &[7]), "none\nsteps 3\nregister 0 1\n");
+    assert_eq!(output_of(absent(), &[7]), "none\nsteps 0\nregister 0 7\n");
+    assert_eq!(output_of(absent(), &[]), "none\nsteps 0\n");
 }
 
 /// Each cell of 16 registers, and each register's number.

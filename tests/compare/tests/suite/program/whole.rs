@@ -43,7 +43,8 @@ fn is_whole(name: &str, input: &[u8], answer: &[u8]) -> bool {
 fn no_beginning_of_an_answer_is_whole() {
     let product = program_input(&CALCULATOR, &[]);
     let factorial = program_input(&image(2, factorial()), &[1, 21]);
-    let inputs = [product, factorial.clone(), factorial[..20].to_vec(), Vec::new()];
+    let empty = program_input(&image(2, absent()), &[7, -3]);
+    let inputs = [product, factorial.clone(), factorial[..20].to_vec(), Vec::new(), empty];
     for (index, input) in inputs.iter().enumerate() {
         let answer = second::program(input);
         let name = format!("beginnings_{index}");
@@ -87,7 +88,8 @@ fn a_whole_answer_is_handed_on() {
     let program = program.path().to_str().expect("a path in UTF-8");
     let longest = program_input(&image(16, in_turn(vec![assign(3, num(9)); 667])), &[4; 16]);
     assert_eq!(longest.len(), LONGEST_THAT_FITS);
-    for input in [program_input(&CALCULATOR, &[]), Vec::new(), longest, vec![7; 20_000]] {
+    let empty = program_input(&image(16, absent()), &[-4; 16]);
+    for input in [program_input(&CALCULATOR, &[]), Vec::new(), longest, vec![7; 20_000], empty] {
         let output = answered(&[program], &input, Stdio::piped());
         assert_eq!(output.stdout, second::program(&input));
         assert!(output.stderr.is_empty() && output.status.success());

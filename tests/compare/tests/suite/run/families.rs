@@ -48,6 +48,12 @@ fn damaged() {
 }
 
 #[test]
+fn empty() {
+    let tally = family(Family::Empty, 2_000);
+    reaches(&tally, &[0, 1, 2, 20, 21, 22], 100);
+}
+
+#[test]
 fn shaped() {
     let tally = family(Family::Shaped, 3_000);
     reaches(&tally, &[0, 10, 11, 21, 22, 30], 20);
@@ -62,7 +68,7 @@ fn plausible() {
 #[test]
 fn words() {
     let tally = family(Family::Words, 1_000);
-    reaches(&tally, &[1, 2, 21, 22], 10);
+    reaches(&tally, &[0, 1, 2, 21, 22], 10);
 }
 
 #[test]

@@ -9,5 +9,6 @@ mod functions;
 mod host;
 mod limits;
 mod loops;
+mod no_routine;
 mod paper;
 mod work_words;

@@ -67,6 +67,7 @@ fn each_sort_of_outcome() {
     assert_eq!(outcome(image(1, deref(0)), &[7]), ended(CELL, 0, 1));
     assert_eq!(outcome(image(16, deref(15)), &[7; 16]), ended(CELL, 15, 1));
     assert_eq!(outcome(image(1, assign(0, num(1))), &[7]), ended(NONE, 0, 3));
+    assert_eq!(outcome(image(1, absent()), &[7]), ended(NONE, 0, 0));
 }
 
 /// The paper's images at every budget, against the second interpreter.
