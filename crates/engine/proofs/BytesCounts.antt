@@ -8,13 +8,14 @@ use native.Mathlib.Nat.{mul-div-le, suc-add}
 use lib.Dec.{eqb, leb, ltb, leb→le}
 use lib.ListN.{length, take, drop, set, length-append, length-drop, length-set}
 use lib.Seq.{length-take-le, take-at}
-use borrow.Author.Tests.{ltb-false, eq-eqb, ne-eqb}
+use borrow.Author.Tests.{ltb-false}
 use Rattle.calls.specs.Sizes.{most-image-words}
-use Rattle.rules.specs.proofs.Basics.{passed-test, and-right, append-nothing}
+use Rattle.rules.specs.proofs.Basics.{passed-test, and-right}
 use Rattle.little_endian.specs.Numbers.{numbers}
 use Rattle.little_endian.specs.NumberLaws.{numbers-length}
 use Rattle.engine.specs.Bytes.{whole, image-count, image-of-bytes}
 use Rattle.engine.specs.BytesKept.{count-whole}
+use Rattle.engine.specs.BytesRead.{all-taken, some-left}
 
 pub image-count-fits : (bytes : ℕ) → (image-count bytes ≤ most-image-words) × (4 * image-count bytes ≤ bytes)
 unfolding image-count
@@ -45,28 +46,21 @@ module _ (bytes words new : List ℕ) (count : ℕ) (counted : count ≡ image-c
   long : length new ≡ count
   long = ap length q ∙ numbers-length 4 (length (take count words)) bytes ∙ length-take-le count words room
 
-  taken : new ≡ numbers 4 (image-count (length bytes)) bytes
-  taken = q ∙ ap (λ k. numbers 4 k bytes) (length-take-le count words room ∙ counted)
+  taken : new ≡ numbers 4 count bytes
+  taken = q ∙ ap (λ k. numbers 4 k bytes) (length-take-le count words room)
 
   pub same-size : length (new ++ drop count words) ≡ length words
   same-size = omega (arith, long, length-append new (drop count words), length-drop count words, room)
 
   -- The words that were unpacked stand first: they are the image's.
   pub unpacked : 4 * count ≡ length bytes → (count ≤ length (new ++ drop count words)) × (take count (new ++ drop count words) ≡ image-of-bytes bytes)
-  unfolding image-of-bytes
-  unpacked all = (
-    omega (arith, same-size, room),
-    take-at new (drop count words) count long ∙ taken ∙ sym (append-nothing (numbers 4 (image-count (length bytes)) bytes))
-        ∙ ap (λ t. numbers 4 (image-count (length bytes)) bytes ++ cond t [] (0 ∷ [])) (sym (eq-eqb (4 * image-count (length bytes)) (length bytes) (ap (λ k. 4 * k) (sym counted) ∙ all))),
-  )
+  unpacked all = (omega (arith, same-size, room), take-at new (drop count words) count long ∙ taken ∙ sym (all-taken bytes count (sym counted) all))
 
   -- One word stands for the bytes that are left over.
   pub unpacked-more : (4 * count ≡ length bytes → ⊥) → count < length words →
       (count + 1 ≤ length (set (new ++ drop count words) count 0)) × (take (count + 1) (set (new ++ drop count words) count 0) ≡ image-of-bytes bytes)
-  unfolding image-of-bytes
   unpacked-more more low = (
     omega (arith, same-size, low, length-set (new ++ drop count words) count 0),
     subst (λ k. take (k + 1) (set (new ++ drop count words) k 0) ≡ new ++ 0 ∷ []) long (one-more new (drop count words) (omega (arith, length-drop count words, low)))
-        ∙ ap (λ ws. ws ++ 0 ∷ []) taken
-        ∙ ap (λ t. numbers 4 (image-count (length bytes)) bytes ++ cond t [] (0 ∷ [])) (sym (ne-eqb (4 * image-count (length bytes)) (length bytes) (λ all. more (ap (λ k. 4 * k) counted ∙ all)))),
+        ∙ ap (λ ws. ws ++ 0 ∷ []) taken ∙ sym (some-left bytes count (sym counted) more),
   )

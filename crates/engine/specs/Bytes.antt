@@ -24,8 +24,8 @@ whole size most bytes = eqb (bytes % size) 0 && leb (bytes / size) most
 unfoldable pub image-count : (bytes : ℕ) → ℕ
 image-count bytes = cond (ltb bytes 8) 0 (cond (whole 4 most-image-words bytes) (bytes / 4) 2)
 
--- Bytes that are left over are no words of an image of any n. One word stands for them behind n and r, and three words are no such image
--- either.
+-- Bytes that are left over belong to no image of any n. One word stands for them: behind n and r it is the third, and three words are no such
+-- image either; alone it is fewer than two.
 abbrev pub left-over : (bytes : ℕ) → List ℕ
 left-over bytes = cond (eqb (4 * image-count bytes) bytes) [] (0 ∷ [])
 

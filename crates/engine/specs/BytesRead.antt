@@ -66,13 +66,13 @@ unfolding image-count
 count-taken bytes all h p = ap (λ few. cond few 0 (cond (whole 4 most-image-words bytes) (bytes / 4) 2)) (le-ltb bytes 8 h) ∙ ap (λ a. cond a (bytes / 4) 2) p
 
 -- All bytes are taken, or one word stands for those that are left over.
-all-taken : (bytes : List ℕ) (count : ℕ) → image-count (length bytes) ≡ count → 4 * count ≡ length bytes → image-of-bytes bytes ≡ numbers 4 count bytes
+pub all-taken : (bytes : List ℕ) (count : ℕ) → image-count (length bytes) ≡ count → 4 * count ≡ length bytes → image-of-bytes bytes ≡ numbers 4 count bytes
 unfolding image-of-bytes
 all-taken bytes count q all =
     ap (λ t. numbers 4 (image-count (length bytes)) bytes ++ cond t [] (0 ∷ [])) (eq-eqb (4 * image-count (length bytes)) (length bytes) (ap (λ k. 4 * k) q ∙ all))
     ∙ append-nothing (numbers 4 (image-count (length bytes)) bytes) ∙ ap (λ k. numbers 4 k bytes) q
 
-some-left : (bytes : List ℕ) (count : ℕ) → image-count (length bytes) ≡ count → (4 * count ≡ length bytes → ⊥) → image-of-bytes bytes ≡ numbers 4 count bytes ++ 0 ∷ []
+pub some-left : (bytes : List ℕ) (count : ℕ) → image-count (length bytes) ≡ count → (4 * count ≡ length bytes → ⊥) → image-of-bytes bytes ≡ numbers 4 count bytes ++ 0 ∷ []
 unfolding image-of-bytes
 some-left bytes count q more =
     ap (λ t. numbers 4 (image-count (length bytes)) bytes ++ cond t [] (0 ∷ [])) (ne-eqb (4 * image-count (length bytes)) (length bytes) (λ all. more (ap (λ k. 4 * k) (sym q) ∙ all)))

@@ -17,8 +17,8 @@ use Rattle.rules.specs.paper.Engine.{check-image, check-reading, checked}
 use Rattle.reader.specs.Pack.{root-words}
 use Rattle.reader.specs.Put.{KeptBeyond, put-length, put-beyond}
 use Rattle.reader.specs.Answers.{ShapeAnswer}
-use Rattle.reader.specs.Stored.{StoredRoot, root-expression, root-command, root-absent, RootAt}
-use Rattle.reader.specs.StoredLaws.{SameNodes, same-expression, same-command, stored-by-put, root-next}
+use Rattle.reader.specs.Stored.{StoredRoot, RootAt}
+use Rattle.reader.specs.StoredLaws.{same-root, stored-by-put, root-next}
 use Rattle.reader.specs.declared.Shape.{Shape}
 use Rattle.reader.specs.declared.Shape.the-variants as Shapes
 use Rattle.checker.specs.Commands.{WritesRowsFrom, root-number, root-answer, RootJudgedAt}
@@ -122,11 +122,6 @@ module _ (words before after : List ℕ) (shape : Shape) (answered : ShapeAnswer
           }
 
 -- ---- The root.
-
-same-root : (words words′ : List ℕ) → SameNodes words words′ → {d i j : ℕ} {t : Root} → StoredRoot words d i j t → StoredRoot words′ d i j t
-same-root words words′ same (root-expression h) = root-expression (same-expression words words′ same h)
-same-root words words′ same (root-command h) = root-command (same-command words words′ same h)
-same-root words words′ same root-absent = root-absent
 
 -- The checker leaves the tree where it stands.
 tree-kept : {a b : List ℕ} {nodes : ℕ} {t : Root} → WritesRowsFrom a b 0 → RootAt a nodes t → RootAt b nodes t

@@ -13,6 +13,7 @@ use Rattle.rules.specs.paper.Tree.{Root}
 use Rattle.rules.specs.paper.Refusals.{refusal-number}
 use Rattle.rules.specs.paper.Reader.{Node, Got, refused, got, image, whole, size-fits, read-root, read-routine, read}
 use Rattle.rules.specs.claims.Listing.{root-nodes, image-words}
+use Rattle.rules.specs.proofs.reading.ReaderComplete.{routine-is-root}
 use Rattle.rules.specs.proofs.reading.ReaderExact.{read-exact}
 use Rattle.reader.specs.Pack.{root-words}
 use Rattle.rules.specs.paper.Kinds.{a-root}
@@ -75,10 +76,6 @@ absent-image words work h q l none =
     (sym (read-nodes words h q l ∙ ap (λ ns. whole (getD words 1 0) (read-routine ns)) (nodes-past words (getD words 0 0) l 0 (omega (arith, none)))))
     (record { answer = ap (λ n. Shapes.Image n (getD words 1 0)) none; written = refl })
 
--- with a node the root is read
-root-first : (nodes rest : List Node) (n : Node) → nodes ≡ n ∷ rest → read-routine nodes ≡ read-root most-depth 0 nodes
-root-first nodes rest n q = ap read-routine q ∙ ap (read-root most-depth 0) (sym q)
-
 drop-more : (n k : ℕ) (ws : List ℕ) → drop (n + k) ws ≡ drop k (drop n ws)
 drop-more zero k ws = ap (λ i. drop i ws) (zero-add k)
 drop-more (suc n) k [] = ap (λ i. drop i []) (suc-add n k) ∙ sym (drop-nil k)
@@ -110,7 +107,7 @@ module _ (words work work′ : List ℕ) (r : Scanned) (h : 2 ≤ length words) 
   shape-by : (answer : Shape) → ((m : Got Root) → read words ≡ whole (getD words 1 0) m → Root-outcome m → ShapeAnswer (whole (getD words 1 0) m) answer work work′) →
       Node-outcome words n 0 (sort-number a-root) most-depth r work work′ → ShapeAnswer (read words) answer work work′
   shape-by answer k o =
-      let reads : read words ≡ whole (getD words 1 0) (read-root most-depth 0 nodes) = read-nodes words h sized l ∙ ap (whole (getD words 1 0)) (root-first nodes _ _ (node-here words n l 0 (omega (arith, some)))) in
+      let reads : read words ≡ whole (getD words 1 0) (read-root most-depth 0 nodes) = read-nodes words h sized l ∙ ap (whole (getD words 1 0)) (routine-is-root nodes _ _ (node-here words n l 0 (omega (arith, some)))) in
       subst (λ s. ShapeAnswer s answer work work′) (sym reads) (k (read-root most-depth 0 nodes) reads (root-outcome o))
 
   count-head : (t : Root) → read words ≡ image (getD words 1 0) t → n ≡ length (root-nodes t)

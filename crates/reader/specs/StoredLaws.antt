@@ -265,3 +265,8 @@ module _ (words words′ : List ℕ) (same : SameNodes words words′) where
     same-bound (Stored.plain-of a) = Stored.plain-of (same-expression a)
     same-bound (Stored.ref h a) = Stored.ref (same-word h) (same-expression a)
     same-bound (Stored.abs l h a b) = Stored.abs l (same-word h) (same-formals a) (same-block b)
+
+  pub same-root : {d i j : ℕ} {t : Root} → StoredRoot words d i j t → StoredRoot words′ d i j t
+  same-root (Stored.root-expression a) = Stored.root-expression (same-expression a)
+  same-root (Stored.root-command a) = Stored.root-command (same-command a)
+  same-root Stored.root-absent = Stored.root-absent

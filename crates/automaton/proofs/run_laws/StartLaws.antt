@@ -1,32 +1,26 @@
 -- The start of a run: the registers' rows and cells, one by one, and the root on control.
-use Prim.Native.Nat.{ℕ, zero, suc, _+_, _*_, _<_, _≤_}
+use Prim.Native.Nat.{ℕ, suc, _+_, _*_, _<_, _≤_}
 use mathlib.Core.Path.{_≡_, refl, sym, ap, _∙_, subst}
-use mathlib.Core.Bool.{true}
 use mathlib.Core.List.{List, [], _∷_}
-use mathlib.Core.Option.{some}
 use native.Mathlib.Omega.{arith}
-use lib.Dec.{eqb, eqb-refl}
-use lib.IntN.{ℤ, pos}
 use lib.ListN.{length, getD, take, drop}
 use lib.Seq.{getD-take}
-use Rattle.rules.specs.proofs.Basics.{true-test}
 use Rattle.rules.specs.paper.Tree.{Root, expression, command, absent}
-use Rattle.rules.specs.paper.States.{value, location, bound}
 use Rattle.rules.specs.paper.Engine.{register-environment, register-store, root-control, start}
 use Rattle.rules.specs.paper.Limits.{most-nodes, most-bindings, work-words}
 use Rattle.machine.specs.Layout.{row-labels, row-payloads, cell-payloads, cell-labels, link}
 use Rattle.reader.specs.Stored.{StoredRoot, root-expression, root-command, root-absent, RootAt}
 use Rattle.reader.specs.StandingLaws.{absent-root}
-use Rattle.reader.specs.StoredLaws.{same-expression, same-command}
-use Rattle.integers.specs.Words.{integer-of, integers-of}
+use Rattle.reader.specs.StoredLaws.{same-root}
+use Rattle.integers.specs.Words.{integers-of}
 use Rattle.integers.specs.WordLaws.{integers-at}
-use Rattle.machine.specs.Regions.{stack, Slot, slot, slots, slot-at, Regions, regions, Fits, with-control, with-row, with-cells, raised-control, raised-rows, raised-cells}
-use Rattle.machine.specs.Represents.{ValueAs, integer-as, location-as, SegmentAs, no-row, one-row, value-as, StoreAs, no-cell, one-cell, Since, none-since, running, ControlAs, nothing-left, expression-on, command-on, nothing-on, Models}
-use Rattle.machine.specs.Steps.{Stands, Holds, Untouched}
+use Rattle.machine.specs.Regions.{stack, Slot, slot, slots, Regions, regions, Fits, with-control, with-row, with-cells, raised-control, raised-rows, raised-cells}
+use Rattle.machine.specs.Represents.{integer-as, location-as, SegmentAs, no-row, value-as, StoreAs, no-cell, one-cell, Since, none-since, running, ControlAs, nothing-left, expression-on, command-on, nothing-on, Models}
+use Rattle.machine.specs.Steps.{Holds, Untouched}
 use Rattle.automaton.specs.Starts.{StartsAt}
 use Rattle.machine.specs.declared.Machine.{Machine}
 use Rattle.machine.proofs.memory_laws.RegionLaws.{slots-length}
-use Rattle.machine.proofs.memory_laws.EnvironmentLaws.{segment-new, segment-low}
+use Rattle.machine.proofs.memory_laws.EnvironmentLaws.{segment-new}
 use Rattle.machine.proofs.state_laws.ModelLaws.{fits-still}
 
 -- A machine with nothing but the rows and cells of this many registers.
@@ -127,14 +121,9 @@ ready-fits before registers words m i so-far =
     record { room = f .room; few-control = omega arith; few-values = omega arith; few-bindings = f .few-bindings; few-cells = f .few-cells }
 
 root-on : (nodes : List ℕ) (t : Root) {d j : ℕ} → (j ≡ 0 → ⊥) → StoredRoot nodes d 0 j t → ControlAs nodes (running []) (0 ∷ []) (root-control t)
-root-on nodes (expression e) any (root-expression h) = expression-on h nothing-left
-root-on nodes (command c) any (root-command h) = command-on h nothing-left
-root-on nodes absent any root-absent = absurd (any refl)
-
-in-nodes : (before : List ℕ) (t : Root) {d j : ℕ} → StoredRoot before d 0 j t → StoredRoot (take most-nodes before) d 0 j t
-in-nodes before (expression e) (root-expression h) = root-expression (same-expression before (take most-nodes before) (λ i l. getD-take most-nodes before i 0 l) h)
-in-nodes before (command c) (root-command h) = root-command (same-command before (take most-nodes before) (λ i l. getD-take most-nodes before i 0 l) h)
-in-nodes before absent root-absent = root-absent
+root-on nodes (expression e) some (root-expression h) = expression-on h nothing-left
+root-on nodes (command c) some (root-command h) = command-on h nothing-left
+root-on nodes absent some root-absent = absurd (some refl)
 
 module _ (before registers words : List ℕ) (m : Machine) (i : ℕ) (so-far : RegistersSet before registers words m i) (all-set : i ≡ length registers) where
   -- The regions at the start, with these entries on control.
@@ -176,17 +165,17 @@ module _ (before registers words : List ℕ) (m : Machine) (i : ℕ) (so-far : R
     starts : StartsAt t registers r before after
     starts = record { holds = subst (λ k. Holds after r (start k t (integers-of registers))) all-set holds; untouched = kept }
 
-  pub absent-started : (count : ℕ) → count ≡ 0 → (t : Root) → RootAt before count t → StartsAt t registers (ready i) before words
-  absent-started count none t stands =
+  pub absent-started : (nodes : ℕ) → nodes ≡ 0 → (t : Root) → RootAt before nodes t → StartsAt t registers (ready i) before words
+  absent-started nodes none t stands =
       subst (λ u. StartsAt u registers (ready i) before words) (sym (absent-root none stands))
       (starts words (ready i) [] absent regions-ready (ready-fits before registers words m i so-far) nothing-left)
 
   pub root-started : (after : List ℕ) (r : Machine) → r ≡ raised-control (ready i) → regions after (raised-control (ready i)) ≡ with-control 0 (regions words (ready i)) →
-      (count : ℕ) → (count ≡ 0 → ⊥) → (t : Root) → RootAt before count t → StartsAt t registers r before after
+      (nodes : ℕ) → (nodes ≡ 0 → ⊥) → (t : Root) → RootAt before nodes t → StartsAt t registers r before after
   unfolding start-regions
-  root-started after r control-is control-are count any t stands =
+  root-started after r control-is control-are nodes some t stands =
       let f = ready-fits before registers words m i so-far in
       starts after r (0 ∷ []) t
       (ap (regions after) control-is ∙ control-are ∙ ap (with-control 0) regions-ready)
       (subst (Fits after) (sym control-is) (fits-still words after (ready i) (raised-control (ready i)) f (ap (λ κ. κ .size) control-are) (omega arith) (omega arith) (f .few-bindings) (f .few-cells)))
-      (root-on (take most-nodes before) t any (in-nodes before t (stands .stored)))
+      (root-on (take most-nodes before) t some (same-root before (take most-nodes before) (λ k l. getD-take most-nodes before k 0 l) (stands .stored)))

@@ -2,7 +2,7 @@
 use Prim.Native.Nat.{ℕ, zero, suc, _+_, _*_, _/_, _%_, _≤_, _<_}
 use mathlib.Core.Path.{_≡_, refl, sym, ap, _∙_, subst}
 use mathlib.Core.Bool.{Bool, true, false, cond}
-use mathlib.Core.List.{List, [], _∷_, _++_, cons-ne-nil}
+use mathlib.Core.List.{List, [], _∷_, _++_}
 use mathlib.Core.Option.{Option, none, some}
 use native.Mathlib.Omega.{arith}
 use lib.Dec.{T, ltb, lt→ltb, eqb}
@@ -319,16 +319,17 @@ command-root-read {i = i} h rest =
     let o = opened-command h rest in
     rw (o .deep, o .listed, node-read wants-root (command-kind (o .kind)) (root-command (o .kind)) (o .operand) i (o .children) refl (o .fits), o .reads)
 
--- Where a node follows, the root is not absent.
-routine-some : (ns more : List Node) (n : Node) → ns ++ [] ≡ n ∷ more → read-routine ns ≡ read-root most-depth 0 (ns ++ [])
-routine-some [] more n q = absurd (cons-ne-nil _ _ (sym q))
-routine-some (m ∷ ns) more n q = ap (λ rest. read-root most-depth 0 (m ∷ rest)) (sym (append-nothing ns))
+-- With a node there is a root to read.
+pub routine-is-root : (ns rest : List Node) (n : Node) → ns ≡ n ∷ rest → read-routine ns ≡ read-root most-depth 0 ns
+routine-is-root ns rest n q = ap read-routine q ∙ ap (read-root most-depth 0) (sym q)
+
+-- What is read of a listing with nothing behind it.
+listing-read : (ns rest : List Node) (n : Node) {g : Got Root} → ns ++ [] ≡ n ∷ rest → read-root most-depth 0 (ns ++ []) ≡ g → read-routine ns ≡ g
+listing-read ns rest n listed q = routine-is-root ns rest n (sym (append-nothing ns) ∙ listed) ∙ ap (read-root most-depth 0) (sym (append-nothing ns)) ∙ q
 
 -- The reader reads back the listing of every root.
 pub routine-read : {j : ℕ} {t : Root} → ShapedRoot most-depth 0 j t → read-routine (root-nodes t) ≡ got t j []
 unfolding root-nodes
-routine-read (Shape.root-expression {e = e} h) =
-    let o = opened h [] in routine-some (expression-nodes e) _ _ (o .listed) ∙ expression-root-read h []
-routine-read (Shape.root-command {c = c} h) =
-    let o = opened-command h [] in routine-some (command-nodes c) _ _ (o .listed) ∙ command-root-read h []
+routine-read (Shape.root-expression {e = e} h) = listing-read (expression-nodes e) _ _ (opened h [] .listed) (expression-root-read h [])
+routine-read (Shape.root-command {c = c} h) = listing-read (command-nodes c) _ _ (opened-command h [] .listed) (command-root-read h [])
 routine-read Shape.root-absent = refl

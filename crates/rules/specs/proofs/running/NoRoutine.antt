@@ -16,7 +16,7 @@ use Rattle.rules.specs.paper.Reader.{read}
 use Rattle.rules.specs.paper.Checker.{Scope, Passed, a-command}
 use Rattle.rules.specs.paper.States.{integer, Store, find}
 use Rattle.rules.specs.paper.Run.{ended, run}
-use Rattle.rules.specs.paper.Engine.{passed, check-image, start, register-store, as-register, registers-from, outcome, nothing, cleared, engine}
+use Rattle.rules.specs.paper.Engine.{passed, check-image, root-command, checker, start, register-store, as-register, registers-from, outcome, nothing, cleared, engine}
 use Rattle.rules.specs.claims.Listing.{root-nodes, kind-words, operand-words, image-words}
 use Rattle.rules.specs.claims.Shape as Shape
 use Rattle.rules.specs.claims.Typing.{RootOk}
@@ -44,6 +44,10 @@ absent-meets r few =
 
 absent-passes : (r : ℕ) → r ≤ most-registers → check-image (0 ∷ r ∷ []) ≡ passed r absent a-command
 absent-passes r few = check-exact (0 ∷ r ∷ []) r absent a-command .1 (absent-meets r few)
+
+checks-as-command : (r : ℕ) → r ≤ most-registers → (work : List ℕ) → work-words ≤ length work → checker (0 ∷ r ∷ []) work ≡ record { answer = root-command; work = cleared work }
+unfolding checker
+checks-as-command r few work room = rw (le-ltb (length work) work-words room, absent-passes r few)
 
 -- ---- The run.
 
@@ -93,5 +97,6 @@ no-routine =
       );
       longer = λ r w ws few. rw (le-leb r most-registers few, ne-eqb (length (w ∷ ws)) (2 * 0) (λ q. omega (arith, q)));
       many-registers = λ r ws many. rw (lt-leb r most-registers many);
+      checks = checks-as-command;
       runs = runs-to-none;
     }

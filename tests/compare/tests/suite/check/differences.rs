@@ -14,6 +14,14 @@ fn right(image: &[u32], work: &mut [u64]) -> CheckReply {
     reply_of(answer)
 }
 
+/// An engine that settles the work words as it must, and answers so.
+fn answering(reply: CheckReply) -> impl FnOnce(&[u32], &mut [u64]) -> CheckReply {
+    move |image, work| {
+        right(image, work);
+        reply
+    }
+}
+
 /// The text of the difference that must be found.
 fn found(
     check: impl FnOnce(&[u32], &mut [u64]) -> CheckReply,
@@ -37,10 +45,7 @@ fn a_right_function_differs_nowhere() {
 
 #[test]
 fn a_wrong_answer_is_shown_with_the_tree_and_the_words() {
-    let refuse = |image: &[u32], work: &mut [u64]| {
-        right(image, work);
-        CheckReply { refusal: 11, value: 0, place: 2 }
-    };
+    let refuse = answering(CheckReply { refusal: 11, value: 0, place: 2 });
     let expected = "\
 check of 12 words, work slice of 8192 words
   the second interpreter says code 0 (refusal 0, value 0, place 0)
@@ -59,10 +64,7 @@ the image in hexadecimal:
 
 #[test]
 fn an_image_with_no_node_is_shown_as_such() {
-    let refuse = |image: &[u32], work: &mut [u64]| {
-        right(image, work);
-        CheckReply { refusal: 2, value: 0, place: 0 }
-    };
+    let refuse = answering(CheckReply { refusal: 2, value: 0, place: 0 });
     let expected = "\
 check of 2 words, work slice of 8192 words
   the second interpreter says command (refusal 0, value 8, place 0)
@@ -77,10 +79,7 @@ the image in hexadecimal:
 
 #[test]
 fn an_image_that_is_no_tree_is_shown_as_its_words() {
-    let pass = |image: &[u32], work: &mut [u64]| {
-        right(image, work);
-        CheckReply { refusal: 0, value: 8, place: 0 }
-    };
+    let pass = answering(CheckReply { refusal: 0, value: 8, place: 0 });
     let text = found(pass, &[2, 0, 15, 99, 0, 7], WORK_WORDS);
     assert!(text.contains("the engine says             command ("), "{text}");
     assert!(text.contains("the image is no tree (3 at 1)"), "{text}");
