@@ -15,7 +15,7 @@ fn right(image: &[u32], work: &mut [u64]) -> CheckReply {
 }
 
 /// An engine that settles the work words as it must, and answers so.
-fn answering(reply: CheckReply) -> impl FnOnce(&[u32], &mut [u64]) -> CheckReply {
+fn answering(reply: CheckReply) -> impl Fn(&[u32], &mut [u64]) -> CheckReply + Copy {
     move |image, work| {
         right(image, work);
         reply
