@@ -10,9 +10,12 @@ use frames::blocks::extend_mark;
 use frames::blocks::leave_mark;
 use frames::calls::call_mark;
 use frames::declarations::bind_mark;
-use frames::declarations::dseq_mark;
+use frames::declarations::dseq_extend_mark;
+use frames::declarations::dseq_join_mark;
 use machine::Machine;
 use machine::Stepped;
+use machine::layout::DSEQ_EXTEND;
+use machine::layout::DSEQ_JOIN;
 use machine::layout::EXTEND;
 use machine::layout::LEAVE;
 use machine::layout::MARK_NUMBERS;
@@ -32,7 +35,8 @@ pub fn mark_rule(work: &mut [u64], m: Machine, word: u64) -> Stepped
         EXTEND => extend_mark(work, m, word),
         kinds::CALL => call_mark(work, m, word),
         kinds::BIND => bind_mark(work, m, word),
-        kinds::DSEQ => dseq_mark(work, m, word),
+        DSEQ_EXTEND => dseq_extend_mark(work, m, word),
+        DSEQ_JOIN => dseq_join_mark(work, m, word),
         kinds::REF => ref_mark(work, m, word),
         _ => operator_mark(work, m, word),
     }

@@ -104,10 +104,10 @@ CommandJudgedAt words registers scope node r = (c : Command) (Γ : Scope) → Co
 abbrev pub BlockJudgedAt : List ℕ → (registers scope node : ℕ) → Answer → Type 0
 BlockJudgedAt words registers scope node r = (b : Block) (Γ : Scope) → BlockAt words node b → ScopeAt words registers scope Γ → r ≡ fine-answer (block-ok Γ b)
 
--- The names that the declaration gives, with rows from the answer's pointer to `tail`; or its first fault.
-abbrev pub DeclarationJudgedAt : (words words′ : List ℕ) (registers scope tail node : ℕ) → Answer → Type 0
-DeclarationJudgedAt words words′ registers scope tail node r =
-    (d : Declaration) (next : ℕ) (Γ : Scope) → DeclarationAt words node next d → ScopeAt words registers scope Γ → NamesFrom words′ tail next (declaration-gives Γ d) r
+-- The names that the declaration gives, with rows from the answer's pointer to the scope's; or its first fault.
+abbrev pub DeclarationJudgedAt : (words words′ : List ℕ) (registers scope node : ℕ) → Answer → Type 0
+DeclarationJudgedAt words words′ registers scope node r =
+    (d : Declaration) (next : ℕ) (Γ : Scope) → DeclarationAt words node next d → ScopeAt words registers scope Γ → NamesFrom words′ scope next (declaration-gives Γ d) r
 
 -- The number of what the Bind's child means, or its first fault.
 abbrev pub BoundJudgedAt : List ℕ → (registers scope node : ℕ) → Answer → Type 0

@@ -171,7 +171,7 @@ fn block(work: &mut [u64], registers: usize, scope: usize, node: usize) -> Answe
     ensures { λ r. ⌜ BlockJudgedAt (now (work .entry)) registers scope node r ⌝ }
     ensures { λ r. ⌜ WritesRowsFrom (now (work .entry)) (now (work .exit)) node ⌝ }
 {
-    let declared = declaration(work, registers, scope, scope, node + 1);
+    let declared = declaration(work, registers, scope, node + 1);
     let Answer::Is(inner) = declared else {
         return declared;
     };
@@ -180,28 +180,28 @@ fn block(work: &mut [u64], registers: usize, scope: usize, node: usize) -> Answe
     anew(body)
 }
 
-// The declaration at a node: rows for its names, linked from `tail`, and the pointer of the newest.
-fn declaration(work: &mut [u64], registers: usize, scope: usize, tail: usize, node: usize) -> Answer
+// The declaration at a node in the scope at a pointer: rows for its names, linked to that scope, and the pointer of the newest. So the
+// second declaration of a DSeq sees the names of the first.
+fn declaration(work: &mut [u64], registers: usize, scope: usize, node: usize) -> Answer
     requires { ⌜ rows-end ≤ length (now work) ⌝ }
     requires { ⌜ scope ≤ node ⌝ }
-    requires { ⌜ tail ≤ node ⌝ }
     requires { ⌜ ((Γ : Scope) × ScopeAt (now work) registers scope Γ) ⌝ }
     requires { ⌜ ((d : Declaration) × (next : ℕ) × DeclarationAt (now work) node next d) ⌝ }
-    ensures { λ r. ⌜ DeclarationJudgedAt (now (work .entry)) (now (work .exit)) registers scope tail node r ⌝ }
+    ensures { λ r. ⌜ DeclarationJudgedAt (now (work .entry)) (now (work .exit)) registers scope node r ⌝ }
     ensures { λ r. ⌜ WritesRowsFrom (now (work .entry)) (now (work .exit)) node ⌝ }
 {
     let which = kind(work, node);
     if which == kinds::DSEQ {
-        let first = declaration(work, registers, scope, tail, node + 1);
+        let first = declaration(work, registers, scope, node + 1);
         let Answer::Is(middle) = first else {
             return first;
         };
         let after = end(work, node + 1);
-        let second = declaration(work, registers, scope, middle, after);
+        let second = declaration(work, registers, middle, after);
         let Answer::Is(newest) = second else {
             return second;
         };
-        let repeated = shares_name(work, newest, middle, tail);
+        let repeated = shares_name(work, newest, middle, scope);
         if repeated {
             return Answer::Fault(refusals::REPEATED, node);
         }
@@ -212,7 +212,7 @@ fn declaration(work: &mut [u64], registers: usize, scope: usize, tail: usize, no
     let Answer::Is(number) = meant else {
         return meant;
     };
-    work[ROWS + node] = row_word(name, number, tail);
+    work[ROWS + node] = row_word(name, number, scope);
     Answer::Is(node + 1)
 }
 

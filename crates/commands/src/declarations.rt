@@ -11,11 +11,12 @@ use machine::Machine;
 use machine::Stepped;
 use machine::layout::BIND_MARK;
 use machine::layout::CLOSURE_UNIT;
-use machine::layout::DSEQ_MARK;
+use machine::layout::DSEQ_EXTEND_MARK;
+use machine::layout::DSEQ_JOIN_MARK;
 use machine::layout::REF_MARK;
 use machine::stacks::enter;
 use machine::stacks::push;
-use machine::stacks::put_three;
+use machine::stacks::put_four;
 use machine::stacks::put_two;
 use reader::end;
 use reader::kinds;
@@ -30,13 +31,20 @@ fn bind(work: &mut [u64], m: Machine, node: usize) -> Stepped
     enter(work, m, name as u64, BIND_MARK, node as u64 + 1)
 }
 
-// DSeq: both declarations, the mark.
+// DSeq: the first declaration, the first mark, the second declaration, the second mark.
 fn declaration_sequence(work: &mut [u64], m: Machine, node: usize) -> Stepped
     requires { ⌜ ((d₁ d₂ : Declaration) × Applicable (now work) m node (declaration (DSeq node d₁ d₂))) ⌝ }
     ensures { λ r. ⌜ ((d₁ d₂ : Declaration) → Steps (now (work .entry)) m node (declaration (DSeq node d₁ d₂)) r (now (work .exit))) ⌝ }
 {
     let second = end(work, node + 1);
-    put_three(work, m, DSEQ_MARK, second as u64, node as u64 + 1)
+    put_four(
+        work,
+        m,
+        DSEQ_JOIN_MARK,
+        second as u64,
+        DSEQ_EXTEND_MARK,
+        node as u64 + 1,
+    )
 }
 
 // Ref: the value, the mark.

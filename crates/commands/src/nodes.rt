@@ -63,16 +63,8 @@ fn enter_block(work: &mut [u64], m: Machine, node: usize) -> Stepped
         return Stepped::Withheld(full);
     }
     let body = end(work, node + 1);
-    let saved = put_value(work, m, 0, m.base as u64);
-    let opened = Machine {
-        control: saved.control,
-        values: saved.values,
-        environment: saved.environment,
-        declared: saved.environment,
-        cells: saved.cells,
-        base: saved.cells,
-        bindings: saved.bindings,
-    };
+    let mut opened = put_value(work, m, 0, m.base as u64);
+    opened.base = opened.cells;
     let first = put_control(
         work,
         opened,

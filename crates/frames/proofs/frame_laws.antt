@@ -1,2 +1,3 @@
 pub mod FrameLaws
 pub mod BlockMarkLaws
+pub mod DseqMarkLaws

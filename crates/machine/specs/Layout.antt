@@ -2,8 +2,8 @@
 -- layout.rt.
 use Prim.Native.Nat.{ℕ, _+_, _-_, _*_}
 use Rattle.rules.specs.paper.Limits.{names, most-cells, most-bindings, most-value-entries, most-control-entries}
-use Rattle.rules.specs.paper.Kinds.{negation, assign, loop, cseq, blk, call, bind, dseq, expression-kind, command-kind, declaration-kind, ref, binary, kind-number}
-use Rattle.rules.specs.paper.States.{Mark, operator-mark, not-mark, assign-mark, loop-mark, ref-mark, bind-mark, dseq-mark, extend-mark, leave-mark, call-mark}
+use Rattle.rules.specs.paper.Kinds.{negation, assign, loop, cseq, blk, call, bind, dseq, expression-kind, command-kind, declaration-kind, ref, abs, binary, kind-number}
+use Rattle.rules.specs.paper.States.{Mark, operator-mark, not-mark, assign-mark, loop-mark, ref-mark, bind-mark, dseq-extend-mark, dseq-join-mark, extend-mark, leave-mark, call-mark}
 
 -- ---- The regions, one behind the other.
 
@@ -41,6 +41,9 @@ top-payload = value-payloads - 1
 
 abbrev pub second-payload : ℕ
 second-payload = value-payloads - 2
+
+abbrev pub third-payload : ℕ
+third-payload = value-payloads - 3
 
 abbrev pub top-label : ℕ
 top-label = value-labels - 1
@@ -82,7 +85,8 @@ carried-unit = 4096
 abbrev pub count-unit : ℕ
 count-unit = carried-unit * names
 
--- The number of a mark: that of the kind that it belongs to. A block's second mark has the number of CSeq, which has no mark of its own.
+-- The number of a mark: that of the kind that it belongs to. A block's second mark has the number of CSeq and a DSeq's first that of Abs,
+-- which have no mark of their own.
 abbrev pub mark-number : Mark → ℕ
 mark-number (operator-mark o) = kind-number (expression-kind (binary o))
 mark-number not-mark = kind-number (expression-kind negation)
@@ -92,7 +96,8 @@ mark-number (leave-mark p n) = kind-number (command-kind cseq)
 mark-number extend-mark = kind-number (command-kind blk)
 mark-number (call-mark p x k) = kind-number (command-kind call)
 mark-number bind-mark = kind-number (declaration-kind bind)
-mark-number dseq-mark = kind-number (declaration-kind dseq)
+mark-number dseq-extend-mark = kind-number abs
+mark-number dseq-join-mark = kind-number (declaration-kind dseq)
 mark-number ref-mark = kind-number ref
 
 -- The word of a mark that carries nothing, and of one that carries the live bindings to go back to, or a Call's operand.
@@ -114,5 +119,6 @@ mark-word (leave-mark p n) = leave-word n
 mark-word extend-mark = plain-word extend-mark
 mark-word (call-mark p x k) = call-word (x + names * k)
 mark-word bind-mark = plain-word bind-mark
-mark-word dseq-mark = plain-word dseq-mark
+mark-word dseq-extend-mark = plain-word dseq-extend-mark
+mark-word dseq-join-mark = plain-word dseq-join-mark
 mark-word ref-mark = plain-word ref-mark

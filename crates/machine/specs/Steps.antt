@@ -10,7 +10,7 @@ use Rattle.rules.specs.paper.Rules.{Rule, Effect, goes, Table}
 use Rattle.rules.specs.paper.Run.{Verdict, made, withheld, judge}
 use Rattle.rules.specs.paper.Limits.{most-nodes, work-words, names}
 use Rattle.machine.specs.Regions.{Regions, slot, regions, Fits, with-control}
-use Rattle.machine.specs.Represents.{BindableAs, ControlAs, ValuesAs, Models}
+use Rattle.machine.specs.Represents.{BindableAs, Mode, ControlAs, ValuesAs, Beside, Models}
 use Rattle.machine.specs.declared.Machine.{Machine}
 use Rattle.machine.specs.declared.Stepped.{Stepped}
 use Rattle.machine.specs.declared.Stepped.the-variants.{Made, Withheld}
@@ -73,18 +73,25 @@ Steps before m w i answer after =
     (C : List Item) (X : List Entry) (E : Environment) (S : Store) (L : List ℕ) (n : ℕ) (r : Rule) (e : Effect) →
     Ready before m w i C X E S L n r e → StepAnswer (judge false e) answer before after
 
--- Two or three entries more on control, the last one given on top: what the step to them answers.
+-- Two, three or four entries more on control, the last one given on top: what the step to them answers. The entries below them may be in
+-- another mode: a declaration goes from one stage to its end.
 abbrev pub PutsTwo : (before : List ℕ) → Machine → (below top : ℕ) → Stepped → (after : List ℕ) → Type 0
 PutsTwo before m below top answer after =
-    (C : List Item) (X : List Entry) (E : Environment) (S : Store) (L : List ℕ) (n : ℕ) (i j : Item) (μ : Models (regions before m) C X E S L n) →
-    ControlAs (regions before m .nodes) (μ .mode) (top ∷ below ∷ regions before m .control) (i ∷ j ∷ C) →
+    (C : List Item) (X : List Entry) (E : Environment) (S : Store) (L : List ℕ) (n : ℕ) (i j : Item) (mode : Mode) → Beside (regions before m) mode X E S L n →
+    ControlAs (regions before m .nodes) mode (top ∷ below ∷ regions before m .control) (i ∷ j ∷ C) →
     StepAnswer (judge false (goes (state (i ∷ j ∷ C) X E S L n))) answer before after
 
 abbrev pub PutsThree : (before : List ℕ) → Machine → (below middle top : ℕ) → Stepped → (after : List ℕ) → Type 0
 PutsThree before m below middle top answer after =
-    (C : List Item) (X : List Entry) (E : Environment) (S : Store) (L : List ℕ) (n : ℕ) (i j k : Item) (μ : Models (regions before m) C X E S L n) →
-    ControlAs (regions before m .nodes) (μ .mode) (top ∷ middle ∷ below ∷ regions before m .control) (i ∷ j ∷ k ∷ C) →
+    (C : List Item) (X : List Entry) (E : Environment) (S : Store) (L : List ℕ) (n : ℕ) (i j k : Item) (mode : Mode) → Beside (regions before m) mode X E S L n →
+    ControlAs (regions before m .nodes) mode (top ∷ middle ∷ below ∷ regions before m .control) (i ∷ j ∷ k ∷ C) →
     StepAnswer (judge false (goes (state (i ∷ j ∷ k ∷ C) X E S L n))) answer before after
+
+abbrev pub PutsFour : (before : List ℕ) → Machine → (lowest below middle top : ℕ) → Stepped → (after : List ℕ) → Type 0
+PutsFour before m lowest below middle top answer after =
+    (C : List Item) (X : List Entry) (E : Environment) (S : Store) (L : List ℕ) (n : ℕ) (i j k l : Item) (mode : Mode) → Beside (regions before m) mode X E S L n →
+    ControlAs (regions before m .nodes) mode (top ∷ middle ∷ below ∷ lowest ∷ regions before m .control) (i ∷ j ∷ k ∷ l ∷ C) →
+    StepAnswer (judge false (goes (state (i ∷ j ∷ k ∷ l ∷ C) X E S L n))) answer before after
 
 -- One value or closure more on the value stack.
 abbrev pub Pushes : (before : List ℕ) → Machine → (label payload : ℕ) → Stepped → (after : List ℕ) → Type 0
@@ -96,8 +103,8 @@ Pushes before m label payload answer after =
 -- A name or a node on the value stack, and two entries more on control.
 abbrev pub Enters : (before : List ℕ) → Machine → (payload below top : ℕ) → Stepped → (after : List ℕ) → Type 0
 Enters before m payload below top answer after =
-    (C : List Item) (X : List Entry) (E : Environment) (S : Store) (L : List ℕ) (n : ℕ) (i j : Item) (x : Entry) (μ : Models (regions before m) C X E S L n) →
-    ControlAs (regions before m .nodes) (μ .mode) (top ∷ below ∷ regions before m .control) (i ∷ j ∷ C) →
+    (C : List Item) (X : List Entry) (E : Environment) (S : Store) (L : List ℕ) (n : ℕ) (i j : Item) (x : Entry) (mode : Mode) → Beside (regions before m) mode X E S L n →
+    ControlAs (regions before m .nodes) mode (top ∷ below ∷ regions before m .control) (i ∷ j ∷ C) →
     ((label : ℕ) →
-    ValuesAs (regions before m .nodes) (regions before m .rows) (regions before m .base) (regions before m .declared) (regions before m .environment) E (μ .mode) (slot label payload ∷ regions before m .values) (x ∷ X)) →
+    ValuesAs (regions before m .nodes) (regions before m .rows) (regions before m .base) (regions before m .declared) (regions before m .environment) E mode (slot label payload ∷ regions before m .values) (x ∷ X)) →
     StepAnswer (judge false (goes (state (i ∷ j ∷ C) (x ∷ X) E S L n))) answer before after

@@ -33,6 +33,8 @@ pub const TOP_PAYLOAD: usize = VALUE_PAYLOADS - 1;
 
 pub const SECOND_PAYLOAD: usize = VALUE_PAYLOADS - 2;
 
+pub const THIRD_PAYLOAD: usize = VALUE_PAYLOADS - 3;
+
 pub const TOP_LABEL: usize = VALUE_LABELS - 1;
 
 // A pointer is one more than the number of its row.
@@ -59,10 +61,15 @@ pub const CARRIED_UNIT: u64 = 4096;
 
 pub const COUNT_UNIT: u64 = CARRIED_UNIT * NAME_UNIT;
 
-// A mark has the number of the kind that it belongs to; a block's second has that of CSeq, which has no mark of its own.
+// A mark has the number of the kind that it belongs to; a block's second has that of CSeq and a DSeq's first that of Abs, which have no mark
+// of their own.
 pub const EXTEND: usize = kinds::BLK;
 
 pub const LEAVE: usize = kinds::CSEQ;
+
+pub const DSEQ_EXTEND: usize = kinds::ABS;
+
+pub const DSEQ_JOIN: usize = kinds::DSEQ;
 
 // The words of the marks, without what they carry.
 pub const SUM_MARK: u64 = MARK + kinds::SUM as u64;
@@ -95,6 +102,8 @@ pub const CALL_MARK: u64 = MARK + kinds::CALL as u64;
 
 pub const BIND_MARK: u64 = MARK + kinds::BIND as u64;
 
-pub const DSEQ_MARK: u64 = MARK + kinds::DSEQ as u64;
+pub const DSEQ_EXTEND_MARK: u64 = MARK + DSEQ_EXTEND as u64;
+
+pub const DSEQ_JOIN_MARK: u64 = MARK + DSEQ_JOIN as u64;
 
 pub const REF_MARK: u64 = MARK + kinds::REF as u64;

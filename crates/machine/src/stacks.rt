@@ -1,8 +1,8 @@
-// What several rules do alike: a value more, or two or three entries more on control, each with the limits that it can reach.
+// What several rules do alike: a value more, or two to four entries more on control, each with the limits that it can reach.
 ghost use mathlib.Core.Path.{_≡_};
 ghost use Rattle.machine.specs.Room.{full-stack};
 ghost use Rattle.machine.specs.Regions.{Fits};
-ghost use Rattle.machine.specs.Steps.{PutsTwo, PutsThree, Pushes, Enters};
+ghost use Rattle.machine.specs.Steps.{PutsTwo, PutsThree, PutsFour, Pushes, Enters};
 use crate::Machine;
 use crate::Stepped;
 use crate::layout::MOST_CONTROL_ENTRIES;
@@ -59,6 +59,27 @@ pub fn put_three(work: &mut [u64], m: Machine, below: u64, middle: u64, top: u64
     let first = put_control(work, m, below);
     let second = put_control(work, first, middle);
     Stepped::Made(put_control(work, second, top))
+}
+
+// Four entries go on control.
+pub fn put_four(
+    work: &mut [u64],
+    m: Machine,
+    lowest: u64,
+    below: u64,
+    middle: u64,
+    top: u64,
+) -> Stepped
+    requires { ⌜ Fits (now work) m ⌝ }
+    ensures { λ r. ⌜ PutsFour (now (work .entry)) m lowest below middle top r (now (work .exit)) ⌝ }
+{
+    if MOST_CONTROL_ENTRIES < m.control + 4 {
+        return Stepped::Withheld(reasons::CONTROL_ENTRIES);
+    }
+    let first = put_control(work, m, lowest);
+    let second = put_control(work, first, below);
+    let third = put_control(work, second, middle);
+    Stepped::Made(put_control(work, third, top))
 }
 
 // A name or a node goes on the value stack and two entries on control: Assign, Loop, Bind.

@@ -1,4 +1,4 @@
--- Which rule a mark has: the number of its kind is the low part of its word and fixes the mark.
+-- Which rule a mark has: its number is the low part of its word and fixes the mark.
 use Prim.Native.Nat.{ℕ, _+_, _*_, _%_, _<_, _≤_}
 use mathlib.Core.Path.{_≡_, refl, sym, subst}
 use mathlib.Core.Bool.{cond}
@@ -9,16 +9,16 @@ use lib.Dec.{eqb}
 use Rattle.rules.specs.paper.Kinds.{operator-number}
 use Rattle.rules.specs.paper.Tree.{Arithmetic, Sum, Sub, Mul, Div, Order, Lt, Le, Gt, Ge, Logic, And, Or, Operator, arithmetic, Eq, order, logic}
 use Rattle.rules.specs.paper.Limits.{names}
-use Rattle.rules.specs.paper.States.{Item, mark, Mark, operator-mark, not-mark, assign-mark, loop-mark, ref-mark, bind-mark, dseq-mark, extend-mark, leave-mark, call-mark}
+use Rattle.rules.specs.paper.States.{Item, mark, Mark, operator-mark, not-mark, assign-mark, loop-mark, ref-mark, bind-mark, dseq-extend-mark, dseq-join-mark, extend-mark, leave-mark, call-mark}
 use Rattle.machine.specs.Layout.{mark-base, leave-word, call-word}
-use Rattle.machine.specs.Represents.{Mode, ControlAs, operator-on, not-on, assign-on, loop-on, ref-on, bind-on, dseq-on, extend-on, leave-on, call-on}
+use Rattle.machine.specs.Represents.{Mode, ControlAs, operator-on, not-on, assign-on, loop-on, ref-on, bind-on, dseq-extend-on, dseq-join-on, extend-on, leave-on, call-on}
 use Rattle.machine.specs.Steps.{Applicable, Steps}
 use Rattle.machine.specs.declared.Machine.{Machine}
 use Rattle.machine.specs.declared.Stepped.{Stepped}
 
 -- The rules of marks.
 pub data Arm : Type 0 where
-  on-operator on-not on-assign on-loop on-leave on-extend on-call on-bind on-dseq on-ref : Arm
+  on-operator on-not on-assign on-loop on-leave on-extend on-call on-bind on-dseq-extend on-dseq-join on-ref : Arm
 
 -- By the number, in the order of the code's arms.
 abbrev pub arm-of : ℕ → Arm
@@ -30,9 +30,10 @@ arm-of k =
     (cond (eqb k 23) on-extend
     (cond (eqb k 24) on-call
     (cond (eqb k 30) on-bind
-    (cond (eqb k 31) on-dseq
+    (cond (eqb k 41) on-dseq-extend
+    (cond (eqb k 31) on-dseq-join
     (cond (eqb k 40) on-ref
-    on-operator))))))))
+    on-operator)))))))))
 
 -- Which marks have the rule.
 abbrev pub Has : (w : ℕ) → Arm → Mark → Type 0
@@ -44,7 +45,8 @@ Has w on-leave k = (p n : ℕ) × (k ≡ leave-mark p n)
 Has w on-extend k = k ≡ extend-mark
 Has w on-call k = (p x n : ℕ) × (k ≡ call-mark p x n)
 Has w on-bind k = k ≡ bind-mark
-Has w on-dseq k = k ≡ dseq-mark
+Has w on-dseq-extend k = k ≡ dseq-extend-mark
+Has w on-dseq-join k = k ≡ dseq-join-mark
 Has w on-ref k = k ≡ ref-mark
 
 -- ---- The mark's word.
@@ -78,7 +80,8 @@ has (assign-on {w = w} q h) = by-kind w 20 assign-mark (omega (arith, q)) refl
 has (loop-on {w = w} q h) = by-kind w 21 loop-mark (omega (arith, q)) refl
 has (ref-on {w = w} q h) = by-kind w 40 ref-mark (omega (arith, q)) refl
 has (bind-on {w = w} q h) = by-kind w 30 bind-mark (omega (arith, q)) refl
-has (dseq-on {w = w} q h) = by-kind w 31 dseq-mark (omega (arith, q)) refl
+has (dseq-extend-on {w = w} q h) = by-kind w 41 dseq-extend-mark (omega (arith, q)) refl
+has (dseq-join-on {w = w} q h) = by-kind w 31 dseq-join-mark (omega (arith, q)) refl
 has (extend-on {w = w} q h) = by-kind w 23 extend-mark (omega (arith, q)) refl
 has (leave-on {m = m} {w = w} {p = p} q h) = by-kind w 22 (leave-mark p m) (leave-kind w m q) (p, m, refl)
 has (call-on {w = w} {p = p} {x = x} {k = k} q l g h) = by-kind w 24 (call-mark p x k) (call-kind w (x + names * k) q) (p, x, k, refl)
@@ -86,18 +89,19 @@ has (call-on {w = w} {p = p} {x = x} {k = k} q l g h) = by-kind w 24 (call-mark 
 -- ---- The last arm: none of the numbers of the others.
 
 abbrev pub Others : ℕ → Type 0
-Others k = ((((((((Unit {0} × (k ≡ 15 → ⊥)) × (k ≡ 20 → ⊥)) × (k ≡ 21 → ⊥)) × (k ≡ 22 → ⊥)) × (k ≡ 23 → ⊥)) × (k ≡ 24 → ⊥)) × (k ≡ 30 → ⊥)) × (k ≡ 31 → ⊥)) × (k ≡ 40 → ⊥)
+Others k = (((((((((Unit {0} × (k ≡ 15 → ⊥)) × (k ≡ 20 → ⊥)) × (k ≡ 21 → ⊥)) × (k ≡ 22 → ⊥)) × (k ≡ 23 → ⊥)) × (k ≡ 24 → ⊥)) × (k ≡ 30 → ⊥)) × (k ≡ 41 → ⊥)) × (k ≡ 31 → ⊥)) × (k ≡ 40 → ⊥)
 
 pub is-operator : (k : ℕ) → Others k → arm-of k ≡ on-operator
 is-operator k h =
     rw (
-      ne-eqb k 15 (h .0 .0 .0 .0 .0 .0 .0 .0 .1),
-      ne-eqb k 20 (h .0 .0 .0 .0 .0 .0 .0 .1),
-      ne-eqb k 21 (h .0 .0 .0 .0 .0 .0 .1),
-      ne-eqb k 22 (h .0 .0 .0 .0 .0 .1),
-      ne-eqb k 23 (h .0 .0 .0 .0 .1),
-      ne-eqb k 24 (h .0 .0 .0 .1),
-      ne-eqb k 30 (h .0 .0 .1),
+      ne-eqb k 15 (h .0 .0 .0 .0 .0 .0 .0 .0 .0 .1),
+      ne-eqb k 20 (h .0 .0 .0 .0 .0 .0 .0 .0 .1),
+      ne-eqb k 21 (h .0 .0 .0 .0 .0 .0 .0 .1),
+      ne-eqb k 22 (h .0 .0 .0 .0 .0 .0 .1),
+      ne-eqb k 23 (h .0 .0 .0 .0 .0 .1),
+      ne-eqb k 24 (h .0 .0 .0 .0 .1),
+      ne-eqb k 30 (h .0 .0 .0 .1),
+      ne-eqb k 41 (h .0 .0 .1),
       ne-eqb k 31 (h .0 .1),
       ne-eqb k 40 (h .1),
     )

@@ -16,17 +16,17 @@ use Rattle.machine.specs.Layout.{cell-payloads, cell-labels, mark-word, leave-w
 use Rattle.reader.specs.Pack.{packed-end}
 use Rattle.reader.specs.Stored.{StoredCommand, block-of, blk, StoredDeclaration}
 use Rattle.machine.specs.Regions.{slot, Regions, regions, Fits, with-control, with-values, raised-values}
-use Rattle.machine.specs.Represents.{Since, none-since, no-more, declaring, declaration-on, command-on, extend-on, leave-on, opened-on, Models}
+use Rattle.machine.specs.Represents.{Since, none-since, no-more, at-block, declaring, declaration-on, command-on, extend-on, leave-on, opened-on, Models}
 use Rattle.machine.specs.Steps.{StepAnswer, Applicable, Steps}
 use Rattle.machine.specs.declared.Machine.{Machine}
 use Rattle.machine.specs.declared.Stepped.the-variants.{Made, Withheld}
 use Rattle.machine.proofs.memory_laws.RegionLaws.{slots-length}
 use Rattle.machine.specs.Room.{full-stack}
-use Rattle.machine.proofs.state_laws.ModelLaws.{sizes, step-made, step-withheld-for-room}
+use Rattle.machine.proofs.state_laws.ModelLaws.{with-items, beside-sizes, sizes, step-made, step-withheld-for-room}
 use Rattle.machine.proofs.stack_laws.SharedLaws.{Put, put-regions, value-fits}
 use Rattle.machine.proofs.stack_laws.RoomLaws.{Room, room-after}
 use Rattle.reader.specs.StandingLaws.{after-node, declaration-root}
-use Rattle.machine.proofs.state_laws.ItemLaws.{node-end, lowered, command-top}
+use Rattle.machine.proofs.state_laws.ItemLaws.{node-end, command-top}
 
 -- ---- The tree.
 
@@ -51,14 +51,14 @@ block-low words m i d c a = declaration-root (block-at (command-top (regions wor
 
 -- ---- The machine of the block.
 
--- No name is declared yet, and no cell made.
+-- No cell is made yet.
 abbrev pub opened : Machine → Machine
 opened m =
     record {
       control = m .control;
       values = m .values;
       environment = m .environment;
-      declared = m .environment;
+      declared = m .declared;
       cells = m .cells;
       base = m .cells;
       bindings = m .bindings;
@@ -73,7 +73,7 @@ opened-at base κ =
       rows = κ .rows;
       cells = κ .cells;
       environment = κ .environment;
-      declared = κ .environment;
+      declared = κ .declared;
       base = base;
       beyond = κ .beyond;
       size = κ .size;
@@ -100,7 +100,7 @@ pub block-withheld : (words : List ℕ) (m : Machine) (i full : ℕ) → full �
     (d : Declaration) (c : Command) → Steps words m i (command (block (Blk i d c))) (Withheld full) words
 block-withheld words m i full is full-there d c C X E S L n rule f ready =
     let t = command-top (regions words m) i (block (Blk i d c)) (ready .models) in
-    let z = sizes words m (lowered (t .rest)) in
+    let z = sizes words m (with-items (t .control-as) (t .rest)) in
     let fits = ready .fits in
     subst (λ g. StepAnswer (judge false g) (Withheld full) words words) (block-effect (ready .applies))
     (step-withheld-for-room words (declaration d ∷ mark extend-mark ∷ command c ∷ mark (leave-mark i n) ∷ C) (locations L ∷ X) E S [] n (m .values + 1) (m .control + 4) full
@@ -143,7 +143,7 @@ module _ (words : List ℕ) (m : Machine) (fits : Fits words m) (few : m .values
         let t = command-top (regions words m) i (block (Blk i d c)) (ready .models) in
         let tree = block-at (t .stored) in
         let v = t .rest in
-        let z = sizes words m (lowered v) in
+        let z = beside-sizes words m v in
         let κ = regions words m in
         let body-is = place ∙ node-end words m (declaration-root (tree .declared)) in
         let cells-are = cells-counted words m ∙ sym cells-kept in
@@ -151,9 +151,9 @@ module _ (words : List ℕ) (m : Machine) (fits : Fits words m) (few : m .values
         (step-made words after m r (Made r) (declaration d ∷ mark extend-mark ∷ command c ∷ mark (leave-mark i n) ∷ C) (locations L ∷ X) E S [] n refl after-fits
         (subst (λ κ′. Models κ′ (declaration d ∷ mark extend-mark ∷ command c ∷ mark (leave-mark i n) ∷ C) (locations L ∷ X) E S [] n) (sym all)
         (record {
-          mode = declaring n (t .blocks);
-          control-as = declaration-on (tree .declared) (extend-on refl (command-on (subst (λ l. StoredCommand (κ .nodes) (tree .depth) l (tree .next) c) (sym body-is) (tree .body)) (leave-on (ap (λ l. leave-word l) (bindings-kept ∙ sym (z .bindings-height))) (v .control-as))));
-          values-as = opened-on refl no-more (sym (v .bindings-as)) (v .environment-as) (subst (λ l. Since (κ .base) l L) cells-are (v .locations-as)) (base-is words m) (v .values-as);
+          mode = declaring at-block n (t .blocks);
+          control-as = declaration-on (tree .declared) (extend-on refl (command-on (subst (λ l. StoredCommand (κ .nodes) (tree .depth) l (tree .next) c) (sym body-is) (tree .body)) (leave-on (ap (λ l. leave-word l) (bindings-kept ∙ sym (z .bindings-height))) (t .control-as))));
+          values-as = opened-on no-more (sym (v .bindings-as)) (v .environment-as) (subst (λ l. Since (κ .base) l L) cells-are (v .locations-as)) (base-is words m) (v .values-as);
           environment-as = v .environment-as;
           store-as = v .store-as;
           locations-as = subst (λ l. Since (u .cells) l []) (sym cells-are) none-since;

@@ -21,12 +21,12 @@ use Rattle.machine.specs.Steps.{StepAnswer, Ready, Applicable, Steps}
 use Rattle.machine.specs.declared.Machine.{Machine}
 use Rattle.machine.specs.declared.Stepped.the-variants.{Made, Withheld}
 use Rattle.machine.proofs.state_laws.JudgeLaws.{judged-control}
-use Rattle.machine.proofs.state_laws.ModelLaws.{sizes, step-withheld}
+use Rattle.machine.proofs.state_laws.ModelLaws.{with-items, sizes, step-withheld}
 use Rattle.machine.proofs.state_laws.NodeLaws.{node-word}
 use Rattle.machine.proofs.stack_laws.SharedLaws.{Put, put-regions, grown-control}
 use Rattle.machine.proofs.stack_laws.RoomLaws.{Room, room-after}
 use Rattle.reader.specs.StandingLaws.{after-node, Rooted, expression-root}
-use Rattle.machine.proofs.state_laws.ItemLaws.{node-end, lowered, RunningTop, command-top}
+use Rattle.machine.proofs.state_laws.ItemLaws.{node-end, RunningTop, command-top}
 
 -- ---- The tree.
 
@@ -71,7 +71,7 @@ module _ (words : List ℕ) (m : Machine) (i word : ℕ) (known : word ≡ packe
   call-withheld q x es C X E S L n rule f ready =
       let t = command-top (regions words m) i (Call i x es) (ready .models) in
       let a = call-at (t .stored) in
-      let z = sizes words m (lowered (t .rest)) in
+      let z = sizes words m (with-items (t .control-as) (t .rest)) in
       let fits = ready .fits in
       let all = put-actuals es (mark (call-mark i x (length es)) ∷ C) in
       subst (λ g. StepAnswer (judge false g) (Withheld 36) words words) (call-effect (ready .applies))
@@ -201,7 +201,7 @@ module _ (words : List ℕ) (m : Machine) (i word : ℕ) (known : word ≡ packe
           next = tree .next;
           stored = tree .actuals;
           many = counted words m i word known tree;
-          control-as = call-on (ap (λ w. call-word w) (operand-of words m i word known tree)) (tree .name-low) (tree .few) (top .rest .control-as);
+          control-as = call-on (ap (λ w. call-word w) (operand-of words m i word known tree)) (tree .name-low) (tree .few) (top .control-as);
           come-to = refl;
         })
 
@@ -216,6 +216,6 @@ module _ (words : List ℕ) (m : Machine) (i word : ℕ) (known : word ≡ packe
       let ws = regions after r .control in
       let done = all-put none (g .putting (running (t .blocks)) all (begun x es ready)) in
       subst (λ g. StepAnswer (judge false g) (Made r) words after) (call-effect (ready .applies))
-      (grown-control words m (ready .fits) after r ws C all X E S L n (lowered (t .rest))
+      (grown-control words m (ready .fits) after r ws all X E S L n (running (t .blocks)) (t .rest)
       (subst (λ nodes. ControlAs nodes (running (t .blocks)) ws all) (ap (λ κ. κ .nodes) (put-regions put)) done)
       (g .room .fits) (g .same ∙ ap (with-controls ws) (put-regions put)))

@@ -15,13 +15,13 @@ use Rattle.machine.specs.Layout.{mark-word}
 use Rattle.reader.specs.Pack.{packed-operand, packed-end}
 use Rattle.reader.specs.Stored.{HasWord, operand-is, StoredExpression, StoredCommand, assign, loop, cseq}
 use Rattle.machine.specs.Regions.{regions}
-use Rattle.machine.specs.Represents.{expression-on, command-on, assign-on, loop-on, name-on, node-on}
+use Rattle.machine.specs.Represents.{running, expression-on, command-on, assign-on, loop-on, name-on, node-on}
 use Rattle.machine.specs.Steps.{StepAnswer, Applicable, Steps, PutsTwo, Enters}
 use Rattle.machine.specs.declared.Machine.{Machine}
 use Rattle.machine.specs.declared.Stepped.{Stepped}
 use Rattle.machine.proofs.state_laws.NodeLaws.{node-word}
 use Rattle.reader.specs.StandingLaws.{after-node, command-root}
-use Rattle.machine.proofs.state_laws.ItemLaws.{node-end, lowered, command-top}
+use Rattle.machine.proofs.state_laws.ItemLaws.{node-end, command-top}
 
 -- The place of a command on top of control is a node's.
 pub command-low : (words : List ℕ) (m : Machine) (w : ℕ) (c : Command) → Applicable words m w (command c) → w < most-nodes
@@ -51,7 +51,7 @@ assign-steps words m i r after x′ q enters x e C X E S L n rule f ready =
     let a = assign-at (t .stored) in
     let u = t .rest in
     subst (λ g. StepAnswer (judge false g) r words after) (assign-effect (ready .applies))
-    (enters C X E S L n (expression e) (mark assign-mark) (name x) (lowered u) (expression-on (a .assigned) (assign-on refl (u .control-as)))
+    (enters C X E S L n (expression e) (mark assign-mark) (name x) (running (t .blocks)) u (expression-on (a .assigned) (assign-on refl (t .control-as)))
     (λ label. name-on (q ∙ operand-is (node-word words m (a .word)) (omega arith)) (a .name-low) (u .values-as)))
 
 -- ---- Loop.
@@ -74,7 +74,7 @@ loop-steps words m i r after enters e c C X E S L n rule f ready =
     let t = command-top (regions words m) i (Loop i e c) (ready .models) in
     let u = t .rest in
     subst (λ g. StepAnswer (judge false g) r words after) (loop-effect (ready .applies))
-    (enters C X E S L n (expression e) (mark loop-mark) (node (Loop i e c)) (lowered u) (expression-on (loop-at (t .stored) .test) (loop-on refl (u .control-as)))
+    (enters C X E S L n (expression e) (mark loop-mark) (node (Loop i e c)) (running (t .blocks)) u (expression-on (loop-at (t .stored) .test) (loop-on refl (t .control-as)))
     (λ label. node-on (t .stored) (u .values-as)))
 
 -- ---- CSeq.
@@ -103,8 +103,7 @@ pub sequence-steps : (words : List ℕ) (m : Machine) (i : ℕ) (r : Stepped) (a
 sequence-steps words m i r after second q puts c₁ c₂ C X E S L n rule f ready =
     let t = command-top (regions words m) i (CSeq i c₁ c₂) (ready .models) in
     let a = sequence-at (t .stored) in
-    let u = t .rest in
     let place = q ∙ node-end words m (command-root (a .first)) in
     subst (λ g. StepAnswer (judge false g) r words after) (sequence-effect (ready .applies))
-    (puts C X E S L n (command c₁) (command c₂) (lowered u)
-    (command-on (a .first) (command-on (subst (λ k. StoredCommand (regions words m .nodes) (a .depth) k (a .next) c₂) (sym place) (a .second)) (u .control-as))))
+    (puts C X E S L n (command c₁) (command c₂) (running (t .blocks)) (t .rest)
+    (command-on (a .first) (command-on (subst (λ k. StoredCommand (regions words m .nodes) (a .depth) k (a .next) c₂) (sym place) (a .second)) (t .control-as))))

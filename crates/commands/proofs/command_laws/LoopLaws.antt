@@ -22,7 +22,7 @@ use Rattle.machine.specs.declared.Stepped.{Stepped}
 use Rattle.machine.specs.declared.Stepped.the-variants.{Made}
 use Rattle.reader.specs.StandingLaws.{Rooted, expression-root}
 use Rattle.machine.proofs.state_laws.NodeLaws.{node-word}
-use Rattle.machine.proofs.state_laws.ModelLaws.{step-made, fits-still}
+use Rattle.machine.proofs.state_laws.ModelLaws.{beside, step-made, fits-still}
 use Rattle.machine.proofs.state_laws.TopLaws.{at-height, two-on-top, bindable-top, node-top}
 use Rattle.machine.proofs.state_laws.MarkTopLaws.{loop-taken, truth-word-of, value-of}
 
@@ -160,5 +160,5 @@ module _ (words : List ℕ) (m : Machine) where
               (popped-state (loop-taken μ) h, again (μ .control-as) (h .stored) (subst (λ j. StoredCommand (regions words m .nodes) (the-parts .depth) j (the-parts .next) (h .repeated)) body-is (the-parts .stored)))
 
           by-test : (t : Bool) → truth-there ≡ truth-word t → StepAnswer (judge false (Comes t C (h .repeated) (Loop (h .place) (h .tested) (h .repeated)) (h .rest) E S L n)) answer words after
-          by-test true q = puts C (h .rest) E S L n (command (h .repeated)) (command (Loop (h .place) (h .tested) (h .repeated))) (both .0) (both .1)
+          by-test true q = puts C (h .rest) E S L n (command (h .repeated)) (command (Loop (h .place) (h .tested) (h .repeated))) (both .0 .mode) (beside (both .0)) (both .1)
           by-test false q = absurd (not-zero q)

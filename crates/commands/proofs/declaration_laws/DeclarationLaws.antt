@@ -7,7 +7,7 @@ use native.Mathlib.Omega.{arith}
 use lib.ListN.{getD}
 use Rattle.rules.specs.paper.Tree.{Expression, Formal, Block, Declaration, Bind, DSeq, Bound, Ref, Abs}
 use Rattle.rules.specs.paper.Limits.{names, most-nodes, most-bindings}
-use Rattle.rules.specs.paper.States.{closure, Environment, Store, Entry, bindable, name, Item, expression, declaration, reference, abstraction, mark, ref-mark, bind-mark, dseq-mark, bound-item, state}
+use Rattle.rules.specs.paper.States.{closure, Environment, Store, Entry, bindable, name, Item, expression, declaration, reference, abstraction, mark, ref-mark, bind-mark, dseq-extend-mark, dseq-join-mark, bound-item, state}
 use Rattle.rules.specs.paper.Rules.{Rule, Effect, goes, Table}
 use Rattle.rules.specs.paper.Rules as Rules
 use Rattle.rules.specs.paper.Run.{judge}
@@ -15,14 +15,15 @@ use Rattle.machine.specs.Layout.{row-labels, row-payloads, closure-unit, mark-w
 use Rattle.reader.specs.Pack.{packed-operand, packed-end}
 use Rattle.reader.specs.Stored.{HasWord, operand-is, StoredExpression, StoredDeclaration, bind, dseq, StoredBound, plain-of, ref, abs}
 use Rattle.machine.specs.Regions.{slots, regions}
-use Rattle.machine.specs.Represents.{SegmentAs, no-row, one-row, closure-as, declaring, ControlAs, expression-on, declaration-on, reference-on, abstraction-on, ref-on, bind-on, dseq-on, name-on}
-use Rattle.machine.specs.Steps.{StepAnswer, Applicable, Steps, PutsTwo, PutsThree, Pushes, Enters}
+use Rattle.machine.specs.Represents.{SegmentAs, no-row, one-row, closure-as, Stage, declaring, ControlAs, expression-on, declaration-on, reference-on, abstraction-on, ref-on, bind-on, dseq-extend-on, dseq-join-on, name-on}
+use Rattle.machine.specs.Steps.{StepAnswer, Applicable, Steps, PutsTwo, PutsFour, Pushes, Enters}
 use Rattle.machine.specs.declared.Machine.{Machine}
 use Rattle.machine.specs.declared.Stepped.{Stepped}
 use Rattle.machine.proofs.state_laws.NodeLaws.{node-word}
+use Rattle.machine.proofs.state_laws.ModelLaws.{with-items}
 use Rattle.machine.proofs.memory_laws.LookupLaws.{slot-words}
 use Rattle.reader.specs.StandingLaws.{after-node, declaration-root}
-use Rattle.machine.proofs.state_laws.ItemLaws.{node-end, lowered, declaration-top, reference-top, abstraction-top}
+use Rattle.machine.proofs.state_laws.ItemLaws.{node-end, declaration-top, reference-top, abstraction-top}
 
 -- The place of a declaration on top of control is a node's.
 pub declaration-low : (words : List ℕ) (m : Machine) (w : ℕ) (c : Declaration) → Applicable words m w (declaration c) → w < most-nodes
@@ -46,8 +47,8 @@ bind-effect : {C : List Item} {E : Environment} {S : Store} {L : List ℕ} {n : 
 bind-effect Rules.bind = refl
 
 -- What a Bind binds, on control.
-bound-on : {nodes : List ℕ} {d i j k : ℕ} {b : Bound} {ms ws : List ℕ} {C : List Item} → StoredBound nodes d i j b →
-    ControlAs nodes (declaring k ms) ws C → ControlAs nodes (declaring k ms) (i ∷ ws) (bound-item b ∷ C)
+bound-on : {nodes : List ℕ} {g : Stage} {d i j k : ℕ} {b : Bound} {ms ws : List ℕ} {C : List Item} → StoredBound nodes d i j b →
+    ControlAs nodes (declaring g k ms) ws C → ControlAs nodes (declaring g k ms) (i ∷ ws) (bound-item b ∷ C)
 bound-on (plain-of s) h = expression-on s h
 bound-on (ref w s) h = reference-on (ref w s) h
 bound-on (abs l w s t) h = abstraction-on (abs l w s t) h
@@ -59,7 +60,7 @@ bind-steps words m i r after x′ q enters x b C X E S L n rule f ready =
     let a = bind-at (t .stored) in
     let u = t .rest in
     subst (λ g. StepAnswer (judge false g) r words after) (bind-effect (ready .applies))
-    (enters C X E S L n (bound-item b) (mark bind-mark) (name x) (lowered u) (bound-on (a .bound) (bind-on refl (u .control-as)))
+    (enters C X E S L n (bound-item b) (mark bind-mark) (name x) (declaring (t .stage) (t .bindings) (t .blocks)) u (bound-on (a .bound) (bind-on refl (t .control-as)))
     (λ label. name-on (q ∙ operand-is (node-word words m (a .word)) (omega arith)) (a .name-low) (u .values-as)))
 
 -- ---- DSeq.
@@ -76,7 +77,7 @@ join-at {nodes} {d₁ = d₁} (dseq {d = d} {i = i} {j = j} {k = k} h a b) =
     record { depth = d; middle = j; next = k; first = subst (λ l. StoredDeclaration nodes d l j d₁) (after-node i) a; second = b }
 
 join-effect : {C : List Item} {E : Environment} {S : Store} {L : List ℕ} {n : ℕ} {r : Rule} {p : ℕ} {d₁ d₂ : Declaration} {X : List Entry} {f : Effect} →
-    Table C E S L n r (declaration (DSeq p d₁ d₂)) X f → goes (state (declaration d₁ ∷ declaration d₂ ∷ mark dseq-mark ∷ C) X E S L n) ≡ f
+    Table C E S L n r (declaration (DSeq p d₁ d₂)) X f → goes (state (declaration d₁ ∷ mark dseq-extend-mark ∷ declaration d₂ ∷ mark dseq-join-mark ∷ C) X E S L n) ≡ f
 join-effect Rules.dseq = refl
 
 -- The first declaration's place is a node's.
@@ -84,15 +85,16 @@ pub declaration-sequence-low : (words : List ℕ) (m : Machine) (i : ℕ) (d₁ 
 declaration-sequence-low words m i d₁ d₂ a = declaration-root (join-at (declaration-top (regions words m) i (DSeq i d₁ d₂) (a .ready .models) .stored) .first) .word .place-low
 
 pub declaration-sequence-steps : (words : List ℕ) (m : Machine) (i : ℕ) (r : Stepped) (after : List ℕ) (second : ℕ) → second ≡ packed-end (getD words (i + 1) 0) →
-    PutsThree words m (mark-word dseq-mark) second (i + 1) r after → (d₁ d₂ : Declaration) → Steps words m i (declaration (DSeq i d₁ d₂)) r after
+    PutsFour words m (mark-word dseq-join-mark) second (mark-word dseq-extend-mark) (i + 1) r after → (d₁ d₂ : Declaration) → Steps words m i (declaration (DSeq i d₁ d₂)) r after
 declaration-sequence-steps words m i r after second q puts d₁ d₂ C X E S L n rule f ready =
     let t = declaration-top (regions words m) i (DSeq i d₁ d₂) (ready .models) in
     let a = join-at (t .stored) in
-    let u = t .rest in
     let place = q ∙ node-end words m (declaration-root (a .first)) in
     subst (λ g. StepAnswer (judge false g) r words after) (join-effect (ready .applies))
-    (puts C X E S L n (declaration d₁) (declaration d₂) (mark dseq-mark) (lowered u)
-    (declaration-on (a .first) (declaration-on (subst (λ k. StoredDeclaration (regions words m .nodes) (a .depth) k (a .next) d₂) (sym place) (a .second)) (dseq-on refl (u .control-as)))))
+    (puts C X E S L n (declaration d₁) (mark dseq-extend-mark) (declaration d₂) (mark dseq-join-mark) (declaring (t .stage) (t .bindings) (t .blocks)) (t .rest)
+    (declaration-on (a .first)
+    (dseq-extend-on refl
+    (declaration-on (subst (λ k. StoredDeclaration (regions words m .nodes) (a .depth) k (a .next) d₂) (sym place) (a .second)) (dseq-join-on refl (t .control-as))))))
 
 -- ---- Ref.
 
@@ -117,9 +119,9 @@ pub reference-steps : (words : List ℕ) (m : Machine) (i : ℕ) (r : Stepped) (
     (p : ℕ) (e : Expression) → Steps words m i (reference p e) r after
 reference-steps words m i r after puts p e C X E S L n rule f ready =
     let t = reference-top (regions words m) i p e (ready .models) in
-    let u = t .rest in
     subst (λ g. StepAnswer (judge false g) r words after) (reference-effect (ready .applies))
-    (puts C X E S L n (expression e) (mark ref-mark) (lowered u) (expression-on (reference-at (t .stored) .contents) (ref-on refl (u .control-as))))
+    (puts C X E S L n (expression e) (mark ref-mark) (declaring (t .stage) (t .bindings) (t .blocks)) (t .rest)
+    (expression-on (reference-at (t .stored) .contents) (ref-on refl (t .control-as))))
 
 -- ---- Abs.
 
@@ -159,4 +161,4 @@ abstraction-steps words m i r after pushes p fs b C X E S L n rule f ready =
     let a = abstraction-at (t .stored) in
     let u = t .rest in
     subst (λ g. StepAnswer (judge false g) r words after) (abstraction-effect (ready .applies))
-    (pushes C X E S L n (closure fs b E) (lowered u) (closure-as (ap (λ k. i + closure-unit * k) (environment-is words m)) (a .place-low) (a .stored) (u .environment-as)))
+    (pushes C X E S L n (closure fs b E) (with-items (t .control-as) u) (closure-as (ap (λ k. i + closure-unit * k) (environment-is words m)) (a .place-low) (a .stored) (u .environment-as)))

@@ -25,6 +25,7 @@ use Rattle.machine.specs.Steps.{StepAnswer, Applicable, Steps, PutsTwo, PutsThr
 use Rattle.machine.specs.declared.Machine.{Machine}
 use Rattle.machine.specs.declared.Stepped.{Stepped}
 use Rattle.machine.proofs.state_laws.NodeLaws.{node-word, ExpressionTop, expression-top}
+use Rattle.machine.proofs.state_laws.ModelLaws.{beside}
 use Rattle.machine.proofs.state_laws.ItemLaws.{node-end}
 
 -- ---- The node of an expression, by its constructor.
@@ -128,7 +129,7 @@ module _ (words : List ℕ) (m : Machine) (w : ℕ) where
             (operator-on (ap (λ k. mark-base + k) h) (top .lowered .control-as)))
 
         by : {r : Rule} {e : Effect} → Table C E S L n r (expression (Binary w o e₁ e₂)) X e → StepAnswer (judge false e) answer words after
-        by binary = puts C X E S L n (expression e₁) (expression e₂) (mark (operator-mark o)) (top .lowered) control
+        by binary = puts C X E S L n (expression e₁) (expression e₂) (mark (operator-mark o)) (top .lowered .mode) (beside (top .lowered)) control
 
     pub negation-steps : PutsTwo words m (mark-word not-mark) (w + 1) answer after → (e : Expression) → Steps words m w (expression (Not w e)) answer after
     negation-steps puts inner C X E S L n r e ready = by (ready .applies)
@@ -145,4 +146,4 @@ module _ (words : List ℕ) (m : Machine) (w : ℕ) where
             (not-on refl (top .lowered .control-as))
 
         by : {r : Rule} {e : Effect} → Table C E S L n r (expression (Not w inner)) X e → StepAnswer (judge false e) answer words after
-        by negation = puts C X E S L n (expression inner) (mark not-mark) (top .lowered) control
+        by negation = puts C X E S L n (expression inner) (mark not-mark) (top .lowered .mode) (beside (top .lowered)) control

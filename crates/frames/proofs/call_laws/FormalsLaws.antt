@@ -20,7 +20,7 @@ use Rattle.machine.specs.declared.Machine.{Machine}
 use Rattle.machine.proofs.state_laws.NodeLaws.{node-word}
 use Rattle.machine.proofs.state_laws.TopLaws.{at-height, OneOnTop, one-on-top, BindableTop, bindable-top}
 use Rattle.machine.proofs.memory_laws.EnvironmentLaws.{segment-new, pointer-low}
-use Rattle.frames.proofs.frame_laws.FrameLaws.{pointed, with-pointers, rows-height, value-label-low}
+use Rattle.frames.proofs.frame_laws.FrameLaws.{pointed, with-pointers, regions-environment, rows-height, value-label-low}
 
 -- ---- The lists.
 
@@ -76,10 +76,6 @@ counted (suc k) (f ∷ fs) X F M q =
   where
     one-more : {y : ℕ} → length X ≡ suc y → y ≡ k + length (M .rest) → length X ≡ suc k + length (M .rest)
     one-more e h = omega arith
-
-regions-environment : (words : List ℕ) (m : Machine) (e : ℕ) → regions words (pointed e (m .declared) (m .base) m) ≡ with-pointers e (regions words m .declared) (regions words m .base) (regions words m)
-unfolding regions
-regions-environment words m e = refl
 
 -- The numbers that the code meets.
 pub record Numbers (words : List ℕ) (m : Machine) (formal : ℕ) : Type 0 where

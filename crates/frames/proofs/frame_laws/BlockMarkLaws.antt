@@ -9,7 +9,7 @@ use Rattle.rules.specs.paper.Rules.{Rule, Effect, goes, Table, extend-at, leave
 use Rattle.rules.specs.paper.Limits.{most-cells, most-bindings, names}
 use Rattle.machine.specs.Layout.{row-labels, row-payloads, cell-payloads, cell-labels, top-payload, second-payload, carried-unit, leave-word}
 use Rattle.machine.specs.Regions.{Slot, slot, slots, Regions, regions, Fits, with-control, with-values, raised-values}
-use Rattle.machine.specs.Represents.{SegmentAs, StoreAs, Since, Extends, Mode, running, declaring, ControlAs, extend-on, leave-on, ValuesAs, declared-on, opened-on, frame-on, Models}
+use Rattle.machine.specs.Represents.{SegmentAs, StoreAs, Since, Extends, at-block, at-end, Mode, running, declaring, ControlAs, extend-on, leave-on, ValuesAs, declared-on, opened-on, frame-on, Models}
 use Rattle.machine.specs.Steps.{Ready, Steps}
 use Rattle.machine.specs.declared.Machine.{Machine}
 use Rattle.machine.specs.declared.Stepped.the-variants.{Made}
@@ -17,7 +17,7 @@ use Rattle.machine.proofs.memory_laws.RegionLaws.{slots-length}
 use Rattle.machine.proofs.state_laws.ModelLaws.{step-made, fits-still}
 use Rattle.machine.proofs.state_laws.TopLaws.{at-height, OneOnTop, one-on-top, TwoOnTop, two-on-top}
 use Rattle.machine.proofs.memory_laws.EnvironmentLaws.{segment-join, values-running, Cut, cut, since-low, removed-since}
-use Rattle.frames.proofs.frame_laws.FrameLaws.{pointed, with-pointers, environment-is, base-is, cells-height, answered, DeclaredTop, declared-top}
+use Rattle.frames.proofs.frame_laws.FrameLaws.{with-pointers, joined, joined-regions, environment-is, base-is, cells-height, answered, DeclaredTop, declared-top}
 
 -- ---- By entries.
 
@@ -29,7 +29,6 @@ pub record OpenedTop (nodes : List ℕ) (rows : List Slot) (base d p : ℕ) (E :
   pub older : List Slot
   pub outer-base : ℕ
   pub outer-declared : ℕ
-  pub bottom : d ≡ p
   pub extends : Extends older rows
   pub height : length older ≡ m
   pub saved : SegmentAs nodes older p 0 E
@@ -38,9 +37,9 @@ pub record OpenedTop (nodes : List ℕ) (rows : List Slot) (base d p : ℕ) (E :
   pub below : ValuesAs nodes older outer-base outer-declared p E (running ms) rest X
 
 opened-top : {nodes : List ℕ} {rows : List Slot} {base d p m : ℕ} {E : Environment} {ms : List ℕ} {all : List Slot} {K : List ℕ} {X : List Entry} →
-    ValuesAs nodes rows base d p E (declaring m ms) all (locations K ∷ X) → OpenedTop nodes rows base d p E m ms all K X
-opened-top (opened-on {older = older} {b = b} {e = e} {s = s} {ws = ws} q x l g k w h) =
-    record { top = s; rest = ws; are = refl; older = older; outer-base = b; outer-declared = e; bottom = q; extends = x; height = l; saved = g; since = k; payload-is = w; below = h }
+    ValuesAs nodes rows base d p E (declaring at-block m ms) all (locations K ∷ X) → OpenedTop nodes rows base d p E m ms all K X
+opened-top (opened-on {older = older} {b = b} {e = e} {s = s} {ws = ws} x l g k w h) =
+    record { top = s; rest = ws; are = refl; older = older; outer-base = b; outer-declared = e; extends = x; height = l; saved = g; since = k; payload-is = w; below = h }
 
 -- What a block or a call saved.
 pub record FrameTop (nodes : List ℕ) (rows : List Slot) (base m : ℕ) (ms : List ℕ) (all : List Slot) (F : Environment) (K : List ℕ) (X : List Entry) : Type 0 where
@@ -65,11 +64,6 @@ frame-top : {nodes : List ℕ} {rows : List Slot} {base d p m : ℕ} {E F : Envi
 frame-top (frame-on {older = older} {b = b} {e = e} {f = f} {s = s} {u = u} {ws = ws} q x l g k w h) =
     record { top = s; second = u; rest = ws; are = refl; older = older; pointer = f; outer-base = b; outer-declared = e; pointer-is = q; extends = x; height = l; saved = g; since = k; base-is = w; below = h }
 
-regions-entered : (words : List ℕ) (k : Machine) →
-    regions words (pointed (k .declared) (k .declared) (k .base) k) ≡ with-pointers (regions words k .declared) (regions words k .declared) (regions words k .base) (regions words k)
-unfolding regions
-regions-entered words k = refl
-
 module _ (words : List ℕ) (m : Machine) where
   abbrev κ : Regions
   κ = regions words m
@@ -84,7 +78,7 @@ module _ (words : List ℕ) (m : Machine) where
     pub outer : List ℕ
     pub effect-is : e ≡ goes (state C (environment E ∷ locations outer-locations ∷ rest) (join declared-names E) S L n)
     pub control-as : ControlAs (κ .nodes) (running (opened ∷ outer)) (κ .control) C
-    pub values-as : ValuesAs (κ .nodes) (κ .rows) (κ .base) (κ .declared) (κ .environment) E (declaring opened outer) (κ .values) (environment declared-names ∷ locations outer-locations ∷ rest)
+    pub values-as : ValuesAs (κ .nodes) (κ .rows) (κ .base) (κ .declared) (κ .environment) E (declaring (at-end at-block) opened outer) (κ .values) (environment declared-names ∷ locations outer-locations ∷ rest)
 
   first-by : (w : ℕ) {C : List Item} {E : Environment} {S : Store} {L : List ℕ} {n : ℕ} {r : Rule} {e : Effect} (D : Environment) (K : List ℕ) (Y : List Entry) (mode : Mode) →
       Table C E S L n r (mark extend-mark) (environment D ∷ locations K ∷ Y) e → ControlAs (κ .nodes) mode (w ∷ κ .control) (mark extend-mark ∷ C) →
@@ -102,22 +96,12 @@ module _ (words : List ℕ) (m : Machine) where
       let one = declared-top (first-top w ready .values-as) in
       one-on-top words m (one .top) (one .rest) (one .are) .some-values
 
-  -- The machine that the declared names are the environment of, before the old environment is saved.
-  abbrev joined : Machine
-  joined = pointed (m .declared) (m .declared) (m .base) (at-height (m .values - 1) m)
-
-  joined-regions : (s : Slot) (ws : List Slot) → κ .values ≡ s ∷ ws → regions words joined ≡ with-pointers (κ .declared) (κ .declared) (κ .base) (with-values ws κ)
-  joined-regions s ws q = regions-entered words (at-height (m .values - 1) m) ∙ ap (λ k. with-pointers (k .declared) (k .declared) (k .base) k) (one-on-top words m s ws q .popped)
-
-  pub joined-fits : Fits words m → Fits words joined
-  joined-fits f = record { room = f .room; few-control = f .few-control; few-values = omega (arith, f .few-values); few-bindings = f .few-bindings; few-cells = f .few-cells }
-
-  pub first-made : (w : ℕ) (after : List ℕ) (t : Machine) → t ≡ raised-values joined →
-      regions after (raised-values joined) ≡ with-values (slot 0 (m .environment) ∷ regions words joined .values) (regions words joined) → Steps words m w (mark extend-mark) (Made t) after
+  pub first-made : (w : ℕ) (after : List ℕ) (t : Machine) → t ≡ raised-values (joined m) →
+      regions after (raised-values (joined m)) ≡ with-values (slot 0 (m .environment) ∷ regions words (joined m) .values) (regions words (joined m)) → Steps words m w (mark extend-mark) (Made t) after
   first-made w after t q put C X E S L n r e ready =
       answered (Made t) words after (top .effect-is)
-      (step-made words after m (raised-values joined) (Made t) C new (join (top .declared-names) E) S L n (ap Made q)
-      (fits-still words after m (raised-values joined) (ready .fits) (ap (λ k. k .size) all) (ready .fits .few-control) (omega (arith, ready .fits .few-values, first-some w ready)) (ready .fits .few-bindings) (ready .fits .few-cells))
+      (step-made words after m (raised-values (joined m)) (Made t) C new (join (top .declared-names) E) S L n (ap Made q)
+      (fits-still words after m (raised-values (joined m)) (ready .fits) (ap (λ k. k .size) all) (ready .fits .few-control) (omega (arith, ready .fits .few-values, first-some w ready)) (ready .fits .few-bindings) (ready .fits .few-cells))
       (subst (λ k. Models k C new (join (top .declared-names) E) S L n) (sym all) models)
       (ap (λ k. k .nodes) all) (ap (λ k. k .beyond) all) (ap (λ k. k .size) all))
     where
@@ -127,17 +111,17 @@ module _ (words : List ℕ) (m : Machine) where
       new : List Entry
       new = environment E ∷ locations (top .outer-locations) ∷ top .rest
 
-      one : DeclaredTop (κ .nodes) (κ .rows) (κ .base) (κ .declared) (κ .environment) E (declaring (top .opened) (top .outer)) (κ .values) (top .declared-names) (locations (top .outer-locations) ∷ top .rest)
+      one : DeclaredTop (κ .nodes) (κ .rows) (κ .base) (κ .declared) (κ .environment) E (declaring at-block (top .opened) (top .outer)) (κ .values) (top .declared-names) (locations (top .outer-locations) ∷ top .rest)
       one = declared-top (top .values-as)
 
-      two : OpenedTop (κ .nodes) (κ .rows) (κ .base) (one .pointer) (κ .environment) E (top .opened) (top .outer) (one .rest) (top .outer-locations) (top .rest)
+      two : OpenedTop (κ .nodes) (κ .rows) (κ .base) (one .outer-declared) (κ .environment) E (top .opened) (top .outer) (one .rest) (top .outer-locations) (top .rest)
       two = opened-top (one .below)
 
       after-regions : Regions
       after-regions = with-pointers (κ .declared) (κ .declared) (κ .base) (with-values (slot 0 (m .environment) ∷ two .top ∷ two .rest) κ)
 
-      all : regions after (raised-values joined) ≡ after-regions
-      all = put ∙ ap (λ k. with-values (slot 0 (m .environment) ∷ k .values) k) (joined-regions (one .top) (one .rest) (one .are) ∙ ap (λ r. with-pointers (κ .declared) (κ .declared) (κ .base) (with-values r κ)) (two .are))
+      all : regions after (raised-values (joined m)) ≡ after-regions
+      all = put ∙ ap (λ k. with-values (slot 0 (m .environment) ∷ k .values) k) (joined-regions words m (one .top) (one .rest) (one .are) ∙ ap (λ r. with-pointers (κ .declared) (κ .declared) (κ .base) (with-values r κ)) (two .are))
 
       models : Models after-regions C new (join (top .declared-names) E) S L n
       models =
@@ -145,8 +129,7 @@ module _ (words : List ℕ) (m : Machine) where
             mode = running (top .opened ∷ top .outer);
             control-as = top .control-as;
             values-as = frame-on (sym (environment-is words m)) (two .extends) (two .height) (two .saved) (two .since) (two .payload-is) (two .below);
-            environment-as =
-                segment-join (subst (λ p. SegmentAs (κ .nodes) (κ .rows) (κ .declared) p (top .declared-names)) (two .bottom) (one .segment)) (ready .models .environment-as);
+            environment-as = segment-join (one .segment) (ready .models .environment-as);
             store-as = ready .models .store-as;
             locations-as = ready .models .locations-as;
             bindings-as = ready .models .bindings-as;

@@ -1,4 +1,5 @@
--- The marks of Bind, DSeq and blocks: what they find on the stacks, and the state that they leave.
+-- What the marks of declarations and blocks share: the machine with other pointers, and declared names on the value stack; and Bind's mark:
+-- what it finds on the stacks, and the state that it leaves.
 use Prim.Native.Nat.{ℕ, zero, suc, _+_, _-_, _*_, _/_, _<_, _≤_}
 use mathlib.Core.Path.{_≡_, refl, sym, ap, _∙_, subst}
 use mathlib.Core.Bool.{false}
@@ -7,19 +8,20 @@ use native.Mathlib.Omega.{arith}
 use lib.ListN.{length, getD}
 use Rattle.rules.specs.paper.Limits.{names, most-bindings}
 use Rattle.rules.specs.paper.Refusals.{Bindings, reason-number}
-use Rattle.rules.specs.paper.States.{Bindable, Environment, empty, bound, join, Store, remove, Entry, environment, locations, bindable, name, bind-mark, dseq-mark, extend-mark, leave-mark, Item, mark, State, state}
-use Rattle.rules.specs.paper.Rules.{Rule, Effect, goes, Table, bind-at, dseq-at, extend-at, leave-at}
+use Rattle.rules.specs.paper.States.{Bindable, Environment, empty, bound, join, Store, remove, Entry, environment, locations, bindable, name, bind-mark, Item, mark, State, state}
+use Rattle.rules.specs.paper.Rules.{Rule, Effect, goes, Table, bind-at}
 use Rattle.rules.specs.paper.Run.{judge}
 use Rattle.machine.specs.Layout.{row-labels, row-payloads, cell-payloads, cell-labels, top-payload, second-payload, top-label, link}
 use Rattle.machine.specs.Regions.{Slot, slot, slots, Regions, regions, Fits, with-control, with-values, with-row, raised-rows, raised-values}
-use Rattle.machine.specs.Represents.{ValueAs, integer-as, truth-as, location-as, SegmentAs, no-row, one-row, BindableAs, value-as, closure-as, Since, Extends, no-more, one-more, Mode, running, declaring, ControlAs, bind-on, dseq-on, extend-on, leave-on, ValuesAs, bindable-on, name-on, node-on, declared-on, opened-on, frame-on, Models}
+use Rattle.machine.specs.Represents.{ValueAs, integer-as, truth-as, location-as, SegmentAs, no-row, one-row, BindableAs, value-as, closure-as, Since, Extends, no-more, one-more, Stage, at-end, Mode, running, declaring, ControlAs, bind-on, ValuesAs, bindable-on, name-on, node-on, declared-on, Beside, Models}
 use Rattle.machine.specs.Steps.{StepAnswer, Ready, Steps}
 use Rattle.machine.specs.declared.Machine.{Machine}
 use Rattle.machine.specs.declared.Stepped.{Stepped}
 use Rattle.machine.specs.declared.Stepped.the-variants.{Made, Withheld}
 use Rattle.machine.proofs.memory_laws.RegionLaws.{slots-length}
 use Rattle.machine.proofs.state_laws.JudgeLaws.{judged-bindings}
-use Rattle.machine.proofs.state_laws.ModelLaws.{Sizes, sizes, step-made, step-withheld, fits-still}
+use Rattle.machine.proofs.state_laws.ModelLaws.{beside-sizes, step-made, step-withheld, fits-still}
+use Rattle.machine.proofs.state_laws.ItemLaws.{rest-of}
 use Rattle.machine.proofs.state_laws.TopLaws.{at-height, OneOnTop, one-on-top, TwoOnTop, two-on-top, bindable-top, name-top}
 use Rattle.machine.proofs.memory_laws.EnvironmentLaws.{segment-new, segment-grows, bindable-grows, values-grows, segment-under, segment-join, segment-low, pointer-low, values-running, Cut, cut, since-low, removed-since}
 
@@ -48,6 +50,10 @@ pub regions-declared : (words : List ℕ) (m : Machine) (d : ℕ) → regions wo
 unfolding regions
 regions-declared words m d = refl
 
+pub regions-environment : (words : List ℕ) (m : Machine) (e : ℕ) → regions words (pointed e (m .declared) (m .base) m) ≡ with-pointers e (regions words m .declared) (regions words m .base) (regions words m)
+unfolding regions
+regions-environment words m e = refl
+
 pub rows-height : (words : List ℕ) (m : Machine) → length (regions words m .rows) ≡ m .bindings
 unfolding regions
 rows-height words m = slots-length row-labels row-payloads (m .bindings) words
@@ -68,6 +74,20 @@ pub base-is : (words : List ℕ) (m : Machine) → regions words m .base ≡ m .
 unfolding regions
 base-is words m = refl
 
+-- The machine without the declared names on the value stack, and with them in the environment.
+abbrev pub joined : Machine → Machine
+joined m = pointed (m .declared) (m .declared) (m .base) (at-height (m .values - 1) m)
+
+pub joined-regions : (words : List ℕ) (m : Machine) (s : Slot) (ws : List Slot) → regions words m .values ≡ s ∷ ws →
+    regions words (joined m) ≡ with-pointers (regions words m .declared) (regions words m .declared) (regions words m .base) (with-values ws (regions words m))
+joined-regions words m s ws q =
+    regions-environment words (at-height (m .values - 1) m) (m .declared)
+    ∙ ap (λ κ. with-pointers (m .declared) (κ .declared) (κ .base) κ) (one-on-top words m s ws q .popped)
+    ∙ ap (λ d. with-pointers d (regions words m .declared) (regions words m .base) (with-values ws (regions words m))) (sym (declared-is words m))
+
+pub joined-fits : {words : List ℕ} {m : Machine} → Fits words m → Fits words (joined m)
+joined-fits f = record { room = f .room; few-control = f .few-control; few-values = omega (arith, f .few-values); few-bindings = f .few-bindings; few-cells = f .few-cells }
+
 -- The answer to the effect that a mark was found to have.
 pub answered : {e f : Effect} (answer : Stepped) (before after : List ℕ) → e ≡ f → StepAnswer (judge false f) answer before after → StepAnswer (judge false e) answer before after
 answered answer before after q h = subst (λ g. StepAnswer (judge false g) answer before after) (sym q) h
@@ -80,26 +100,18 @@ value-label-low (value-as (truth-as q)) = omega arith
 value-label-low (value-as location-as) = omega arith
 value-label-low (closure-as q l h e) = omega arith
 
-pub declared-low : {nodes : List ℕ} {rows : List Slot} {base d p m : ℕ} {E : Environment} {ms : List ℕ} {ws : List Slot} {X : List Entry} →
-    ValuesAs nodes rows base d p E (declaring m ms) ws X → p ≤ length rows → d ≤ length rows
-declared-low (bindable-on b h) l = declared-low h l
-declared-low (name-on q x h) l = declared-low h l
-declared-low (node-on n h) l = declared-low h l
-declared-low (declared-on s h) l = segment-low s (declared-low h l)
-declared-low (opened-on q x k e i w h) l = omega (arith, q, l)
-
--- The names of a declaration on the value stack.
+-- The names of a declaration that has ended, on the value stack: they are linked to the environment.
 pub record DeclaredTop (nodes : List ℕ) (rows : List Slot) (base d p : ℕ) (E : Environment) (mode : Mode) (all : List Slot) (D : Environment) (X : List Entry) : Type 0 where
   pub top : Slot
   pub rest : List Slot
   pub are : all ≡ top ∷ rest
-  pub pointer : ℕ
-  pub segment : SegmentAs nodes rows d pointer D
-  pub below : ValuesAs nodes rows base pointer p E mode rest X
+  pub outer-declared : ℕ
+  pub segment : SegmentAs nodes rows d p D
+  pub below : ValuesAs nodes rows base outer-declared p E mode rest X
 
-pub declared-top : {nodes : List ℕ} {rows : List Slot} {base d p m : ℕ} {E D : Environment} {ms : List ℕ} {all : List Slot} {X : List Entry} →
-    ValuesAs nodes rows base d p E (declaring m ms) all (environment D ∷ X) → DeclaredTop nodes rows base d p E (declaring m ms) all D X
-declared-top (declared-on {q = q} {s = s} {ws = ws} g h) = record { top = s; rest = ws; are = refl; pointer = q; segment = g; below = h }
+pub declared-top : {nodes : List ℕ} {rows : List Slot} {base d p m : ℕ} {g : Stage} {E D : Environment} {ms : List ℕ} {all : List Slot} {X : List Entry} →
+    ValuesAs nodes rows base d p E (declaring (at-end g) m ms) all (environment D ∷ X) → DeclaredTop nodes rows base d p E (declaring g m ms) all D X
+declared-top (declared-on {e = e} {s = s} {ws = ws} g h) = record { top = s; rest = ws; are = refl; outer-declared = e; segment = g; below = h }
 
 -- The other parts of a state with these stacks.
 pub with-stacks : {κ : Regions} {w : ℕ} {i : Item} {C : List Item} {X : List Entry} {E : Environment} {S : Store} {L : List ℕ} {n : ℕ} (mode : Mode) →
@@ -112,14 +124,6 @@ module _ (words : List ℕ) (m : Machine) where
   abbrev κ : Regions
   κ = regions words m
 
-  -- What a mark inside a declaration finds.
-  pub record Declaring (C : List Item) (X : List Entry) (E : Environment) (S : Store) (L : List ℕ) (n : ℕ) : Type 0 where
-    pub opened : ℕ
-    pub outer : List ℕ
-    pub control-as : ControlAs (κ .nodes) (declaring opened outer) (κ .control) C
-    pub values-as : ValuesAs (κ .nodes) (κ .rows) (κ .base) (κ .declared) (κ .environment) E (declaring opened outer) (κ .values) X
-    pub models : Models κ C X E S L n
-
   -- ---- Bind's mark.
 
   pub record BindTop (C : List Item) (E : Environment) (S : Store) (L : List ℕ) (n : ℕ) (e : Effect) : Type 0 where
@@ -127,18 +131,20 @@ module _ (words : List ℕ) (m : Machine) where
     pub bound-to : Bindable
     pub rest : List Entry
     pub effect-is : e ≡ goes (state C (environment (bound bound-name bound-to empty) ∷ rest) E S L (suc n))
-    pub found : Declaring C (bindable bound-to ∷ name bound-name ∷ rest) E S L n
+    pub stage : Stage
+    pub opened : ℕ
+    pub outer : List ℕ
+    pub control-as : ControlAs (κ .nodes) (declaring (at-end stage) opened outer) (κ .control) C
+    pub found : Beside κ (declaring stage opened outer) (bindable bound-to ∷ name bound-name ∷ rest) E S L n
 
-  bind-found : (w : ℕ) {C : List Item} {X : List Entry} {E : Environment} {S : Store} {L : List ℕ} {n : ℕ} → Models (with-control w κ) (mark bind-mark ∷ C) X E S L n → Declaring C X E S L n
-  bind-found w {C} {X} {E} {S} {L} {n} μ = by (μ .mode) (μ .control-as) (μ .values-as)
-    where
-      by : (mode : Mode) → ControlAs (κ .nodes) mode (w ∷ κ .control) (mark bind-mark ∷ C) →
-          ValuesAs (κ .nodes) (κ .rows) (κ .base) (κ .declared) (κ .environment) E mode (κ .values) X → Declaring C X E S L n
-      by mode (bind-on {m = k} {ms = ms} q h) v = record { opened = k; outer = ms; control-as = h; values-as = v; models = with-stacks (declaring k ms) μ h v }
+  bind-by : (w : ℕ) {C : List Item} {X : List Entry} {E : Environment} {S : Store} {L : List ℕ} {n : ℕ} {r : Rule} {e : Effect} (mode : Mode) → Table C E S L n r (mark bind-mark) X e →
+      Models (with-control w κ) (mark bind-mark ∷ C) X E S L n → ControlAs (κ .nodes) mode (w ∷ κ .control) (mark bind-mark ∷ C) →
+      ValuesAs (κ .nodes) (κ .rows) (κ .base) (κ .declared) (κ .environment) E mode (κ .values) X → BindTop C E S L n e
+  bind-by w mode (bind-at {x = x} {b = b} {X = Y}) μ (bind-on {g = g} {m = k} {ms = ms} q h) v =
+      record { bound-name = x; bound-to = b; rest = Y; effect-is = refl; stage = g; opened = k; outer = ms; control-as = h; found = rest-of κ w (mark bind-mark) (declaring g k ms) μ v }
 
-  bind-top : (w : ℕ) {C : List Item} {X : List Entry} {E : Environment} {S : Store} {L : List ℕ} {n : ℕ} {r : Rule} {e : Effect} → Table C E S L n r (mark bind-mark) X e →
-      Models (with-control w κ) (mark bind-mark ∷ C) X E S L n → BindTop C E S L n e
-  bind-top w (bind-at {x = x} {b = b} {X = Y}) μ = record { bound-name = x; bound-to = b; rest = Y; effect-is = refl; found = bind-found w μ }
+  bind-top : (w : ℕ) {C : List Item} {X : List Entry} {E : Environment} {S : Store} {L : List ℕ} {n : ℕ} {r : Rule} {e : Effect} → Ready words m w (mark bind-mark) C X E S L n r e → BindTop C E S L n e
+  bind-top w ready = bind-by w (ready .models .mode) (ready .applies) (ready .models) (ready .models .control-as) (ready .models .values-as)
 
   -- The two slots of a Bind's mark: the value's and the name's.
   pub record BindSlots (E : Environment) (x : ℕ) (b : Bindable) (Y : List Entry) (mode : Mode) : Type 0 where
@@ -162,34 +168,34 @@ module _ (words : List ℕ) (m : Machine) where
     pub two-values : 2 ≤ m .values
     pub label-low : getD words (top-label + m .values) 0 < 2
     pub name-low : getD words (second-payload + m .values) 0 < 64
-    pub declared-few : m .declared ≤ most-bindings
+    pub environment-few : m .environment ≤ most-bindings
 
   pub bind-numbers : (w : ℕ) {C : List Item} {X : List Entry} {E : Environment} {S : Store} {L : List ℕ} {n : ℕ} {r : Rule} {e : Effect} → Ready words m w (mark bind-mark) C X E S L n r e → BindNumbers
   bind-numbers w ready =
-      let top = bind-top w (ready .applies) (ready .models) in
+      let top = bind-top w ready in
       let at = bind-slots (top .found .values-as) in
       let two = two-on-top words m (at .value-slot) (at .name-slot) (at .rest) (at .are) in
       record {
         two-values = two .some-values;
         label-low = subst (λ t. t < 2) (sym (two .label-word)) (value-label-low (at .bound-as));
         name-low = subst (λ t. t < 64) (sym (two .second-payload-word ∙ at .name-is)) (at .low);
-        declared-few = few (declared-low (at .below) (pointer-low (ready .models .environment-as))) (rows-height words m) (declared-is words m) (ready .fits .few-bindings);
+        environment-few = few (pointer-low (ready .models .environment-as)) (rows-height words m) (environment-is words m) (ready .fits .few-bindings);
       }
     where
-      few : κ .declared ≤ length (κ .rows) → length (κ .rows) ≡ m .bindings → κ .declared ≡ m .declared → m .bindings ≤ most-bindings → m .declared ≤ most-bindings
+      few : κ .environment ≤ length (κ .rows) → length (κ .rows) ≡ m .bindings → κ .environment ≡ m .environment → m .bindings ≤ most-bindings → m .environment ≤ most-bindings
       few a b c d = omega arith
 
   -- A 513th binding.
   pub bind-withheld : (w : ℕ) → m .bindings ≡ most-bindings → Steps words m w (mark bind-mark) (Withheld 34) words
   unfolding reason-number
   bind-withheld w full C X E S L n r e ready =
-      let top = bind-top w (ready .applies) (ready .models) in
-      let z = sizes words m (top .found .models) in
+      let top = bind-top w ready in
+      let z = beside-sizes words m (top .found) in
       answered (Withheld 34) words words (top .effect-is)
       (step-withheld words Bindings _ _ (judged-bindings _ _ _ _ _ _ (omega (arith, z .cells-height, ready .fits .few-cells)) (omega (arith, z .bindings-height, full))) refl)
 
   abbrev bind-link : ℕ
-  bind-link = getD words (second-payload + m .values) 0 + 64 * getD words (top-label + m .values) 0 + 128 * m .declared
+  bind-link = getD words (second-payload + m .values) 0 + 64 * getD words (top-label + m .values) 0 + 128 * m .environment
 
   abbrev bound-machine : Machine
   bound-machine = pointed (m .environment) (m .bindings + 1) (m .base) (at-height (m .values - 1) (raised-rows m))
@@ -209,9 +215,9 @@ module _ (words : List ℕ) (m : Machine) where
       (ap (λ k. k .nodes) all) (ap (λ k. k .beyond) all) (ap (λ k. k .size) all))
     where
       top : BindTop C E S L n e
-      top = bind-top w (ready .applies) (ready .models)
+      top = bind-top w ready
 
-      at : BindSlots E (top .bound-name) (top .bound-to) (top .rest) (declaring (top .found .opened) (top .found .outer))
+      at : BindSlots E (top .bound-name) (top .bound-to) (top .rest) (declaring (top .stage) (top .opened) (top .outer))
       at = bind-slots (top .found .values-as)
 
       two : TwoOnTop words m (at .value-slot) (at .name-slot) (at .rest)
@@ -226,11 +232,11 @@ module _ (words : List ℕ) (m : Machine) where
           ∙ ap (λ k. with-pointers (k .environment) (m .bindings + 1) (k .base) k)
           (one-on-top after (raised-rows m) (at .value-slot) (at .name-slot ∷ at .rest) (ap (λ k. k .values) put ∙ at .are) .popped ∙ ap (with-values (at .name-slot ∷ at .rest)) put)
 
-      label-is : bind-link ≡ link (top .bound-name) (at .value-slot .label) (κ .declared)
-      label-is = rw (two .label-word, two .second-payload-word, at .name-is, declared-is words m)
+      label-is : bind-link ≡ link (top .bound-name) (at .value-slot .label) (κ .environment)
+      label-is = rw (two .label-word, two .second-payload-word, at .name-is, environment-is words m)
 
-      declared-small : κ .declared ≤ length (κ .rows)
-      declared-small = declared-low (at .below) (pointer-low (ready .models .environment-as))
+      environment-low : κ .environment ≤ length (κ .rows)
+      environment-low = pointer-low (ready .models .environment-as)
 
       newest : m .bindings + 1 ≡ suc (length (κ .rows))
       newest = omega (arith, rows-height words m)
@@ -241,60 +247,11 @@ module _ (words : List ℕ) (m : Machine) where
       models : Models (with-pointers (κ .environment) (m .bindings + 1) (κ .base) (with-values (at .name-slot ∷ at .rest) (with-row row κ))) C (environment (bound (top .bound-name) (top .bound-to) empty) ∷ top .rest) E S L (suc n)
       models =
           record {
-            mode = declaring (top .found .opened) (top .found .outer);
-            control-as = top .found .control-as;
-            values-as = declared-on (segment-new (m .bindings + 1) bind-link newest label-is (at .low) (value-label-low (at .bound-as)) declared-small bound-as no-row) (values-grows row (at .below));
+            mode = declaring (at-end (top .stage)) (top .opened) (top .outer);
+            control-as = top .control-as;
+            values-as = declared-on (segment-new (m .bindings + 1) bind-link newest label-is (at .low) (value-label-low (at .bound-as)) environment-low bound-as no-row) (values-grows row (at .below));
             environment-as = segment-grows row (ready .models .environment-as);
             store-as = ready .models .store-as;
             locations-as = ready .models .locations-as;
             bindings-as = ap suc (ready .models .bindings-as);
           }
-
-  -- ---- DSeq's mark.
-
-  pub record DseqTop (C : List Item) (E : Environment) (S : Store) (L : List ℕ) (n : ℕ) (e : Effect) : Type 0 where
-    pub newer : Environment
-    pub older : Environment
-    pub rest : List Entry
-    pub effect-is : e ≡ goes (state C (environment (join newer older) ∷ rest) E S L n)
-    pub found : Declaring C (environment newer ∷ environment older ∷ rest) E S L n
-
-  dseq-found : (w : ℕ) {C : List Item} {X : List Entry} {E : Environment} {S : Store} {L : List ℕ} {n : ℕ} → Models (with-control w κ) (mark dseq-mark ∷ C) X E S L n → Declaring C X E S L n
-  dseq-found w {C} {X} {E} {S} {L} {n} μ = by (μ .mode) (μ .control-as) (μ .values-as)
-    where
-      by : (mode : Mode) → ControlAs (κ .nodes) mode (w ∷ κ .control) (mark dseq-mark ∷ C) →
-          ValuesAs (κ .nodes) (κ .rows) (κ .base) (κ .declared) (κ .environment) E mode (κ .values) X → Declaring C X E S L n
-      by mode (dseq-on {m = k} {ms = ms} q h) v = record { opened = k; outer = ms; control-as = h; values-as = v; models = with-stacks (declaring k ms) μ h v }
-
-  dseq-top : (w : ℕ) {C : List Item} {X : List Entry} {E : Environment} {S : Store} {L : List ℕ} {n : ℕ} {r : Rule} {e : Effect} → Table C E S L n r (mark dseq-mark) X e →
-      Models (with-control w κ) (mark dseq-mark ∷ C) X E S L n → DseqTop C E S L n e
-  dseq-top w (dseq-at {D₁ = older} {D₂ = newer} {X = Y}) μ = record { newer = newer; older = older; rest = Y; effect-is = refl; found = dseq-found w μ }
-
-  pub dseq-some : (w : ℕ) {C : List Item} {X : List Entry} {E : Environment} {S : Store} {L : List ℕ} {n : ℕ} {r : Rule} {e : Effect} → Ready words m w (mark dseq-mark) C X E S L n r e → 1 ≤ m .values
-  dseq-some w ready =
-      let top = dseq-top w (ready .applies) (ready .models) in
-      let one = declared-top (top .found .values-as) in
-      one-on-top words m (one .top) (one .rest) (one .are) .some-values
-
-  pub dseq-made : (w : ℕ) → Steps words m w (mark dseq-mark) (Made (at-height (m .values - 1) m)) words
-  dseq-made w C X E S L n r e ready =
-      let top = dseq-top w (ready .applies) (ready .models) in
-      let one = declared-top (top .found .values-as) in
-      let two = declared-top (one .below) in
-      let popped = one-on-top words m (one .top) (one .rest) (one .are) .popped ∙ ap (λ r. with-values r κ) (two .are) in
-      let less = at-height (m .values - 1) m in
-      let new = environment (join (top .newer) (top .older)) ∷ top .rest in
-      answered (Made less) words words (top .effect-is)
-      (step-made words words m less (Made less) C new E S L n refl
-      (fits-still words words m less (ready .fits) (ap (λ k. k .size) popped) (ready .fits .few-control) (omega (arith, ready .fits .few-values)) (ready .fits .few-bindings) (ready .fits .few-cells))
-      (subst (λ k. Models k C new E S L n) (sym popped)
-      (record {
-        mode = declaring (top .found .opened) (top .found .outer);
-        control-as = top .found .control-as;
-        values-as = declared-on (segment-join (one .segment) (two .segment)) (two .below);
-        environment-as = ready .models .environment-as;
-        store-as = ready .models .store-as;
-        locations-as = ready .models .locations-as;
-        bindings-as = ready .models .bindings-as;
-      }))
-      (ap (λ k. k .nodes) popped) (ap (λ k. k .beyond) popped) (ap (λ k. k .size) popped))

@@ -12,7 +12,7 @@ use Rattle.rules.specs.paper.Limits.{names}
 use Rattle.rules.specs.paper.States.{Bindable, Environment, empty, bound, join, Cell, Store, in-set, remove, Entry}
 use Rattle.machine.specs.Layout.{link}
 use Rattle.machine.specs.Regions.{Slot, slot, slots, slot-at}
-use Rattle.machine.specs.Represents.{SegmentAs, no-row, one-row, BindableAs, value-as, closure-as, StoreAs, no-cell, one-cell, Since, none-since, one-since, Extends, no-more, one-more, Mode, running, declaring, ValuesAs, nothing-on, bindable-on, name-on, node-on, declared-on, opened-on, frame-on}
+use Rattle.machine.specs.Represents.{SegmentAs, no-row, one-row, BindableAs, value-as, closure-as, StoreAs, no-cell, one-cell, Since, none-since, one-since, Extends, no-more, one-more, Mode, running, declaring, ValuesAs, nothing-on, bindable-on, name-on, node-on, declared-on, saved-on, opened-on, frame-on}
 use Rattle.machine.proofs.memory_laws.RegionLaws.{slots-length}
 
 -- ---- Rows.
@@ -55,7 +55,8 @@ values-grows s (bindable-on b h) = bindable-on (bindable-grows s b) (values-grow
 values-grows s (name-on q l h) = name-on q l (values-grows s h)
 values-grows s (node-on n h) = node-on n (values-grows s h)
 values-grows s (declared-on d h) = declared-on (segment-grows s d) (values-grows s h)
-values-grows s (opened-on q x l e k w h) = opened-on q (one-more x) l e k w h
+values-grows s (saved-on q d f h) = saved-on q (segment-grows s d) (segment-grows s f) (values-grows s h)
+values-grows s (opened-on x l e k w h) = opened-on (one-more x) l e k w h
 values-grows s (frame-on q x l e k w h) = frame-on q (one-more x) l e k w h
 
 -- A name bound in a new row, on an environment.

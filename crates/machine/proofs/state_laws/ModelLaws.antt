@@ -13,7 +13,7 @@ use Rattle.rules.specs.paper.Limits.{most-cells, most-bindings, most-value-entr
 use Rattle.machine.specs.Layout.{control-from, value-payloads, value-labels, row-labels, row-payloads, cell-payloads, cell-labels}
 use Rattle.machine.specs.Room.{full-stack}
 use Rattle.machine.specs.Regions.{stack, Slot, slots, Regions, regions, Fits}
-use Rattle.machine.specs.Represents.{StoreAs, no-cell, one-cell, Mode, ControlAs, nothing-left, expression-on, command-on, declaration-on, reference-on, abstraction-on, operator-on, not-on, assign-on, loop-on, ref-on, bind-on, dseq-on, extend-on, leave-on, call-on, ValuesAs, nothing-on, bindable-on, name-on, node-on, declared-on, opened-on, frame-on, Models}
+use Rattle.machine.specs.Represents.{StoreAs, no-cell, one-cell, Mode, ControlAs, nothing-left, expression-on, command-on, declaration-on, reference-on, abstraction-on, operator-on, not-on, assign-on, loop-on, ref-on, bind-on, dseq-extend-on, dseq-join-on, extend-on, leave-on, call-on, ValuesAs, nothing-on, bindable-on, name-on, node-on, declared-on, saved-on, opened-on, frame-on, Beside, Models}
 use Rattle.machine.specs.Steps.{Stands, Untouched, IsMade, IsWithheld, StepAnswer}
 use Rattle.machine.specs.declared.Machine.{Machine}
 use Rattle.machine.specs.declared.Stepped.{Stepped}
@@ -36,7 +36,8 @@ control-size (assign-on q h) = ap suc (control-size h)
 control-size (loop-on q h) = ap suc (control-size h)
 control-size (ref-on q h) = ap suc (control-size h)
 control-size (bind-on q h) = ap suc (control-size h)
-control-size (dseq-on q h) = ap suc (control-size h)
+control-size (dseq-extend-on q h) = ap suc (control-size h)
+control-size (dseq-join-on q h) = ap suc (control-size h)
 control-size (extend-on q h) = ap suc (control-size h)
 control-size (leave-on q h) = ap suc (control-size h)
 control-size (call-on q x k h) = ap suc (control-size h)
@@ -48,12 +49,40 @@ values-size (bindable-on b h) = ap suc (values-size h)
 values-size (name-on q l h) = ap suc (values-size h)
 values-size (node-on s h) = ap suc (values-size h)
 values-size (declared-on s h) = ap suc (values-size h)
-values-size (opened-on q x l s k w h) = ap suc (values-size h)
+values-size (saved-on q s f h) = ap (λ n. suc (suc n)) (values-size h)
+values-size (opened-on x l s k w h) = ap suc (values-size h)
 values-size (frame-on q x l s k w h) = ap (λ n. suc (suc n)) (values-size h)
 
 pub store-size : {cells : List Slot} {S : Store} → StoreAs cells S → length S ≡ length cells
 store-size no-cell = refl
 store-size (one-cell q v h) = ap suc (store-size h)
+
+-- A state and its parts but control.
+abbrev pub beside : {κ : Regions} {C : List Item} {X : List Entry} {E : Environment} {S : Store} {L : List ℕ} {n : ℕ} (μ : Models κ C X E S L n) → Beside κ (μ .mode) X E S L n
+beside μ = record { values-as = μ .values-as; environment-as = μ .environment-as; store-as = μ .store-as; locations-as = μ .locations-as; bindings-as = μ .bindings-as }
+
+abbrev pub with-items : {κ : Regions} {mode : Mode} {C : List Item} {X : List Entry} {E : Environment} {S : Store} {L : List ℕ} {n : ℕ} →
+    ControlAs (κ .nodes) mode (κ .control) C → Beside κ mode X E S L n → Models κ C X E S L n
+with-items {mode = mode} h b =
+    record { mode = mode; control-as = h; values-as = b .values-as; environment-as = b .environment-as; store-as = b .store-as; locations-as = b .locations-as; bindings-as = b .bindings-as }
+
+pub record BesideSizes (m : Machine) (X : List Entry) (S : Store) (n : ℕ) : Type 0 where
+  pub values-height : length X ≡ m .values
+  pub cells-height : length S ≡ m .cells
+  pub bindings-height : n ≡ m .bindings
+
+pub beside-sizes : (words : List ℕ) (m : Machine) {mode : Mode} {X : List Entry} {E : Environment} {S : Store} {L : List ℕ} {n : ℕ} → Beside (regions words m) mode X E S L n → BesideSizes m X S n
+unfolding regions
+beside-sizes words m b =
+    record {
+      values-height = values-size (b .values-as) ∙ slots-length value-labels value-payloads (m .values) words;
+      cells-height = store-size (b .store-as) ∙ slots-length cell-labels cell-payloads (m .cells) words;
+      bindings-height = b .bindings-as ∙ slots-length row-labels row-payloads (m .bindings) words;
+    }
+
+pub control-height : (words : List ℕ) (m : Machine) → length (regions words m .control) ≡ m .control
+unfolding regions
+control-height words m = stack-length control-from (m .control) words
 
 pub record Sizes (m : Machine) (C : List Item) (X : List Entry) (S : Store) (n : ℕ) : Type 0 where
   pub control-height : length C ≡ m .control
@@ -62,13 +91,13 @@ pub record Sizes (m : Machine) (C : List Item) (X : List Entry) (S : Store) (n :
   pub bindings-height : n ≡ m .bindings
 
 pub sizes : (words : List ℕ) (m : Machine) {C : List Item} {X : List Entry} {E : Environment} {S : Store} {L : List ℕ} {n : ℕ} → Models (regions words m) C X E S L n → Sizes m C X S n
-unfolding regions
 sizes words m μ =
+    let z = beside-sizes words m (beside μ) in
     record {
-      control-height = control-size (μ .control-as) ∙ stack-length control-from (m .control) words;
-      values-height = values-size (μ .values-as) ∙ slots-length value-labels value-payloads (m .values) words;
-      cells-height = store-size (μ .store-as) ∙ slots-length cell-labels cell-payloads (m .cells) words;
-      bindings-height = μ .bindings-as ∙ slots-length row-labels row-payloads (m .bindings) words;
+      control-height = control-size (μ .control-as) ∙ control-height words m;
+      values-height = z .values-height;
+      cells-height = z .cells-height;
+      bindings-height = z .bindings-height;
     }
 
 -- ---- A step's answer.

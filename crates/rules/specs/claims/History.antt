@@ -7,7 +7,7 @@ use mathlib.Core.List.{List, [], _∷_}
 use mathlib.Core.Option.{Option, none, some, Option·map}
 use lib.Dec.{eqb}
 use Rattle.rules.specs.paper.Tree.{Command, Assign, Loop, CSeq, block, Call, Block, Blk}
-use Rattle.rules.specs.paper.States.{Value, integer, truth, location, Store, Mark, operator-mark, not-mark, assign-mark, loop-mark, ref-mark, bind-mark, dseq-mark, extend-mark, leave-mark, call-mark, Item, expression, command, declaration, reference, abstraction, mark, State, state, store-of}
+use Rattle.rules.specs.paper.States.{Value, integer, truth, location, Store, Mark, operator-mark, not-mark, assign-mark, loop-mark, ref-mark, bind-mark, dseq-extend-mark, dseq-join-mark, extend-mark, leave-mark, call-mark, Item, expression, command, declaration, reference, abstraction, mark, State, state, store-of}
 use Rattle.rules.specs.paper.Rules.{Rule, goes, Applies}
 use Rattle.rules.specs.paper.Run.{made, judge}
 
@@ -105,7 +105,8 @@ left-by-mark assign-mark = none
 left-by-mark loop-mark = none
 left-by-mark ref-mark = none
 left-by-mark bind-mark = none
-left-by-mark dseq-mark = none
+left-by-mark dseq-extend-mark = none
+left-by-mark dseq-join-mark = none
 left-by-mark extend-mark = none
 left-by-mark (leave-mark p m) = some p
 left-by-mark (call-mark p x k) = none

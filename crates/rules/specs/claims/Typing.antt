@@ -67,8 +67,8 @@ mutual
   pub data Gives : Scope → Declaration → Scope → Type 0 where
     -- Bind gives its name the child's code, or the function.
     bind : {Γ Δ : Scope} {p x : ℕ} {b : Bound} {m : Meaning} → Means Γ b m → Δ ≡ record { name = x; meaning = m } ∷ [] → Gives Γ (Bind p x b) Δ
-    -- Declarations of a DSeq do not see each other. A name on both sides of a DSeq is a fault.
-    dseq : {Γ Δ₁ Δ₂ Δ : Scope} {p : ℕ} {d₁ d₂ : Declaration} → Gives Γ d₁ Δ₁ → Gives Γ d₂ Δ₂ →
+    -- The second declaration of a DSeq sees the names of the first. A name on both sides is a fault.
+    dseq : {Γ Δ₁ Δ₂ Δ : Scope} {p : ℕ} {d₁ d₂ : Declaration} → Gives Γ d₁ Δ₁ → Gives (Δ₁ ++ Γ) d₂ Δ₂ →
         ((x : ℕ) → Declares x Δ₁ → Declares x Δ₂ → ⊥) → Δ ≡ Δ₂ ++ Δ₁ → Gives Γ (DSeq p d₁ d₂) Δ
 
   -- What a Bind binds its name to.

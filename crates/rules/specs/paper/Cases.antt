@@ -5,7 +5,7 @@ use mathlib.Core.Path.{_≡_, refl}
 use mathlib.Core.List.{List, [], _∷_}
 use lib.IntN.{ℤ, pos, negsuc}
 use lib.ListN.{replicate}
-use Rattle.rules.specs.paper.Refusals.{Withheld, Steps, ZeroDivisor, OutOfRange, NotAssignable, Unbound}
+use Rattle.rules.specs.paper.Refusals.{Withheld, Steps, ZeroDivisor, OutOfRange, NotAssignable}
 use Rattle.rules.specs.paper.Refusals.{reason-number}
 use Rattle.rules.specs.paper.Limits.{most-budget, work-words}
 use Rattle.rules.specs.paper.Kinds.{kind-of, operand-fits}
@@ -71,9 +71,9 @@ cases =
     -- K: the same with Assign(1, DeRef 0) as command
     case (6 ∷ 1 ∷ 23 ∷ 30 ∷ 40 ∷ 16 ∷ 20 ∷ 16 ∷ 0 ∷ 1 ∷ 0 ∷ 0 ∷ 1 ∷ 0 ∷ []) (pos 9 ∷ []) most-budget
     (refused NotAssignable 4) 0 (pos 9 ∷ []) ∷
-    -- L: Blk(DSeq(Bind(1, Ref(Num 1)), Bind(2, Ref(Id 1))), Assign(1, 0))
+    -- L: Blk(DSeq(Bind(1, Ref(Num 1)), Bind(2, Ref(Id 1))), Assign(1, 0)): the second declaration sees the first
     case (10 ∷ 0 ∷ 23 ∷ 31 ∷ 30 ∷ 40 ∷ 1 ∷ 30 ∷ 40 ∷ 3 ∷ 20 ∷ 1 ∷ 0 ∷ 0 ∷ 1 ∷ 0 ∷ 1 ∷ 2 ∷ 0 ∷ 1 ∷ 1 ∷ 0 ∷ []) [] most-budget
-    (refused Unbound 7) 0 [] ∷
+    (outcome nothing) 19 [] ∷
     []
 
 -- The engine, lent 8,192 work words, gives what the row says.

@@ -199,12 +199,12 @@ unfoldable mutual
   pub block-ok : Scope → Block → Judged Fine
   block-ok Γ (Blk p d c) = declaration-gives Γ d >>= λ Δ. command-ok (Δ ++ Γ) c
 
-  -- The names that a declaration gives. The declarations of a DSeq do not see each other.
+  -- The names that a declaration gives. The second declaration of a DSeq sees the names of the first.
   pub declaration-gives : Scope → Declaration → Judged Scope
   declaration-gives Γ (Bind p x b) = bound-means Γ b >>= λ m. fine (record { name = x; meaning = m } ∷ [])
   declaration-gives Γ (DSeq p d₁ d₂) =
       declaration-gives Γ d₁ >>= λ Δ₁.
-      declaration-gives Γ d₂ >>= λ Δ₂.
+      declaration-gives (Δ₁ ++ Γ) d₂ >>= λ Δ₂.
       cond (shares-name Δ₁ Δ₂) (fault Repeated p) (fine (Δ₂ ++ Δ₁))
 
   -- What a Bind gives its name: the child's code, or the function.

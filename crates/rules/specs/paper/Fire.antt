@@ -8,8 +8,8 @@ use lib.IntN.{ℤ, pos}
 use lib.ListN.{length}
 use Rattle.rules.specs.paper.Tree.{Operator, arithmetic, Eq, order, logic, Expression, Num, Boo, Id, DeRef, ValRef, Binary, Not, Formal, Command, Assign, Loop, CSeq, block, Call, Block, Blk, Declaration, Bind, DSeq}
 use Rattle.rules.specs.paper.Integers.{compute, compare, equal-integers, equal-truths, combine}
-use Rattle.rules.specs.paper.States.{Value, integer, truth, location, Bindable, value, closure, Environment, empty, bound, lookup, join, Store, find, store-at, remove, Entry, bindable, name, node, environment, locations, val, Mark, operator-mark, not-mark, assign-mark, loop-mark, ref-mark, bind-mark, dseq-mark, extend-mark, leave-mark, call-mark, Item, expression, command, declaration, reference, abstraction, mark, bound-item, State, state}
-use Rattle.rules.specs.paper.Rules.{Rule, rule-Num, rule-Boo, rule-Id, rule-DeRef, rule-ValRef, rule-Binary, rule-Not, rule-Assign, rule-Loop, rule-CSeq, rule-Blk, rule-Call, rule-Bind, rule-DSeq, rule-Ref, rule-Abs, mark-arithmetic, mark-Eq, mark-order, mark-logic, mark-Not, mark-Assign, mark-Loop, mark-Ref, mark-Bind, mark-DSeq, mark-extend, mark-leave, mark-Call, Effect, goes, pushed, equal-values, put-actuals, Matched, match-formals}
+use Rattle.rules.specs.paper.States.{Value, integer, truth, location, Bindable, value, closure, Environment, empty, bound, lookup, join, Store, find, store-at, remove, Entry, bindable, name, node, environment, locations, val, Mark, operator-mark, not-mark, assign-mark, loop-mark, ref-mark, bind-mark, dseq-extend-mark, dseq-join-mark, extend-mark, leave-mark, call-mark, Item, expression, command, declaration, reference, abstraction, mark, bound-item, State, state}
+use Rattle.rules.specs.paper.Rules.{Rule, rule-Num, rule-Boo, rule-Id, rule-DeRef, rule-ValRef, rule-Binary, rule-Not, rule-Assign, rule-Loop, rule-CSeq, rule-Blk, rule-Call, rule-Bind, rule-DSeq, rule-Ref, rule-Abs, mark-arithmetic, mark-Eq, mark-order, mark-logic, mark-Not, mark-Assign, mark-Loop, mark-Ref, mark-Bind, mark-DSeq-extend, mark-DSeq-join, mark-extend, mark-leave, mark-Call, Effect, goes, pushed, equal-values, put-actuals, Matched, match-formals}
 
 pub data Firing : Type 0 where
   stuck : Firing
@@ -167,7 +167,7 @@ abbrev pub fire-declaration : Declaration → List Item → List Entry → Envir
 fire-declaration (Bind p x b) C X E S L n =
     fires rule-Bind (goes (state (bound-item b ∷ mark bind-mark ∷ C) (name x ∷ X) E S L n))
 fire-declaration (DSeq p d₁ d₂) C X E S L n =
-    fires rule-DSeq (goes (state (declaration d₁ ∷ declaration d₂ ∷ mark dseq-mark ∷ C) X E S L n))
+    fires rule-DSeq (goes (state (declaration d₁ ∷ mark dseq-extend-mark ∷ declaration d₂ ∷ mark dseq-join-mark ∷ C) X E S L n))
 
 unfoldable pub fire-operator : Operator → List Item → List Entry → Environment → Store → List ℕ → ℕ → Firing
 fire-operator (arithmetic o) C X E S L n =
@@ -197,9 +197,11 @@ fire-mark ref-mark C X E S L n =
 fire-mark bind-mark C X E S L n =
     take as-bindable X (λ b Y. take as-name Y (λ x Z.
     fires mark-Bind (goes (state C (environment (bound x b empty) ∷ Z) E S L (suc n)))))
-fire-mark dseq-mark C X E S L n =
-    take as-environment X (λ D₂ Y. take as-environment Y (λ D₁ Z.
-    fires mark-DSeq (goes (state C (environment (join D₂ D₁) ∷ Z) E S L n))))
+fire-mark dseq-extend-mark C X E S L n =
+    take as-environment X (λ D₁ Y. fires mark-DSeq-extend (goes (state C (environment D₁ ∷ environment E ∷ Y) (join D₁ E) S L n)))
+fire-mark dseq-join-mark C X E S L n =
+    take as-environment X (λ D₂ Y. take as-environment Y (λ D₁ Z. take as-environment Z (λ F rest.
+    fires mark-DSeq-join (goes (state C (environment (join D₂ D₁) ∷ rest) F S L n)))))
 fire-mark extend-mark C X E S L n =
     take as-environment X (λ D Y. fires mark-extend (goes (state C (environment E ∷ Y) (join D E) S L n)))
 fire-mark (leave-mark p m) C X E S L n =

@@ -13,7 +13,7 @@ use lib.ListN.{length}
 use Rattle.rules.specs.paper.Tree.{Arithmetic, Order, Logic, Operator, arithmetic, Eq, order, logic, Expression, Num, Boo, Id, DeRef, ValRef, Binary, Not, Formal, Command, Assign, Loop, CSeq, block, Call, Block, Blk, Declaration, Bind, DSeq, Bound}
 use Rattle.rules.specs.paper.Refusals.{Reason}
 use Rattle.rules.specs.paper.Integers.{Result, number, failed, compute, compare, equal-integers, equal-truths, combine}
-use Rattle.rules.specs.paper.States.{Value, integer, truth, location, Bindable, value, closure, Environment, empty, bound, lookup, join, Store, find, store-at, remove, Entry, bindable, name, node, environment, locations, val, Mark, operator-mark, not-mark, assign-mark, loop-mark, ref-mark, bind-mark, dseq-mark, extend-mark, leave-mark, call-mark, Item, expression, command, declaration, reference, abstraction, mark, bound-item, State, state}
+use Rattle.rules.specs.paper.States.{Value, integer, truth, location, Bindable, value, closure, Environment, empty, bound, lookup, join, Store, find, store-at, remove, Entry, bindable, name, node, environment, locations, val, Mark, operator-mark, not-mark, assign-mark, loop-mark, ref-mark, bind-mark, dseq-extend-mark, dseq-join-mark, extend-mark, leave-mark, call-mark, Item, expression, command, declaration, reference, abstraction, mark, bound-item, State, state}
 
 -- A rule for each kind of node, and one for each mark.
 pub data Rule : Type 0 where
@@ -21,7 +21,7 @@ pub data Rule : Type 0 where
   rule-Assign rule-Loop rule-CSeq rule-Blk rule-Call : Rule
   rule-Bind rule-DSeq rule-Ref rule-Abs : Rule
   mark-arithmetic mark-Eq mark-order mark-logic mark-Not : Rule
-  mark-Assign mark-Loop mark-Ref mark-Bind mark-DSeq mark-extend mark-leave mark-Call : Rule
+  mark-Assign mark-Loop mark-Ref mark-Bind mark-DSeq-extend mark-DSeq-join mark-extend mark-leave mark-Call : Rule
 
 -- What a step comes to: the state after it, or 31 or 32, which leave none.
 pub data Effect : Type 0 where
@@ -135,11 +135,18 @@ pub data Table (C : List Item) (E : Environment) (S : Store) (L : List ℕ) (n :
   -- Abs: one step to a closure of Formals, Blk and E (002, rule 35).
   abs : {p : ℕ} {fs : List Formal} {b : Block} {X : List Entry} →
       Table C E S L n rule-Abs (abstraction p fs b) X (goes (state C (bindable (closure fs b E) ∷ X) E S L n))
-  -- DSeq: one step, D1, D2, one step joining both (000, rules 30, 31). D2's environment is on top.
+  -- DSeq: one step puts D1, the first mark, D2 and the second mark on control. These three lines stand in place of 000's rules 30
+  -- and 31, by which D2 did not see D1's names.
   dseq : {p : ℕ} {d₁ d₂ : Declaration} {X : List Entry} →
-      Table C E S L n rule-DSeq (declaration (DSeq p d₁ d₂)) X (goes (state (declaration d₁ ∷ declaration d₂ ∷ mark dseq-mark ∷ C) X E S L n))
-  dseq-at : {D₁ D₂ : Environment} {X : List Entry} →
-      Table C E S L n mark-DSeq (mark dseq-mark) (environment D₂ ∷ environment D₁ ∷ X) (goes (state C (environment (join D₂ D₁) ∷ X) E S L n))
+      Table C E S L n rule-DSeq (declaration (DSeq p d₁ d₂)) X
+      (goes (state (declaration d₁ ∷ mark dseq-extend-mark ∷ declaration d₂ ∷ mark dseq-join-mark ∷ C) X E S L n))
+  -- The first mark keeps E on the value stack under D1's environment and adds D1's names to E: D2 sees them.
+  dseq-extend-at : {D₁ : Environment} {X : List Entry} →
+      Table C E S L n mark-DSeq-extend (mark dseq-extend-mark) (environment D₁ ∷ X) (goes (state C (environment D₁ ∷ environment E ∷ X) (join D₁ E) S L n))
+  -- The second joins the two environments and brings E back. D2's environment is on top.
+  dseq-join-at : {D₁ D₂ F : Environment} {X : List Entry} →
+      Table C E S L n mark-DSeq-join (mark dseq-join-mark) (environment D₂ ∷ environment D₁ ∷ environment F ∷ X)
+      (goes (state C (environment (join D₂ D₁) ∷ X) F S L n))
   -- Blk (002, rule 32): push L, set it empty, run the declaration, mark, command, mark.
   blk : {p : ℕ} {d : Declaration} {c : Command} {X : List Entry} →
       Table C E S L n rule-Blk (command (block (Blk p d c))) X (goes (state (declaration d ∷ mark extend-mark ∷ command c ∷ mark (leave-mark p n) ∷ C) (locations L ∷ X) E S [] n))

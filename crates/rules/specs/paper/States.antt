@@ -77,7 +77,8 @@ val v = bindable (value v)
 -- The marks: what stands on control after the children of its node.
 pub data Mark : Type 0 where
   operator-mark : Operator → Mark
-  not-mark assign-mark loop-mark ref-mark bind-mark dseq-mark : Mark
+  not-mark assign-mark loop-mark ref-mark bind-mark : Mark
+  dseq-extend-mark dseq-join-mark : Mark  -- a DSeq's two, after its first declaration and after its second
   extend-mark : Mark  -- a block's, after its declaration
   leave-mark : (place bindings : ℕ) → Mark  -- where the Blk or Call at this place is left, with the live bindings to go back to
   call-mark : (place name count : ℕ) → Mark

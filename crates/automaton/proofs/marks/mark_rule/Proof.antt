@@ -1,7 +1,7 @@
--- mark_rule: the number of the kind fixes the mark, hence its rule.
+-- mark_rule: the number fixes the mark, hence its rule.
 use mathlib.Core.Path.{ap}
-use Rattle.rules.specs.paper.States.{not-mark, assign-mark, loop-mark, ref-mark, bind-mark, dseq-mark, extend-mark}
-use Rattle.automaton.proofs.step_laws.MarkRuleLaws.{arm-of, on-not, on-assign, on-loop, on-extend, on-bind, on-dseq, on-ref, is-operator, plain-needs, operator-needs, leave-needs, call-needs, plain-steps, operator-steps, leave-steps, call-steps}
+use Rattle.rules.specs.paper.States.{not-mark, assign-mark, loop-mark, ref-mark, bind-mark, dseq-extend-mark, dseq-join-mark, extend-mark}
+use Rattle.automaton.proofs.step_laws.MarkRuleLaws.{arm-of, on-not, on-assign, on-loop, on-extend, on-bind, on-dseq-extend, on-dseq-join, on-ref, is-operator, plain-needs, operator-needs, leave-needs, call-needs, plain-steps, operator-steps, leave-steps, call-steps}
 use borrow.Author.Needs.{needs}
 use Rattle.automaton.proofs.marks.mark_rule.Statement.{statement}
 use Rattle.automaton.proofs.marks.mark_rule.Tie as tie
@@ -9,7 +9,8 @@ use Rattle.automaton.proofs.marks.mark_rule.Reads as reads
 use Rattle.automaton.proofs.marks.mark_rule.Lts as lts
 use Rattle.frames.proofs.declarations.bind_mark.Reads as bind-mark-reads
 use Rattle.frames.proofs.calls.call_mark.Reads as call-mark-reads
-use Rattle.frames.proofs.declarations.dseq_mark.Reads as dseq-mark-reads
+use Rattle.frames.proofs.declarations.dseq_extend_mark.Reads as dseq-extend-mark-reads
+use Rattle.frames.proofs.declarations.dseq_join_mark.Reads as dseq-join-mark-reads
 use Rattle.frames.proofs.blocks.extend_mark.Reads as extend-mark-reads
 use Rattle.frames.proofs.blocks.leave_mark.Reads as leave-mark-reads
 use Rattle.commands.proofs.marks.assign_mark.Reads as assign-mark-reads
@@ -39,11 +40,14 @@ call-mark-requires c κs = call-needs _ _ _ (c .before .before .before .pre) (ap
 bind-mark-requires : tie.Need-bind-mark-requires
 bind-mark-requires c κs = plain-needs _ _ _ (c .before .before .before .pre) on-bind bind-mark (λ j h. h) (ap arm-of (c .before .match .keys7))
 
-dseq-mark-requires : tie.Need-dseq-mark-requires
-dseq-mark-requires c κs = plain-needs _ _ _ (c .before .before .before .pre) on-dseq dseq-mark (λ j h. h) (ap arm-of (c .before .match .keys8))
+dseq-extend-mark-requires : tie.Need-dseq-extend-mark-requires
+dseq-extend-mark-requires c κs = plain-needs _ _ _ (c .before .before .before .pre) on-dseq-extend dseq-extend-mark (λ j h. h) (ap arm-of (c .before .match .keys8))
+
+dseq-join-mark-requires : tie.Need-dseq-join-mark-requires
+dseq-join-mark-requires c κs = plain-needs _ _ _ (c .before .before .before .pre) on-dseq-join dseq-join-mark (λ j h. h) (ap arm-of (c .before .match .keys9))
 
 ref-mark-requires : tie.Need-ref-mark-requires
-ref-mark-requires c κs = plain-needs _ _ _ (c .before .before .before .pre) on-ref ref-mark (λ j h. h) (ap arm-of (c .before .match .keys9))
+ref-mark-requires c κs = plain-needs _ _ _ (c .before .before .before .pre) on-ref ref-mark (λ j h. h) (ap arm-of (c .before .match .keys10))
 
 operator-mark-requires : tie.Need-operator-mark-requires
 operator-mark-requires c κs = operator-needs _ _ _ (c .before .before .before .pre) (is-operator _ (c .before .match .rest))
@@ -94,19 +98,25 @@ same-length-8 : tie.Need-same-length-8
 same-length-8 c = search needs
 
 returns-8 : tie.Need-returns-8
-returns-8 c = plain-steps _ _ _ _ _ on-dseq dseq-mark (λ j h. h) (ap arm-of (c .before .before .before .before .match .keys8)) (c .before .before .dseq-mark .ensures)
+returns-8 c = plain-steps _ _ _ _ _ on-dseq-extend dseq-extend-mark (λ j h. h) (ap arm-of (c .before .before .before .before .match .keys8)) (c .before .before .dseq-extend-mark .ensures)
 
 same-length-9 : tie.Need-same-length-9
 same-length-9 c = search needs
 
 returns-9 : tie.Need-returns-9
-returns-9 c = plain-steps _ _ _ _ _ on-ref ref-mark (λ j h. h) (ap arm-of (c .before .before .before .before .match .keys9)) (c .before .before .ref-mark .ensures)
+returns-9 c = plain-steps _ _ _ _ _ on-dseq-join dseq-join-mark (λ j h. h) (ap arm-of (c .before .before .before .before .match .keys9)) (c .before .before .dseq-join-mark .ensures)
 
 same-length-10 : tie.Need-same-length-10
 same-length-10 c = search needs
 
 returns-10 : tie.Need-returns-10
-returns-10 c = operator-steps _ _ _ _ _ (is-operator _ (c .before .before .before .before .match .rest)) (c .before .before .operator-mark .ensures)
+returns-10 c = plain-steps _ _ _ _ _ on-ref ref-mark (λ j h. h) (ap arm-of (c .before .before .before .before .match .keys10)) (c .before .before .ref-mark .ensures)
+
+same-length-11 : tie.Need-same-length-11
+same-length-11 c = search needs
+
+returns-11 : tie.Need-returns-11
+returns-11 c = operator-steps _ _ _ _ _ (is-operator _ (c .before .before .before .before .match .rest)) (c .before .before .operator-mark .ensures)
 
 pub mark-rule-spec : {M : Type 1} → statement M
 mark-rule-spec =
@@ -119,7 +129,8 @@ mark-rule-spec =
     extend-mark-requires
     call-mark-requires
     bind-mark-requires
-    dseq-mark-requires
+    dseq-extend-mark-requires
+    dseq-join-mark-requires
     ref-mark-requires
     operator-mark-requires
     same-length
@@ -141,4 +152,6 @@ mark-rule-spec =
     same-length-9
     returns-9
     same-length-10
-    returns-10)
+    returns-10
+    same-length-11
+    returns-11)

@@ -69,7 +69,7 @@ block-first-low words node b = declaration-low (block-parts words node (b .0) (b
 
 -- ---- What it is judged.
 
-module _ (words words′ : List ℕ) (registers scope node : ℕ) (r : Answer) (declares : DeclarationJudgedAt words words′ registers scope scope (node + 1) r) where
+module _ (words words′ : List ℕ) (registers scope node : ℕ) (r : Answer) (declares : DeclarationJudgedAt words words′ registers scope (node + 1) r) where
   named : (b : Block) (Γ : Scope) (at : BlockAt words node b) → ScopeAt words registers scope Γ →
       NamesFrom words′ scope (packed-end (getD words (node + 1) 0)) (declaration-gives Γ (block-parts words node b at .declared)) r
   named b Γ at s = let parts = block-parts words node b at in declares (parts .declared) (packed-end (getD words (node + 1) 0)) Γ (parts .declaration-stands) s

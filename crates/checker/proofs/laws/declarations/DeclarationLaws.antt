@@ -1,5 +1,5 @@
 -- Declarations by the kind of their node: a Bind gives one row, for what its child means; a DSeq gives the rows of its first
--- declaration and then those of its second, unless a name comes in both.
+-- declaration and then those of its second, judged in the scope with the first's names, unless a name comes in both.
 use Prim.Native.Nat.{ℕ, suc, _+_, _<_, _≤_}
 use mathlib.Core.Path.{_≡_, refl, sym, ap, _∙_, subst}
 use mathlib.Core.Bool.{Bool, true, false, cond}
@@ -20,7 +20,7 @@ use Rattle.typing.specs.declared.codes.Answer.{Answer}
 use Rattle.typing.specs.declared.codes.Answer.the-variants.{Is, Fault}
 use Rattle.typing.proofs.laws.codes.AnswerLaws.{two-answers, same-is}
 use Rattle.reader.specs.StandingLaws as Standing
-use Rattle.checker.proofs.laws.commands.KeptLaws.{kept-lower, kept-then, kept-declaration, kept-meaning, kept-rows, kept-scope, kept-row, row-there, rows-append}
+use Rattle.checker.proofs.laws.commands.KeptLaws.{kept-lower, kept-then, kept-declaration, kept-meaning, kept-rows, kept-scope, kept-row, row-there, rows-append, scope-with}
 use Rattle.checker.proofs.laws.declarations.BoundLaws.{bound-low, bound-meaning, meaning-low}
 
 -- ---- Where they stand and end.
@@ -107,7 +107,7 @@ names-after {words} {to} {n} {r = r} f q h = subst (λ i. NamesFrom words to n (
 unfoldable joined : (p : ℕ) (Δ₁ Δ₂ : Scope) → Judged Scope
 joined p Δ₁ Δ₂ = cond (shares-name Δ₁ Δ₂) (fault Repeated p) (fine (Δ₂ ++ Δ₁))
 
-module _ (words : List ℕ) (registers scope tail node which : ℕ) (known : which ≡ packed-kind (getD words node 0)) (is-sequence : which ≡ 31) where
+module _ (words : List ℕ) (registers scope node which : ℕ) (known : which ≡ packed-kind (getD words node 0)) (is-sequence : which ≡ 31) where
   sequence-there : (d : Declaration) (next : ℕ) → DeclarationAt words node next d → SequenceAt words node next d
   sequence-there d next at = by (seen-declaration words node which next d known at) is-sequence
     where
@@ -123,22 +123,22 @@ module _ (words : List ℕ) (registers scope tail node which : ℕ) (known : whi
   pub first-declaration-low : ((d : Declaration) × (next : ℕ) × DeclarationAt words node next d) → node + 1 < most-nodes
   first-declaration-low d = declaration-low (first-declaration d .2)
 
-  module _ (words₁ : List ℕ) (r₁ : Answer) (gives₁ : DeclarationJudgedAt words words₁ registers scope tail (node + 1) r₁) where
+  module _ (words₁ : List ℕ) (r₁ : Answer) (gives₁ : DeclarationJudgedAt words words₁ registers scope (node + 1) r₁) where
     sequence-gives : (words′ : List ℕ) (r : Answer) →
         ((d : Declaration) (next : ℕ) (Γ : Scope) (a : SequenceAt words node next d) → ScopeAt words registers scope Γ →
-        NamesFrom words′ tail next (declaration-gives Γ (a .first) >>= λ Δ₁. declaration-gives Γ (a .second) >>= joined node Δ₁) r) → DeclarationJudgedAt words words′ registers scope tail node r
+        NamesFrom words′ scope next (declaration-gives Γ (a .first) >>= λ Δ₁. declaration-gives (Δ₁ ++ Γ) (a .second) >>= joined node Δ₁) r) → DeclarationJudgedAt words words′ registers scope node r
     unfolding declaration-gives joined
     sequence-gives words′ r done d next Γ at s =
         let a = sequence-there d next at in
-        subst (λ e. NamesFrom words′ tail next (declaration-gives Γ e) r) (sym (a .same)) (done d next Γ a s)
+        subst (λ e. NamesFrom words′ scope next (declaration-gives Γ e) r) (sym (a .same)) (done d next Γ a s)
 
-    pub sequence-first-fault : (x p : ℕ) → r₁ ≡ Fault x p → DeclarationJudgedAt words words₁ registers scope tail node r₁
+    pub sequence-first-fault : (x p : ℕ) → r₁ ≡ Fault x p → DeclarationJudgedAt words words₁ registers scope node r₁
     sequence-first-fault x p q =
-        sequence-gives words₁ r₁ (λ d next Γ a s. names-stop (λ Δ₁. declaration-gives Γ (a .second) >>= joined node Δ₁) x p (gives₁ (a .first) (a .middle) Γ (a .first-at) s) q)
+        sequence-gives words₁ r₁ (λ d next Γ a s. names-stop (λ Δ₁. declaration-gives (Δ₁ ++ Γ) (a .second) >>= joined node Δ₁) x p (gives₁ (a .first) (a .middle) Γ (a .first-at) s) q)
 
     module _ (middle after : ℕ) (got₁ : r₁ ≡ Is middle) (kept₁ : WritesRowsFrom words words₁ (node + 1)) (ended : after ≡ packed-end (getD words₁ (node + 1) 0)) (low : scope ≤ node) where
       first-given : (d : Declaration) (next : ℕ) (Γ : Scope) (a : SequenceAt words node next d) → ScopeAt words registers scope Γ →
-          (Δ : Scope) × (declaration-gives Γ (a .first) ≡ fine Δ) × Rows words₁ middle tail Δ × (middle ≤ a .middle)
+          (Δ : Scope) × (declaration-gives Γ (a .first) ≡ fine Δ) × Rows words₁ middle scope Δ × (middle ≤ a .middle)
       first-given d next Γ a s = names-given (gives₁ (a .first) (a .middle) Γ (a .first-at) s) got₁
 
       after-is : (d : Declaration) (next : ℕ) (a : SequenceAt words node next d) → after ≡ a .middle
@@ -147,8 +147,14 @@ module _ (words : List ℕ) (registers scope tail node which : ℕ) (known : whi
       second-there : (d : Declaration) (next : ℕ) (a : SequenceAt words node next d) → DeclarationAt words₁ after next (a .second)
       second-there d next a = subst (λ i. DeclarationAt words₁ i next (a .second)) (sym (after-is d next a)) (kept-declaration kept₁ (a .second-at))
 
-      pub second-scope : (Γ : Scope) → ScopeAt words registers scope Γ → ScopeAt words₁ registers scope Γ
-      second-scope Γ s = kept-scope kept₁ (omega (arith, low)) s
+      -- the scope of the second declaration: the names of the first on those around
+      second-scope-of : (d : Declaration) (next : ℕ) (Γ : Scope) (a : SequenceAt words node next d) (s : ScopeAt words registers scope Γ) → ScopeAt words₁ registers middle (first-given d next Γ a s .0 ++ Γ)
+      second-scope-of d next Γ a s = scope-with (kept-scope kept₁ (omega (arith, low)) s) (first-given d next Γ a s .2)
+
+      pub second-scope : ((Γ : Scope) × ScopeAt words registers scope Γ) → ((d : Declaration) × (next : ℕ) × DeclarationAt words node next d) → (Δ : Scope) × ScopeAt words₁ registers middle Δ
+      second-scope s d =
+          let a = sequence-there (d .0) (d .1) (d .2) in
+          (first-given (d .0) (d .1) (s .0) a (s .1) .0 ++ s .0, second-scope-of (d .0) (d .1) (s .0) a (s .1))
 
       pub second-declaration : ((d : Declaration) × (next : ℕ) × DeclarationAt words node next d) → (d : Declaration) × (next : ℕ) × DeclarationAt words₁ after next d
       second-declaration d =
@@ -160,32 +166,33 @@ module _ (words : List ℕ) (registers scope tail node which : ℕ) (known : whi
           let a = sequence-there (d .0) (d .1) (d .2) in
           omega (arith, after-is (d .0) (d .1) a, a .on)
 
-      pub second-tail : ((Γ : Scope) × ScopeAt words registers scope Γ) → ((d : Declaration) × (next : ℕ) × DeclarationAt words node next d) → middle ≤ after
-      second-tail s d =
+      pub second-scope-low : ((Γ : Scope) × ScopeAt words registers scope Γ) → ((d : Declaration) × (next : ℕ) × DeclarationAt words node next d) → middle ≤ after
+      second-scope-low s d =
           let a = sequence-there (d .0) (d .1) (d .2) in
           omega (arith, after-is (d .0) (d .1) a, first-given (d .0) (d .1) (s .0) a (s .1) .3)
 
-      module _ (words₂ : List ℕ) (r₂ : Answer) (gives₂ : DeclarationJudgedAt words₁ words₂ registers scope middle after r₂) where
-        second-judged : (d : Declaration) (next : ℕ) (Γ : Scope) (a : SequenceAt words node next d) → ScopeAt words registers scope Γ → NamesFrom words₂ middle next (declaration-gives Γ (a .second)) r₂
-        second-judged d next Γ a s = gives₂ (a .second) next Γ (second-there d next a) (second-scope Γ s)
+      module _ (words₂ : List ℕ) (r₂ : Answer) (gives₂ : DeclarationJudgedAt words₁ words₂ registers middle after r₂) where
+        second-judged : (d : Declaration) (next : ℕ) (Γ : Scope) (a : SequenceAt words node next d) (s : ScopeAt words registers scope Γ) →
+            NamesFrom words₂ middle next (declaration-gives (first-given d next Γ a s .0 ++ Γ) (a .second)) r₂
+        second-judged d next Γ a s = gives₂ (a .second) next (first-given d next Γ a s .0 ++ Γ) (second-there d next a) (second-scope-of d next Γ a s)
 
-        pub sequence-second-fault : (x p : ℕ) → r₂ ≡ Fault x p → DeclarationJudgedAt words words₂ registers scope tail node r₂
+        pub sequence-second-fault : (x p : ℕ) → r₂ ≡ Fault x p → DeclarationJudgedAt words words₂ registers scope node r₂
         sequence-second-fault x p q =
             sequence-gives words₂ r₂
             (λ d next Γ a s.
             let g = first-given d next Γ a s in
-            names-after (λ Δ₁. declaration-gives Γ (a .second) >>= joined node Δ₁) (g .1) (names-stop (joined node (g .0)) x p (second-judged d next Γ a s) q))
+            names-after (λ Δ₁. declaration-gives (Δ₁ ++ Γ) (a .second) >>= joined node Δ₁) (g .1) (names-stop (joined node (g .0)) x p (second-judged d next Γ a s) q))
 
         module _ (kept₂ : WritesRowsFrom words₁ words₂ after) where
           pub sequence-kept : ((d : Declaration) × (next : ℕ) × DeclarationAt words node next d) → WritesRowsFrom words words₂ node
           sequence-kept d = kept-then (kept-lower kept₁ (omega arith)) kept₂ (omega (arith, second-after d))
 
-          first-rows-of : (d : Declaration) (next : ℕ) (Γ : Scope) (a : SequenceAt words node next d) (s : ScopeAt words registers scope Γ) → Rows words₂ middle tail (first-given d next Γ a s .0)
+          first-rows-of : (d : Declaration) (next : ℕ) (Γ : Scope) (a : SequenceAt words node next d) (s : ScopeAt words registers scope Γ) → Rows words₂ middle scope (first-given d next Γ a s .0)
           first-rows-of d next Γ a s =
               let g = first-given d next Γ a s in
               kept-rows kept₂ (g .2) (omega (arith, after-is d next a, g .3))
 
-          pub first-rows : ((Γ : Scope) × ScopeAt words registers scope Γ) → ((d : Declaration) × (next : ℕ) × DeclarationAt words node next d) → (Δ : Scope) × Rows words₂ middle tail Δ
+          pub first-rows : ((Γ : Scope) × ScopeAt words registers scope Γ) → ((d : Declaration) × (next : ℕ) × DeclarationAt words node next d) → (Δ : Scope) × Rows words₂ middle scope Δ
           first-rows s d =
               let a = sequence-there (d .0) (d .1) (d .2) in
               (first-given (d .0) (d .1) (s .0) a (s .1) .0, first-rows-of (d .0) (d .1) (s .0) a (s .1))
@@ -197,30 +204,30 @@ module _ (words : List ℕ) (registers scope tail node which : ℕ) (known : whi
                 let h = names-given (second-judged (d .0) (d .1) (s .0) a (s .1)) got₂ in
                 (h .0, h .2)
 
-            module _ (repeated : Bool) (compared : (Δ₁ Δ₂ : Scope) → Rows words₂ middle tail Δ₁ → Rows words₂ newest middle Δ₂ → repeated ≡ shares-name Δ₁ Δ₂) where
-              joins : (r : Answer) → ((next : ℕ) (Δ₁ Δ₂ : Scope) → Rows words₂ middle tail Δ₁ → Rows words₂ newest middle Δ₂ → newest ≤ next → NamesFrom words₂ tail next (joined node Δ₁ Δ₂) r) →
-                  DeclarationJudgedAt words words₂ registers scope tail node r
+            module _ (repeated : Bool) (compared : (Δ₁ Δ₂ : Scope) → Rows words₂ middle scope Δ₁ → Rows words₂ newest middle Δ₂ → repeated ≡ shares-name Δ₁ Δ₂) where
+              joins : (r : Answer) → ((next : ℕ) (Δ₁ Δ₂ : Scope) → Rows words₂ middle scope Δ₁ → Rows words₂ newest middle Δ₂ → newest ≤ next → NamesFrom words₂ scope next (joined node Δ₁ Δ₂) r) →
+                  DeclarationJudgedAt words words₂ registers scope node r
               joins r done =
                   sequence-gives words₂ r
                   (λ d next Γ a s.
                   let g = first-given d next Γ a s in
                   let h = names-given (second-judged d next Γ a s) got₂ in
-                  names-after (λ Δ₁. declaration-gives Γ (a .second) >>= joined node Δ₁) (g .1)
+                  names-after (λ Δ₁. declaration-gives (Δ₁ ++ Γ) (a .second) >>= joined node Δ₁) (g .1)
                   (names-after (joined node (g .0)) (h .1) (done next (g .0) (h .0) (first-rows-of d next Γ a s) (h .2) (h .3))))
 
-              pub sequence-repeated : repeated ≡ true → DeclarationJudgedAt words words₂ registers scope tail node (Fault 12 node)
+              pub sequence-repeated : repeated ≡ true → DeclarationJudgedAt words words₂ registers scope node (Fault 12 node)
               sequence-repeated q =
                   joins (Fault 12 node)
                   (λ next Δ₁ Δ₂ a b l.
-                  subst (λ j. NamesFrom words₂ tail next j (Fault 12 node)) (sym (joined-fault Δ₁ Δ₂ (sym (compared Δ₁ Δ₂ a b) ∙ q))) (unfold refusal-number in names-fault))
+                  subst (λ j. NamesFrom words₂ scope next j (Fault 12 node)) (sym (joined-fault Δ₁ Δ₂ (sym (compared Δ₁ Δ₂ a b) ∙ q))) (unfold refusal-number in names-fault))
                 where
                   joined-fault : (Δ₁ Δ₂ : Scope) → shares-name Δ₁ Δ₂ ≡ true → joined node Δ₁ Δ₂ ≡ fault Repeated node
                   joined-fault Δ₁ Δ₂ e = unfold joined in rw e
 
-              pub sequence-fine : repeated ≡ false → DeclarationJudgedAt words words₂ registers scope tail node (Is newest)
+              pub sequence-fine : repeated ≡ false → DeclarationJudgedAt words words₂ registers scope node (Is newest)
               sequence-fine q =
                   joins (Is newest)
-                  (λ next Δ₁ Δ₂ a b l. subst (λ j. NamesFrom words₂ tail next j (Is newest)) (sym (joined-fine Δ₁ Δ₂ (sym (compared Δ₁ Δ₂ a b) ∙ q))) (names-from (rows-append b a) l))
+                  (λ next Δ₁ Δ₂ a b l. subst (λ j. NamesFrom words₂ scope next j (Is newest)) (sym (joined-fine Δ₁ Δ₂ (sym (compared Δ₁ Δ₂ a b) ∙ q))) (names-from (rows-append b a) l))
                 where
                   joined-fine : (Δ₁ Δ₂ : Scope) → shares-name Δ₁ Δ₂ ≡ false → joined node Δ₁ Δ₂ ≡ fine (Δ₂ ++ Δ₁)
                   joined-fine Δ₁ Δ₂ e = unfold joined in rw e
@@ -231,7 +238,7 @@ means-inverse : (r : Answer) (n : ℕ) (j : Judged Meaning) → r ≡ meaning-an
 means-inverse r n (fault y p) g h = absurd (two-answers r n (refusal-number y) p h g)
 means-inverse r n (fine m) g h = (m, refl, same-is r (meaning-number m) n g h)
 
-module _ (words : List ℕ) (registers scope tail node which : ℕ) (known : which ≡ packed-kind (getD words node 0)) (not-sequence : which ≡ 31 → ⊥) where
+module _ (words : List ℕ) (registers scope node which : ℕ) (known : which ≡ packed-kind (getD words node 0)) (not-sequence : which ≡ 31 → ⊥) where
   bind-there : (d : Declaration) (next : ℕ) → DeclarationAt words node next d → BindAt words node next d
   bind-there d next at = by (seen-declaration words node which next d known at) not-sequence
     where
@@ -253,15 +260,15 @@ module _ (words : List ℕ) (registers scope tail node which : ℕ) (known : whi
       omega (arith, named, operand-is (a .word) (omega arith), a .name-low)
 
   module _ (words₁ : List ℕ) (meant : Answer) (means : BoundJudgedAt words registers scope (node + 1) meant) where
-    pub bind-fault : (x p : ℕ) → meant ≡ Fault x p → DeclarationJudgedAt words words₁ registers scope tail node meant
+    pub bind-fault : (x p : ℕ) → meant ≡ Fault x p → DeclarationJudgedAt words words₁ registers scope node meant
     unfolding declaration-gives
     bind-fault x p q d next Γ at s =
         let a = bind-there d next at in
-        subst (λ e. NamesFrom words₁ tail next (declaration-gives Γ e) meant) (sym (a .same))
+        subst (λ e. NamesFrom words₁ scope next (declaration-gives Γ e) meant) (sym (a .same))
         (by (bound-means Γ (a .child)) (λ m. fine (record { name = a .name; meaning = m } ∷ [])) (means (a .child) Γ (a .child-at) s))
       where
-        by : (j : Judged Meaning) (f : Meaning → Judged Scope) → meant ≡ meaning-answer j → NamesFrom words₁ tail next (j >>= f) meant
-        by (fault y z) f g = subst (NamesFrom words₁ tail next (fault y z)) (sym g) names-fault
+        by : (j : Judged Meaning) (f : Meaning → Judged Scope) → meant ≡ meaning-answer j → NamesFrom words₁ scope next (j >>= f) meant
+        by (fault y z) f g = subst (NamesFrom words₁ scope next (fault y z)) (sym g) names-fault
         by (fine m) f g = absurd (two-answers meant (meaning-number m) x p g q)
 
     module _ (number : ℕ) (got : meant ≡ Is number) where
@@ -272,11 +279,11 @@ module _ (words : List ℕ) (registers scope tail node which : ℕ) (known : whi
           let stands : MeaningAt words node (m .0) = bound-meaning (s .0) (m .0) (b .1) (s .1) (m .1) in
           omega (arith, meaning-low stands, m .2)
 
-      module _ (kept₁ : WritesRowsFrom words words₁ (node + 1)) (name word : ℕ) (named : name ≡ packed-operand (getD words node 0)) (row : word ≡ row-word name number tail) (long : rows-end ≤ length words₁) (low : tail ≤ node) where
+      module _ (kept₁ : WritesRowsFrom words words₁ (node + 1)) (name word : ℕ) (named : name ≡ packed-operand (getD words node 0)) (row : word ≡ row-word name number scope) (long : rows-end ≤ length words₁) (low : scope ≤ node) where
         pub bind-kept : node < most-nodes → WritesRowsFrom words (set words₁ (rows-from + node) word) node
         bind-kept l = kept-then (kept-lower kept₁ (omega arith)) (kept-row words₁ node word l) (omega arith)
 
-        pub bind-fine : DeclarationJudgedAt words (set words₁ (rows-from + node) word) registers scope tail node (Is (node + 1))
+        pub bind-fine : DeclarationJudgedAt words (set words₁ (rows-from + node) word) registers scope node (Is (node + 1))
         unfolding declaration-gives
         bind-fine d next Γ at s =
             let a = bind-there d next at in
@@ -285,14 +292,14 @@ module _ (words : List ℕ) (registers scope tail node which : ℕ) (known : whi
             let stands : MeaningAt words node (m .0) = bound-meaning Γ (m .0) (a .child-at) s (m .1) in
             let called : name ≡ a .name = named ∙ operand-is (a .word) (omega arith) in
             let written = set words₁ (rows-from + node) word in
-            let has : HasRow written node (a .name) number tail =
+            let has : HasRow written node (a .name) number scope =
             record {
-              word = row-there words₁ node word place long ∙ row ∙ ap (λ x. row-word x number tail) called;
+              word = row-there words₁ node word place long ∙ row ∙ ap (λ x. row-word x number scope) called;
               node-low = place;
               name-low = a .name-low;
               meaning-low = omega (arith, meaning-low stands, m .2);
               link-low = low;
             } in
-            subst (λ e. NamesFrom written tail next (declaration-gives Γ e) (Is (node + 1))) (sym (a .same))
+            subst (λ e. NamesFrom written scope next (declaration-gives Γ e) (Is (node + 1))) (sym (a .same))
             (names-after (λ k. fine (record { name = a .name; meaning = k } ∷ [])) (m .1)
-            (names-from (subst (λ i. Rows written i tail (record { name = a .name; meaning = m .0 } ∷ [])) (after-node node) (one-row has refl (m .2) (kept-meaning (bind-kept place) stands) no-rows)) (omega (arith, a .on))))
+            (names-from (subst (λ i. Rows written i scope (record { name = a .name; meaning = m .0 } ∷ [])) (after-node node) (one-row has refl (m .2) (kept-meaning (bind-kept place) stands) no-rows)) (omega (arith, a .on))))

@@ -1,4 +1,4 @@
--- declaration_sequence: both declarations, the mark.
+-- declaration_sequence: both declarations, each with a mark behind it.
 use native.Mathlib.Omega.{arith}
 use Rattle.commands.proofs.declaration_laws.DeclarationLaws.{declaration-low, declaration-sequence-low, declaration-sequence-steps}
 use borrow.Author.Needs.{needs}
@@ -6,7 +6,7 @@ use Rattle.commands.proofs.declarations.declaration_sequence.Statement.
 use Rattle.commands.proofs.declarations.declaration_sequence.Tie as tie
 use Rattle.commands.proofs.declarations.declaration_sequence.Reads as reads
 use Rattle.commands.proofs.declarations.declaration_sequence.Lts as lts
-use Rattle.machine.proofs.stacks.put_three.Reads as put-three-reads
+use Rattle.machine.proofs.stacks.put_four.Reads as put-four-reads
 use Rattle.reader.proofs.end.Reads as end-reads
 
 add-end : tie.Need-add-end
@@ -15,18 +15,18 @@ add-end c = record { fits = omega (arith, declaration-low _ _ _ _ (c .before .be
 end-requires : tie.Need-end-requires
 end-requires c κs = let start = c .before .before in omega (arith, declaration-sequence-low _ _ _ _ _ (start .pre .2), start .pre .2 .ready .fits .room)
 
-add-put-three : tie.Need-add-put-three
-add-put-three c = record { fits = omega (arith, declaration-low _ _ _ _ (c .before .before .before .before .pre .2)) }
+add-put-four : tie.Need-add-put-four
+add-put-four c = record { fits = omega (arith, declaration-low _ _ _ _ (c .before .before .before .before .pre .2)) }
 
-put-three-requires : tie.Need-put-three-requires
-put-three-requires c κs = search needs
+put-four-requires : tie.Need-put-four-requires
+put-four-requires c κs = search needs
 
 same-length : tie.Need-same-length
 same-length c = search needs
 
 returns : tie.Need-returns
-returns c = declaration-sequence-steps _ _ _ _ _ _ (c .before .before .before .before .end .ensures) (c .before .before .put-three .ensures)
+returns c = declaration-sequence-steps _ _ _ _ _ _ (c .before .before .before .before .end .ensures) (c .before .before .put-four .ensures)
 
 pub declaration-sequence-spec : {M : Type 1} → statement M
 declaration-sequence-spec =
-    tie.close (tie.spec add-end end-requires add-put-three put-three-requires same-length returns)
+    tie.close (tie.spec add-end end-requires add-put-four put-four-requires same-length returns)

@@ -44,16 +44,16 @@ slice-read-name : tie.Need-slice-read-name
 slice-read-name c = search needs
 
 mul-put-row : tie.Need-mul-put-row
-mul-put-row c = let k = numbers (c .before .before .before .before .before .before .before) in record { fits = omega (arith, k .label-low, k .name-low, k .declared-few) }
+mul-put-row c = let k = numbers (c .before .before .before .before .before .before .before) in record { fits = omega (arith, k .label-low, k .name-low, k .environment-few) }
 
 add-put-row : tie.Need-add-put-row
-add-put-row c = let k = numbers (c .before .before .before .before .before .before .before) in record { fits = omega (arith, k .label-low, k .name-low, k .declared-few) }
+add-put-row c = let k = numbers (c .before .before .before .before .before .before .before) in record { fits = omega (arith, k .label-low, k .name-low, k .environment-few) }
 
 mul-put-row-2 : tie.Need-mul-put-row-2
-mul-put-row-2 c = let k = numbers (c .before .before .before .before .before .before .before) in record { fits = omega (arith, k .label-low, k .name-low, k .declared-few) }
+mul-put-row-2 c = let k = numbers (c .before .before .before .before .before .before .before) in record { fits = omega (arith, k .label-low, k .name-low, k .environment-few) }
 
 add-put-row-2 : tie.Need-add-put-row-2
-add-put-row-2 c = let k = numbers (c .before .before .before .before .before .before .before) in record { fits = omega (arith, k .label-low, k .name-low, k .declared-few) }
+add-put-row-2 c = let k = numbers (c .before .before .before .before .before .before .before) in record { fits = omega (arith, k .label-low, k .name-low, k .environment-few) }
 
 put-row-requires : tie.Need-put-row-requires
 put-row-requires c κs = search needs

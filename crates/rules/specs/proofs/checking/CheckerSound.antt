@@ -228,7 +228,7 @@ mutual
       bind-satisfies (Means Γ b) _ (bound-means Γ b) _ (bound-means-satisfies b Γ) (λ m h. Typing.bind h refl)
   declaration-satisfies (DSeq p d₁ d₂) Γ =
       bind-satisfies (Gives Γ d₁) _ (declaration-gives Γ d₁) _ (declaration-satisfies d₁ Γ) (λ Δ₁ h.
-      bind-satisfies (Gives Γ d₂) _ (declaration-gives Γ d₂) _ (declaration-satisfies d₂ Γ) (λ Δ₂ k.
+      bind-satisfies (Gives (Δ₁ ++ Γ) d₂) _ (declaration-gives (Δ₁ ++ Γ) d₂) _ (declaration-satisfies d₂ (Δ₁ ++ Γ)) (λ Δ₂ k.
       cond-satisfies (Gives Γ (DSeq p d₁ d₂)) (shares-name Δ₁ Δ₂) _ _ (λ q. tt) (λ q.
       Typing.dseq h k (λ x d e. failed-test q (shared-tests x Δ₁ Δ₂ d e)) refl)))
 

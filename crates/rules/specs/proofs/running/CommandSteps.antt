@@ -14,7 +14,7 @@ use Rattle.rules.specs.paper.Rules as Rules
 use Rattle.rules.specs.claims.History.{History}
 use Rattle.rules.specs.proofs.running.World.{World, SmallExpression, SmallActuals, SmallCommand, SmallBlock, SmallDeclaration, SmallBound, EnvironmentTyped, closure-typed}
 use Rattle.rules.specs.proofs.running.Stores.{StoreTyped, world-made, same}
-use Rattle.rules.specs.proofs.running.Continuation.{StackShape, value-of, name-of, declared, calling, opened, actuals, Declaring, in-block, past-name, past-declared, ControlTyped, expression-typed, command-typed, declaration-typed, reference-typed, abstraction-typed, assign-mark-typed, loop-mark-typed, ref-mark-typed, bind-mark-typed, dseq-mark-typed, extend-mark-typed, leave-mark-typed, call-mark-typed, ValuesTyped, value-on, name-on, loop-on, calling-on, opened-on, open-states}
+use Rattle.rules.specs.proofs.running.Continuation.{StackShape, value-of, name-of, declared, calling, opened, actuals, Declaring, in-block, past-name, past-saved, ControlTyped, expression-typed, command-typed, declaration-typed, reference-typed, abstraction-typed, assign-mark-typed, loop-mark-typed, ref-mark-typed, bind-mark-typed, dseq-extend-mark-typed, dseq-join-mark-typed, extend-mark-typed, leave-mark-typed, call-mark-typed, ValuesTyped, value-on, name-on, loop-on, calling-on, opened-on, open-states}
 use Rattle.rules.specs.proofs.running.Progress.{Progress, same-store, opening-step}
 
 -- The actuals, put on control last on top.
@@ -67,7 +67,7 @@ module _ (a : Passed) (r : ℕ) (C : List Item) (X : List Entry) (E : Environmen
       (bound-control b m g s (past-name t) _ (bind-mark-typed (subst (λ Ψ. ControlTyped a C Γ (declared Ψ Θ)) q k))) (name-on values) (λ M m. tt)
   declaration-step d Δ (Typing.dseq g₁ g₂ apart q) s t k =
       same-store Rules.rule-DSeq refl refl Rules.dseq names cells types pending
-      (declaration-typed g₁ (s .0) t (declaration-typed g₂ (s .1) (past-declared t) (dseq-mark-typed (subst (λ Ψ. ControlTyped a C Γ (declared Ψ Θ)) q k))))
+      (declaration-typed g₁ (s .0) t (dseq-extend-mark-typed (declaration-typed g₂ (s .1) (past-saved t) (dseq-join-mark-typed (subst (λ Ψ. ControlTyped a C Γ (declared Ψ Θ)) q k)))))
       values (λ M m. tt)
 
   pub reference-step : (p c : ℕ) (e : Expression) → HasCode Γ e c → SmallExpression e → Declaring Θ → ControlTyped a C Γ (value-of (code (suc (suc c))) Θ) → Here (reference p e)

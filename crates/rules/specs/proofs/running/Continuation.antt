@@ -9,7 +9,7 @@ use lib.ListN.{length}
 use Rattle.rules.specs.paper.Tree.{Operator, Arithmetic, Order, Logic, arithmetic, Eq, order, logic, Expression, Formal, Command, Loop, Block, Declaration}
 use Rattle.rules.specs.paper.Checker.{Meaning, code, function, Scope, meaning-of, with-formals, Passed, expression-of-code, a-command}
 use Rattle.rules.specs.claims.Typing.{HasCode, CommandOk, BlockOk, Gives}
-use Rattle.rules.specs.paper.States.{Bindable, Environment, Entry, bindable, name, node, environment, locations, operator-mark, not-mark, assign-mark, loop-mark, ref-mark, bind-mark, dseq-mark, extend-mark, leave-mark, call-mark, Item, expression, command, declaration, reference, abstraction, mark, State, control-of, values-of, environment-of, store-of, locations-of, live-cells}
+use Rattle.rules.specs.paper.States.{Bindable, Environment, Entry, bindable, name, node, environment, locations, operator-mark, not-mark, assign-mark, loop-mark, ref-mark, bind-mark, dseq-extend-mark, dseq-join-mark, extend-mark, leave-mark, call-mark, Item, expression, command, declaration, reference, abstraction, mark, State, control-of, values-of, environment-of, store-of, locations-of, live-cells}
 use Rattle.rules.specs.claims.History.{Earlier, History, node-on-top}
 use Rattle.rules.specs.proofs.running.World.{World, SmallExpression, SmallCommand, SmallBlock, SmallDeclaration, EnvironmentTyped, BindableTyped}
 use Rattle.rules.specs.proofs.running.Stores.{StoreTyped, Grown, world-cells, world-made}
@@ -21,15 +21,16 @@ pub data StackShape : Type 0 where
   name-of : ℕ → StackShape → StackShape  -- this name
   loop-of : (place : ℕ) → Expression → Command → StackShape → StackShape
   declared : Scope → StackShape → StackShape  -- the environment of a finished declaration
+  saved : (first outer : Scope) → StackShape → StackShape  -- the first environment of a DSeq on E as it was, while its second declaration runs
   calling : (place : ℕ) → StackShape → StackShape  -- no entry: the actuals of this Call run
   opened : (place : ℕ) → Scope → StackShape → StackShape  -- L of the block at this place, whose declaration runs
   frame : (place : ℕ) → Scope → StackShape → StackShape  -- E and L of the block or call at this place, whose command runs
 
--- A Ref runs only in a declaration: names and finished environments alone lie above the opened block.
+-- A Ref runs only in a declaration: names and what DSeqs saved alone lie above the opened block.
 pub data Declaring : StackShape → Type 0 where
   in-block : {p : ℕ} {Γ : Scope} {Θ : StackShape} → Declaring (opened p Γ Θ)
   past-name : {x : ℕ} {Θ : StackShape} → Declaring Θ → Declaring (name-of x Θ)
-  past-declared : {Δ : Scope} {Θ : StackShape} → Declaring Θ → Declaring (declared Δ Θ)
+  past-saved : {Δ Γ : Scope} {Θ : StackShape} → Declaring Θ → Declaring (saved Δ Γ Θ)
 
 -- What the two operands' codes give.
 pub data OperatorTyped : Operator → (first second result : ℕ) → Type 0 where
@@ -72,8 +73,10 @@ pub data ControlTyped (a : Passed) : List Item → Scope → StackShape → Type
       Declaring Θ → ControlTyped a C Γ (value-of (code (suc (suc c))) Θ) → ControlTyped a (mark ref-mark ∷ C) Γ (value-of (code c) Θ)
   bind-mark-typed : {x : ℕ} {m : Meaning} {C : List Item} {Γ : Scope} {Θ : StackShape} →
       ControlTyped a C Γ (declared (record { name = x; meaning = m } ∷ []) Θ) → ControlTyped a (mark bind-mark ∷ C) Γ (value-of m (name-of x Θ))
-  dseq-mark-typed : {C : List Item} {Γ Δ₁ Δ₂ : Scope} {Θ : StackShape} →
-      ControlTyped a C Γ (declared (Δ₂ ++ Δ₁) Θ) → ControlTyped a (mark dseq-mark ∷ C) Γ (declared Δ₂ (declared Δ₁ Θ))
+  dseq-extend-mark-typed : {C : List Item} {Γ Δ₁ : Scope} {Θ : StackShape} →
+      ControlTyped a C (Δ₁ ++ Γ) (saved Δ₁ Γ Θ) → ControlTyped a (mark dseq-extend-mark ∷ C) Γ (declared Δ₁ Θ)
+  dseq-join-mark-typed : {C : List Item} {Γ Γ₀ Δ₁ Δ₂ : Scope} {Θ : StackShape} →
+      ControlTyped a C Γ₀ (declared (Δ₂ ++ Δ₁) Θ) → ControlTyped a (mark dseq-join-mark ∷ C) Γ (declared Δ₂ (saved Δ₁ Γ₀ Θ))
   extend-mark-typed : {p : ℕ} {C : List Item} {Γ Δ : Scope} {Θ : StackShape} →
       ControlTyped a C (Δ ++ Γ) (frame p Γ Θ) → ControlTyped a (mark extend-mark ∷ C) Γ (declared Δ (opened p Γ Θ))
   leave-mark-typed : {p m : ℕ} {C : List Item} {Γ Γ₀ : Scope} {Θ : StackShape} →
@@ -105,6 +108,8 @@ pub data ValuesTyped (r : ℕ) : Environment → World → List ℕ → List Ent
       ValuesTyped r E W L X Θ P → ValuesTyped r E W L (node (Loop p e c) ∷ X) (loop-of p e c Θ) P
   declared-on : {E D : Environment} {W : World} {L : List ℕ} {X : List Entry} {Θ : StackShape} {P : List State} {Δ : Scope} →
       EnvironmentTyped W D Δ → ValuesTyped r E W L X Θ P → ValuesTyped r E W L (environment D ∷ X) (declared Δ Θ) P
+  saved-on : {E D F : Environment} {W : World} {L : List ℕ} {X : List Entry} {Θ : StackShape} {P : List State} {Δ Γ : Scope} →
+      EnvironmentTyped W D Δ → EnvironmentTyped W F Γ → ValuesTyped r F W L X Θ P → ValuesTyped r E W L (environment D ∷ environment F ∷ X) (saved Δ Γ Θ) P
   calling-on : {E : Environment} {W : World} {L : List ℕ} {X : List Entry} {Θ : StackShape} {P : List State} {p : ℕ} {e : State} →
       Entered p e E L X W → ValuesTyped r E W L X Θ P → ValuesTyped r E W L X (calling p Θ) (e ∷ P)
   opened-on : {E : Environment} {U W : World} {K L : List ℕ} {X : List Entry} {Θ : StackShape} {P : List State} {p : ℕ} {e : State} {Γ : Scope} →

@@ -10,7 +10,7 @@ use lib.ListN.{length}
 use Rattle.rules.specs.proofs.Basics.{missing}
 use Rattle.rules.specs.paper.Tree.{Operator, arithmetic, Eq, order, logic, Expression, Num, Boo, Id, DeRef, ValRef, Binary, Not, Formal, Command, Assign, Loop, CSeq, block, Call, Block, Blk, Declaration, Bind, DSeq}
 use Rattle.rules.specs.paper.Integers.{compute, compare, combine}
-use Rattle.rules.specs.paper.States.{Value, integer, truth, location, Bindable, value, closure, Environment, lookup, Store, find, Entry, bindable, name, node, environment, locations, val, Mark, operator-mark, not-mark, assign-mark, loop-mark, ref-mark, bind-mark, dseq-mark, extend-mark, leave-mark, call-mark, Item, expression, command, declaration, reference, abstraction, mark, State, state}
+use Rattle.rules.specs.paper.States.{Value, integer, truth, location, Bindable, value, closure, Environment, lookup, Store, find, Entry, bindable, name, node, environment, locations, val, Mark, operator-mark, not-mark, assign-mark, loop-mark, ref-mark, bind-mark, dseq-extend-mark, dseq-join-mark, extend-mark, leave-mark, call-mark, Item, expression, command, declaration, reference, abstraction, mark, State, state}
 use Rattle.rules.specs.paper.Rules.{Rule, Effect, goes, pushed, equal-values, Matched, match-formals, Table, Applies}
 use Rattle.rules.specs.paper.Rules as Rules
 use Rattle.rules.specs.paper.Fire.{Firing, stuck, fires, given, take, as-bindable, as-value, as-integer, as-truth, as-name, LoopNode, loop-node, as-loop, as-environment, as-locations, bound-value, as-location, bound-location, Closure, bound-closure, id-value, after-test, fire-expression, fire-command, fire-declaration, fire-operator, fire-mark, fire-item, fire}
@@ -225,8 +225,12 @@ module _ (C : List Item) (E : Environment) (S : Store) (L : List ℕ) (n : ℕ) 
   mark-sound ref-mark X = take-sound as-value _ is-value (At (mark ref-mark)) (λ Y. tt) X _ (λ v Y. Rules.ref-at)
   mark-sound bind-mark X =
       takes-two as-bindable _ is-bindable as-name _ is-name (At (mark bind-mark)) (λ Y. tt) X _ (λ b x Y. Rules.bind-at)
-  mark-sound dseq-mark X =
-      takes-two as-environment _ is-environment as-environment _ is-environment (At (mark dseq-mark)) (λ Y. tt) X _ (λ D₂ D₁ Y. Rules.dseq-at)
+  mark-sound dseq-extend-mark X =
+      take-sound as-environment _ is-environment (At (mark dseq-extend-mark)) (λ Y. tt) X _ (λ D₁ Y. Rules.dseq-extend-at)
+  mark-sound dseq-join-mark X =
+      takes-two as-environment _ is-environment as-environment _ is-environment (At (mark dseq-join-mark)) (λ Y. tt) X _ (λ D₂ D₁ Y.
+      take-sound as-environment _ is-environment (λ Z. At (mark dseq-join-mark) (environment D₂ ∷ environment D₁ ∷ Z)) (λ Z. tt) Y _ (λ F Z.
+      Rules.dseq-join-at))
   mark-sound extend-mark X =
       take-sound as-environment _ is-environment (At (mark extend-mark)) (λ Y. tt) X _ (λ D Y. Rules.extend-at)
   mark-sound (leave-mark p m) X =
@@ -280,7 +284,8 @@ module _ (C : List Item) (E : Environment) (S : Store) (L : List ℕ) (n : ℕ) 
   line-fires r i X e Rules.bind-at = refl
   line-fires r i X e Rules.abs = refl
   line-fires r i X e Rules.dseq = refl
-  line-fires r i X e Rules.dseq-at = refl
+  line-fires r i X e Rules.dseq-extend-at = refl
+  line-fires r i X e Rules.dseq-join-at = refl
   line-fires r i X e Rules.blk = refl
   line-fires r i X e Rules.extend-at = refl
   line-fires r i X e Rules.leave-at = refl

@@ -18,7 +18,7 @@ use Rattle.rules.specs.claims.History.{Made, Earlier, History, node-on-t
 use Rattle.rules.specs.proofs.running.World.{World, SmallBlock, EnvironmentTyped, one-name, BindableTyped, value-typed, closure-typed, Bound-as, lookup-typed, join-typed}
 use Rattle.rules.specs.proofs.running.Stores.{StoreTyped, store-cells, Grown, same, remove-grown, grown-keeps, world-cells, world-made, remade}
 use Rattle.rules.specs.proofs.running.Continuation.{StackShape, value-of, declared, calling, opened, frame, actuals, ControlTyped, command-typed, leave-mark-typed, Entered, ValuesTyped, value-on, declared-on, calling-on, opened-on, frame-on, is-some, open-states}
-use Rattle.rules.specs.proofs.running.Progress.{Progress, Advance, quiet-invariant, kept}
+use Rattle.rules.specs.proofs.running.Progress.{Progress, Advance, same-store, quiet-invariant, kept}
 
 -- ---- The latest waiting state of the history is the newest open one.
 
@@ -113,20 +113,8 @@ module _ (a : Passed) (r : ℕ) (C : List Item) (E : Environment) (S : Store) (n
   pub extend-mark-step : (p : ℕ) (Δ : Scope) (L : List ℕ) (X : List Entry) (Θ : StackShape) (P : List State) → open-states (h .past) ≡ P →
       ControlTyped a C (Δ ++ Γ) (frame p Γ Θ) → ValuesTyped r E W L X (declared Δ (opened p Γ Θ)) P →
       Progress a r (state (mark extend-mark ∷ C) X E S L n) h
-  extend-mark-step p Δ L X Θ P pending k (declared-on {D = D} {X = Y} d (opened-on e g entered values)) =
-      record {
-        rule = Rules.mark-extend;
-        effect = _;
-        applies = Rules.extend-at;
-        cells-before = tt;
-        next = record {
-          invariant =
-              quiet-invariant a r (mark extend-mark) C X E S L n h refl refl _ _ _ _ _ _ pending k (join-typed d names) cells
-              (frame-on e g entered values) (kept (h .made-types) S W types cells);
-          cells-after = tt;
-          restored = tt;
-        };
-      }
+  extend-mark-step p Δ L X Θ P pending k (declared-on d (opened-on e g entered values)) =
+      same-store Rules.mark-extend refl refl Rules.extend-at (join-typed d names) cells types pending k (frame-on e g entered values) (λ M m. tt)
 
   -- The second mark restores what its block or call found.
   pub leave-mark-step : (p m : ℕ) (Γ₀ : Scope) (L : List ℕ) (X : List Entry) (Θ : StackShape) (P : List State) → open-states (h .past) ≡ P →

@@ -15,14 +15,14 @@ use Rattle.rules.specs.paper.Refusals.{OutOfRange}
 use Rattle.rules.specs.paper.Integers.{in-range, Result, number, failed, ranged, divide, compute, compare, equal-integers, equal-truths, combine}
 use Rattle.rules.specs.paper.Checker.{Meaning, code, Scope, meaning-of, Passed}
 use Rattle.rules.specs.claims.Typing.{HasCode, CommandOk}
-use Rattle.rules.specs.paper.States.{Value, integer, truth, location, Bindable, value, Environment, lookup, Store, store-at, find, Entry, val, name, Item, mark, operator-mark, not-mark, assign-mark, loop-mark, ref-mark, bind-mark, dseq-mark, State, state}
+use Rattle.rules.specs.paper.States.{Value, integer, truth, location, Bindable, value, Environment, lookup, Store, store-at, find, Entry, val, name, Item, mark, operator-mark, not-mark, assign-mark, loop-mark, ref-mark, bind-mark, dseq-extend-mark, dseq-join-mark, State, state}
 use Rattle.rules.specs.paper.Rules.{goes, pushed, Table}
 use Rattle.rules.specs.paper.Rules as Rules
 use Rattle.rules.specs.claims.History.{Made, History, remake}
 use Rattle.rules.specs.claims.Claim.{HoldsItsType, AllHoldTheirTypes}
 use Rattle.rules.specs.proofs.running.World.{World, code-at, code-newest, SmallExpression, SmallCommand, ValueTyped, integer-typed, truth-typed, location-typed, EnvironmentTyped, no-names, one-name, environment-older, BindableTyped, value-typed, join-typed}
 use Rattle.rules.specs.proofs.running.Stores.{StoreTyped, one-cell, store-length, store-at-typed, find-typed, Grown, grown, world-made, remade-new, cell-holds}
-use Rattle.rules.specs.proofs.running.Continuation.{StackShape, value-of, name-of, loop-of, declared, Declaring, in-block, past-name, past-declared, OperatorTyped, arithmetic-typed, equal-typed, order-typed, logic-typed, ControlTyped, expression-typed, command-typed, loop-mark-typed, ValuesTyped, value-on, name-on, loop-on, declared-on, opened-on, open-states}
+use Rattle.rules.specs.proofs.running.Continuation.{StackShape, value-of, name-of, loop-of, declared, saved, Declaring, in-block, past-name, past-saved, OperatorTyped, arithmetic-typed, equal-typed, order-typed, logic-typed, ControlTyped, expression-typed, command-typed, loop-mark-typed, ValuesTyped, value-on, name-on, loop-on, declared-on, saved-on, opened-on, open-states}
 use Rattle.rules.specs.proofs.running.Progress.{Progress, Advance, Next, ArithmeticFault, zero-divisor, out-of-range, same-store, quiet-invariant, kept}
 use Rattle.rules.specs.proofs.running.ExpressionSteps.{Bound-cell, bound-cell-typed}
 
@@ -57,7 +57,7 @@ grow-values : {r : ℕ} {E : Environment} {W : World} {L : List ℕ} {X : List E
     Declaring Θ → ValuesTyped r E W L X Θ P → ValuesTyped r E (c ∷ W) (length W ∷ L) X Θ P
 grow-values c in-block (opened-on e g entered v) = opened-on e (grown g) entered v
 grow-values c (past-name d) (name-on v) = name-on (grow-values c d v)
-grow-values c (past-declared d) (declared-on e v) = declared-on (environment-older e c) (grow-values c d v)
+grow-values c (past-saved d) (saved-on e f v) = saved-on (environment-older e c) (environment-older f c) (grow-values c d v)
 
 module _ (a : Passed) (r : ℕ) (C : List Item) (E : Environment) (S : Store) (L : List ℕ) (n : ℕ) (h : History)
     (Γ : Scope) (W : World) (P : List State)
@@ -132,10 +132,15 @@ module _ (a : Passed) (r : ℕ) (C : List Item) (E : Environment) (S : Store) (L
   bind-step x m X Θ k (value-on b (name-on values)) =
       same-store Rules.mark-Bind refl refl Rules.bind-at names cells types pending k (declared-on (one-name refl b no-names) values) (λ M m. tt)
 
-  pub dseq-step : (Δ₁ Δ₂ : Scope) (X : List Entry) (Θ : StackShape) → ControlTyped a C Γ (declared (Δ₂ ++ Δ₁) Θ) →
-      ValuesTyped r E W L X (declared Δ₂ (declared Δ₁ Θ)) P → Here (mark dseq-mark) X
-  dseq-step Δ₁ Δ₂ X Θ k (declared-on d₂ (declared-on d₁ values)) =
-      same-store Rules.mark-DSeq refl refl Rules.dseq-at names cells types pending k (declared-on (join-typed d₂ d₁) values) (λ M m. tt)
+  pub dseq-extend-step : (Δ₁ : Scope) (X : List Entry) (Θ : StackShape) → ControlTyped a C (Δ₁ ++ Γ) (saved Δ₁ Γ Θ) →
+      ValuesTyped r E W L X (declared Δ₁ Θ) P → Here (mark dseq-extend-mark) X
+  dseq-extend-step Δ₁ X Θ k (declared-on d₁ values) =
+      same-store Rules.mark-DSeq-extend refl refl Rules.dseq-extend-at (join-typed d₁ names) cells types pending k (saved-on d₁ names values) (λ M m. tt)
+
+  pub dseq-join-step : (Δ₁ Δ₂ Γ₀ : Scope) (X : List Entry) (Θ : StackShape) → ControlTyped a C Γ₀ (declared (Δ₂ ++ Δ₁) Θ) →
+      ValuesTyped r E W L X (declared Δ₂ (saved Δ₁ Γ₀ Θ)) P → Here (mark dseq-join-mark) X
+  dseq-join-step Δ₁ Δ₂ Γ₀ X Θ k (declared-on d₂ (saved-on d₁ outer values)) =
+      same-store Rules.mark-DSeq-join refl refl Rules.dseq-join-at outer cells types pending k (declared-on (join-typed d₂ d₁) values) (λ M m. tt)
 
   -- Assign's mark sets a live cell of code 0 or 1.
   store-step : (x c : ℕ) (v : Value) (X : List Entry) (Θ : StackShape) → c < 2 → Bound-cell W E x c → ValueTyped W v c → ControlTyped a C Γ Θ → ValuesTyped r E W L X Θ P →

@@ -66,25 +66,25 @@ module _ (a : Passed) (r : ℕ) (i : Item) (C : List Item) (X : List Entry) (E :
 pub kept : (M : _) (S : Store) (W : World) → M ≡ world-made W → StoreTyped S W → remake M S ≡ world-made W
 kept M S W q s = ap (λ N. remake N S) q ∙ remade W s (λ l c p. p)
 
--- A step that leaves environment, store and location set as they are: from the line of the table, the typing of what it leaves
--- on both stacks, and its cells, which hold their types by any history of this world.
-pub same-store : {a : Passed} {r : ℕ} {i : Item} {C C′ : List Item} {X X′ : List Entry} {E : Environment} {S : Store} {L : List ℕ} {n n′ : ℕ} {h : History}
+-- A step that leaves store and location set as they are: from the line of the table, the typing of what it leaves as environment
+-- and on both stacks, and its cells, which hold their types by any history of this world.
+pub same-store : {a : Passed} {r : ℕ} {i : Item} {C C′ : List Item} {X X′ : List Entry} {E E′ : Environment} {S : Store} {L : List ℕ} {n n′ : ℕ} {h : History}
     {Γ : Scope} {Θ : StackShape} {W : World} {P : List State} (rule : Rule) →
-    item-place i ≡ none → left-by-item i ≡ none → Table C E S L n rule i X (goes (state C′ X′ E S L n′)) →
-    EnvironmentTyped W E Γ → StoreTyped S W → h .made-types ≡ world-made W → open-states (h .past) ≡ P →
-    ControlTyped a C′ Γ Θ → ValuesTyped r E W L X′ Θ P →
+    item-place i ≡ none → left-by-item i ≡ none → Table C E S L n rule i X (goes (state C′ X′ E′ S L n′)) →
+    EnvironmentTyped W E′ Γ → StoreTyped S W → h .made-types ≡ world-made W → open-states (h .past) ≡ P →
+    ControlTyped a C′ Γ Θ → ValuesTyped r E′ W L X′ Θ P →
     ((M : Made) → M ≡ world-made W → AllHoldTheirTypes M S (item-cells i X E S)) →
     Progress a r (state (i ∷ C) X E S L n) h
-same-store {a} {r} {i} {C} {C′} {X} {X′} {E} {S} {L} {n} {n′} {h} {W = W} rule opens left line names cells types pending control values hold =
+same-store {a} {r} {i} {C} {C′} {X} {X′} {E} {E′} {S} {L} {n} {n′} {h} {W = W} rule opens left line names cells types pending control values hold =
     record {
       rule = rule;
-      effect = goes (state C′ X′ E S L n′);
+      effect = goes (state C′ X′ E′ S L n′);
       applies = line;
       cells-before = hold (h .made-types) types;
       next = record {
-        invariant = quiet-invariant a r i C X E S L n h opens left C′ X′ E S L n′ pending control names cells values (kept (h .made-types) S W types cells);
+        invariant = quiet-invariant a r i C X E S L n h opens left C′ X′ E′ S L n′ pending control names cells values (kept (h .made-types) S W types cells);
         cells-after = hold (remake (h .made-types) S) (kept (h .made-types) S W types cells);
-        restored = subst (λ o. LeavingRestores o h (state C′ X′ E S L n′)) (sym left) tt;
+        restored = subst (λ o. LeavingRestores o h (state C′ X′ E′ S L n′)) (sym left) tt;
       };
     }
 

@@ -27,11 +27,11 @@ use Rattle.rules.specs.claims.History.{Made, made-registers, History, fi
 use Rattle.rules.specs.claims.Claim.{StepOutcome, step-is-made, step-is-withheld, StateClaim, AllInRange, WholeRunClaim}
 use Rattle.rules.specs.proofs.running.World.{World, code-newest, SmallExpression, SmallActuals, SmallCommand, SmallBlock, SmallDeclaration, SmallBound, integer-typed, location-typed, EnvironmentTyped, no-names, one-name, environment-older, value-typed}
 use Rattle.rules.specs.proofs.running.Stores.{StoreTyped, no-cells, one-cell, world-made}
-use Rattle.rules.specs.proofs.running.Continuation.{StackShape, end, ControlTyped, done, expression-typed, command-typed, declaration-typed, reference-typed, abstraction-typed, operator-mark-typed, not-mark-typed, assign-mark-typed, loop-mark-typed, ref-mark-typed, bind-mark-typed, dseq-mark-typed, extend-mark-typed, leave-mark-typed, call-mark-typed, final-command, final-value, register-world, ValuesTyped, nothing-left, open-states, Invariant}
+use Rattle.rules.specs.proofs.running.Continuation.{StackShape, end, ControlTyped, done, expression-typed, command-typed, declaration-typed, reference-typed, abstraction-typed, operator-mark-typed, not-mark-typed, assign-mark-typed, loop-mark-typed, ref-mark-typed, bind-mark-typed, dseq-extend-mark-typed, dseq-join-mark-typed, extend-mark-typed, leave-mark-typed, call-mark-typed, final-command, final-value, register-world, ValuesTyped, nothing-left, open-states, Invariant}
 use Rattle.rules.specs.proofs.running.Progress.{ArithmeticFault, zero-divisor, out-of-range, Advance, Next, Progress}
 use Rattle.rules.specs.proofs.running.ExpressionSteps.{expression-step}
 use Rattle.rules.specs.proofs.running.CommandSteps.{command-step, declaration-step, reference-step, abstraction-step}
-use Rattle.rules.specs.proofs.running.MarkSteps.{operator-step, not-step, assign-step, loop-step, ref-step, bind-step, dseq-step}
+use Rattle.rules.specs.proofs.running.MarkSteps.{operator-step, not-step, assign-step, loop-step, ref-step, bind-step, dseq-extend-step, dseq-join-step}
 use Rattle.rules.specs.proofs.running.FrameSteps.{extend-mark-step, leave-mark-step, call-step}
 use Rattle.rules.specs.proofs.running.Judging.{Judgement, no-reason, for-reason, judged, holds→reason, reason→holds}
 
@@ -51,7 +51,8 @@ step-of a r i C X E S L n h Γ Θ W P p t e s v (assign-mark-typed {x = x} {c = 
 step-of a r i C X E S L n h Γ Θ W P p t e s v (loop-mark-typed {p = q} {e = x} {c = c} {Θ = Φ} g u d w k) = loop-step a r C E S L n h Γ W P e s t p q x c X Φ g u d w k v
 step-of a r i C X E S L n h Γ Θ W P p t e s v (ref-mark-typed {c = c} {Θ = Φ} d k) = ref-step a r C E S L n h Γ W P e s t p c X Φ d k v
 step-of a r i C X E S L n h Γ Θ W P p t e s v (bind-mark-typed {x = x} {m = m} {Θ = Φ} k) = bind-step a r C E S L n h Γ W P e s t p x m X Φ k v
-step-of a r i C X E S L n h Γ Θ W P p t e s v (dseq-mark-typed {Δ₁ = Δ₁} {Δ₂ = Δ₂} {Θ = Φ} k) = dseq-step a r C E S L n h Γ W P e s t p Δ₁ Δ₂ X Φ k v
+step-of a r i C X E S L n h Γ Θ W P p t e s v (dseq-extend-mark-typed {Δ₁ = Δ₁} {Θ = Φ} k) = dseq-extend-step a r C E S L n h Γ W P e s t p Δ₁ X Φ k v
+step-of a r i C X E S L n h Γ Θ W P p t e s v (dseq-join-mark-typed {Γ₀ = Γ₀} {Δ₁ = Δ₁} {Δ₂ = Δ₂} {Θ = Φ} k) = dseq-join-step a r C E S L n h Γ W P e s t p Δ₁ Δ₂ Γ₀ X Φ k v
 step-of a r i C X E S L n h Γ Θ W P p t e s v (extend-mark-typed {p = q} {Δ = Δ} {Θ = Φ} k) = extend-mark-step a r C E S n h Γ W e s t q Δ L X Φ P p k v
 step-of a r i C X E S L n h Γ Θ W P p t e s v (leave-mark-typed {p = q} {m = m} {Γ₀ = Γ₀} {Θ = Φ} k) = leave-mark-step a r C E S n h Γ W e s t q m Γ₀ L X Φ P p k v
 step-of a r i C X E S L n h Γ Θ W P p t e s v (call-mark-typed {p = q} {x = x} {k = k} {fs = fs} {Θ = Φ} m c f d) =

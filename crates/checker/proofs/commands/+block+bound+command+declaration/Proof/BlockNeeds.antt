@@ -20,7 +20,7 @@ block-declaration-requires t c κs =
     let start = c .before .before in
     let tree = start .pre .1 .1 .1 .1 in
     let parts = block-parts _ _ (tree .0) (tree .1) in
-    (omega (arith, block-first-low _ _ tree, start .pre .0), (start .pre .1 .0, (omega (arith, start .pre .1 .1 .0), (omega (arith, start .pre .1 .1 .0), (start .pre .1 .1 .1 .0, (parts .declared, _, parts .declaration-stands))))))
+    (omega (arith, block-first-low _ _ tree, start .pre .0), (start .pre .1 .0, (omega (arith, start .pre .1 .1 .0), (start .pre .1 .1 .1 .0, (parts .declared, _, parts .declaration-stands)))))
 
 pub block-enum-known-declared : (t : ℕ) → block-lts.Need-enum-known-declared (block-calls t) (block-at t) block.Post
 block-enum-known-declared t c = search needs

@@ -40,7 +40,7 @@ abbrev pub μ-command : Measures 1 command-kinds.ps ℕ
 μ-command κs a = 2 * (most-nodes - (a .1 .1 .1 .0)) + 1
 
 abbrev pub μ-declaration : Measures 1 declaration-kinds.ps ℕ
-μ-declaration κs a = 2 * (most-nodes - (a .1 .1 .1 .1 .0))
+μ-declaration κs a = 2 * (most-nodes - (a .1 .1 .1 .0))
 
 abbrev pub block-at : ℕ → In 1 block-kinds.ps
 block-at t = and 1 block-kinds.ps (is 1 block-kinds.ps μ-block t) block.Pre
