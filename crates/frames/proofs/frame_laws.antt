@@ -1,3 +1,4 @@
 pub mod FrameLaws
-pub mod BlockMarkLaws
+pub mod BindMarkLaws
 pub mod DseqMarkLaws
+pub mod BlockMarkLaws

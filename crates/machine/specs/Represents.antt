@@ -1,17 +1,16 @@
 -- Which state of the automaton the regions hold. A value's label is 1 for a location and 0 for anything else; a row's is its name, its
 -- value's label and the pointer of the row below it; a location set is the count of cells there were before its first.
-use Prim.Native.Nat.{ℕ, zero, suc, _+_, _*_, _<_, _≤_}
+use Prim.Native.Nat.{ℕ, suc, _+_, _*_, _<_, _≤_}
 use mathlib.Core.Path.{_≡_}
 use mathlib.Core.Bool.{Bool}
 use mathlib.Core.List.{List, [], _∷_}
-use mathlib.Core.Option.{Option, none, some}
+use mathlib.Core.Option.{some}
 use lib.IntN.{ℤ}
 use lib.ListN.{length}
-use Rattle.rules.specs.paper.Kinds.{operator-number}
-use Rattle.rules.specs.paper.Tree.{Operator, Expression, Formal, Command, Loop, Block, Declaration, Bound, Ref, Abs}
+use Rattle.rules.specs.paper.Tree.{Operator, Expression, Formal, Command, Loop, Block, Declaration, Ref, Abs}
 use Rattle.rules.specs.paper.Limits.{names, most-parameters, most-nodes}
 use Rattle.rules.specs.claims.Listing.{truth-word}
-use Rattle.rules.specs.paper.States.{Value, integer, truth, location, Bindable, value, closure, Environment, empty, bound, Cell, Store, Entry, bindable, name, node, environment, locations, operator-mark, not-mark, assign-mark, loop-mark, ref-mark, bind-mark, dseq-extend-mark, dseq-join-mark, extend-mark, leave-mark, call-mark, Item, expression, command, declaration, reference, abstraction, mark, State, state}
+use Rattle.rules.specs.paper.States.{Value, integer, truth, location, Bindable, value, closure, Environment, empty, bound, Cell, Store, Entry, bindable, name, node, environment, locations, operator-mark, not-mark, assign-mark, loop-mark, ref-mark, bind-mark, dseq-extend-mark, dseq-join-mark, extend-mark, leave-mark, call-mark, Item, expression, command, declaration, reference, abstraction, mark}
 use Rattle.machine.specs.Layout.{closure-unit, mark-word, link}
 use Rattle.reader.specs.Stored.{StoredExpression, StoredCommand, StoredDeclaration, StoredBound}
 use Rattle.integers.specs.Words.{integer-of}

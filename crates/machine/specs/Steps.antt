@@ -1,15 +1,15 @@
 -- What a step of the machine answers, by the rules' table.
-use Prim.Native.Nat.{ℕ, _≤_}
+use Prim.Native.Nat.{ℕ}
 use mathlib.Core.Path.{_≡_}
 use mathlib.Core.Bool.{false}
-use mathlib.Core.List.{List, [], _∷_}
+use mathlib.Core.List.{List, _∷_}
 use lib.ListN.{length, take, drop}
 use Rattle.rules.specs.paper.Refusals.{Reason, reason-number}
 use Rattle.rules.specs.paper.States.{Bindable, Environment, Store, Entry, bindable, environment, locations, Item, mark, extend-mark, State, state}
 use Rattle.rules.specs.paper.Rules.{Rule, Effect, goes, Table}
 use Rattle.rules.specs.paper.Run.{Verdict, made, withheld, judge}
-use Rattle.rules.specs.paper.Limits.{most-nodes, work-words, names}
-use Rattle.machine.specs.Regions.{Regions, slot, regions, Fits, with-control}
+use Rattle.rules.specs.paper.Limits.{most-nodes, work-words}
+use Rattle.machine.specs.Regions.{slot, regions, Fits, with-control}
 use Rattle.machine.specs.Represents.{BindableAs, Mode, ControlAs, ValuesAs, Beside, Models}
 use Rattle.machine.specs.declared.Machine.{Machine}
 use Rattle.machine.specs.declared.Stepped.{Stepped}

@@ -15,7 +15,7 @@ pub struct Machine {
     pub values: usize,
     // the environment, as a pointer to its newest row; 0 is the empty one
     pub environment: usize,
-    // the environment with the names that the running declaration has made so far
+    // the environment with the names of the declaration that ended last
     pub declared: usize,
     // the live cells, and how many there were when the running block was entered
     pub cells: usize,

@@ -21,8 +21,9 @@ use Rattle.machine.specs.declared.Machine.{Machine}
 use Rattle.machine.specs.declared.Stepped.the-variants.{Withheld}
 use Rattle.machine.specs.Room.{full-stack}
 use Rattle.machine.proofs.state_laws.JudgeLaws.{judged-bindings}
-use Rattle.machine.proofs.state_laws.ModelLaws.{Sizes, sizes, step-withheld, step-withheld-for-room}
-use Rattle.frames.proofs.frame_laws.FrameLaws.{pointed, with-pointers, answered, with-stacks, environment-is, rows-height}
+use Rattle.machine.proofs.state_laws.ModelLaws.{with-items, Sizes, sizes, step-withheld, step-withheld-for-room}
+use Rattle.machine.proofs.state_laws.ItemLaws.{rest-of}
+use Rattle.frames.proofs.frame_laws.FrameLaws.{pointed, with-pointers, answered, environment-is, rows-height}
 use Rattle.frames.proofs.call_laws.FormalsLaws.{formals-end, Counted, counted}
 
 -- ---- A closure.
@@ -95,7 +96,7 @@ module _ (words : List ℕ) (m : Machine) where
         count-low = few;
         control-as = h;
         values-as = v;
-        models = with-stacks (running ms) μ h v;
+        models = with-items h (rest-of κ w (mark (call-mark p x k)) (running ms) μ v);
       }
 
   pub call-top : (w p x k : ℕ) {C : List Item} {X : List Entry} {E : Environment} {S : Store} {L : List ℕ} {n : ℕ} {r : Rule} {e : Effect} → Ready words m w (mark (call-mark p x k)) C X E S L n r e → CallTop w p x k C X E S L n e

@@ -1,21 +1,21 @@
 -- A block's two marks: what they find on the stacks, and the state that they leave.
-use Prim.Native.Nat.{ℕ, zero, suc, _+_, _-_, _*_, _/_, _<_, _≤_}
+use Prim.Native.Nat.{ℕ, _+_, _-_, _/_, _≤_}
 use mathlib.Core.Path.{_≡_, refl, sym, ap, _∙_, subst}
-use mathlib.Core.List.{List, [], _∷_}
+use mathlib.Core.List.{List, _∷_}
 use native.Mathlib.Omega.{arith}
 use lib.ListN.{length, getD}
-use Rattle.rules.specs.paper.States.{Environment, join, Store, remove, Entry, environment, locations, extend-mark, leave-mark, Item, mark, State, state}
+use Rattle.rules.specs.paper.States.{Environment, join, Store, remove, Entry, environment, locations, extend-mark, leave-mark, Item, mark, state}
 use Rattle.rules.specs.paper.Rules.{Rule, Effect, goes, Table, extend-at, leave-at}
-use Rattle.rules.specs.paper.Limits.{most-cells, most-bindings, names}
+use Rattle.rules.specs.paper.Limits.{most-cells, most-bindings}
 use Rattle.machine.specs.Layout.{row-labels, row-payloads, cell-payloads, cell-labels, top-payload, second-payload, carried-unit, leave-word}
-use Rattle.machine.specs.Regions.{Slot, slot, slots, Regions, regions, Fits, with-control, with-values, raised-values}
-use Rattle.machine.specs.Represents.{SegmentAs, StoreAs, Since, Extends, at-block, at-end, Mode, running, declaring, ControlAs, extend-on, leave-on, ValuesAs, declared-on, opened-on, frame-on, Models}
+use Rattle.machine.specs.Regions.{Slot, slot, slots, Regions, regions, with-values, raised-values}
+use Rattle.machine.specs.Represents.{SegmentAs, StoreAs, Since, Extends, at-block, at-end, Mode, running, declaring, ControlAs, extend-on, leave-on, ValuesAs, opened-on, frame-on, Models}
 use Rattle.machine.specs.Steps.{Ready, Steps}
 use Rattle.machine.specs.declared.Machine.{Machine}
 use Rattle.machine.specs.declared.Stepped.the-variants.{Made}
 use Rattle.machine.proofs.memory_laws.RegionLaws.{slots-length}
 use Rattle.machine.proofs.state_laws.ModelLaws.{step-made, fits-still}
-use Rattle.machine.proofs.state_laws.TopLaws.{at-height, OneOnTop, one-on-top, TwoOnTop, two-on-top}
+use Rattle.machine.proofs.state_laws.TopLaws.{at-height, one-on-top, TwoOnTop, two-on-top}
 use Rattle.machine.proofs.memory_laws.EnvironmentLaws.{segment-join, values-running, Cut, cut, since-low, removed-since}
 use Rattle.frames.proofs.frame_laws.FrameLaws.{with-pointers, joined, joined-regions, environment-is, base-is, cells-height, answered, DeclaredTop, declared-top}
 

@@ -1,9 +1,9 @@
 -- A DSeq's two marks: what they find on the stacks, and the state that they leave.
-use Prim.Native.Nat.{ℕ, suc, _+_, _-_, _<_, _≤_}
+use Prim.Native.Nat.{ℕ, _+_, _-_, _<_, _≤_}
 use mathlib.Core.Path.{_≡_, refl, sym, ap, _∙_, subst}
 use mathlib.Core.List.{List, _∷_}
 use native.Mathlib.Omega.{arith}
-use lib.ListN.{length, getD}
+use lib.ListN.{getD}
 use Rattle.rules.specs.paper.Limits.{most-value-entries}
 use Rattle.rules.specs.paper.Refusals.{ValueEntries, reason-number}
 use Rattle.rules.specs.paper.States.{Environment, join, Store, Entry, environment, dseq-extend-mark, dseq-join-mark, Item, mark, state}

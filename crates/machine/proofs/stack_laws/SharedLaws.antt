@@ -1,24 +1,23 @@
 -- What several rules do alike: a value more, or entries more on control.
-use Prim.Native.Nat.{ℕ, zero, suc, _+_, _<_, _≤_}
+use Prim.Native.Nat.{ℕ, _+_, _<_, _≤_}
 use mathlib.Core.Path.{_≡_, refl, sym, ap, _∙_, subst}
 use mathlib.Core.Bool.{false}
-use mathlib.Core.List.{List, [], _∷_}
+use mathlib.Core.List.{List, _∷_}
 use native.Mathlib.Omega.{arith}
 use lib.ListN.{length}
-use Rattle.rules.specs.paper.Refusals.{Reason, ValueEntries, ControlEntries, reason-number}
-use Rattle.rules.specs.paper.States.{Bindable, Environment, Store, Entry, bindable, Item, State, state}
+use Rattle.rules.specs.paper.Refusals.{ValueEntries, ControlEntries, reason-number}
+use Rattle.rules.specs.paper.States.{Environment, Store, Entry, bindable, Item, state}
 use Rattle.rules.specs.paper.Rules.{goes}
-use Rattle.rules.specs.paper.Run.{withheld, judge}
+use Rattle.rules.specs.paper.Run.{judge}
 use Rattle.machine.specs.Room.{full-stack}
 use Rattle.rules.specs.paper.Limits.{most-value-entries, most-control-entries}
-use Rattle.machine.specs.Regions.{Slot, slot, slots, Regions, regions, Fits, with-control, with-values, raised-control, raised-values}
-use Rattle.machine.specs.Represents.{BindableAs, Mode, ControlAs, ValuesAs, bindable-on, Beside, Models}
+use Rattle.machine.specs.Regions.{Slot, slot, regions, Fits, with-control, with-values, raised-control, raised-values}
+use Rattle.machine.specs.Represents.{Mode, ControlAs, bindable-on, Beside, Models}
 use Rattle.machine.specs.Steps.{StepAnswer, Pushes, PutsTwo, PutsThree, PutsFour, Enters}
 use Rattle.machine.specs.declared.Machine.{Machine}
-use Rattle.machine.specs.declared.Stepped.{Stepped}
 use Rattle.machine.specs.declared.Stepped.the-variants.{Made, Withheld}
 use Rattle.machine.proofs.state_laws.JudgeLaws.{judged-values, judged-control}
-use Rattle.machine.proofs.state_laws.ModelLaws.{control-size, with-items, BesideSizes, beside-sizes, control-height, Sizes, sizes, step-made, step-withheld, step-withheld-for-room, fits-still}
+use Rattle.machine.proofs.state_laws.ModelLaws.{control-size, beside-sizes, control-height, sizes, step-made, step-withheld, step-withheld-for-room, fits-still}
 
 -- What `put_control` does.
 pub record Put (before : List ℕ) (m : Machine) (w : ℕ) (after : List ℕ) (r : Machine) : Type 0 where

@@ -4,7 +4,7 @@ use Prim.Native.Nat.{ℕ, suc, _+_, _<_}
 use mathlib.Core.Path.{_≡_}
 use mathlib.Core.List.{List, _∷_}
 use native.Mathlib.Omega.{arith}
-use lib.ListN.{length, getD}
+use lib.ListN.{getD}
 use Rattle.rules.specs.paper.Tree.{Expression, Formal, Command, Block, Declaration, Ref, Abs}
 use Rattle.rules.specs.paper.States.{Environment, Store, Entry, Item, command, declaration, reference, abstraction}
 use Rattle.reader.specs.Pack.{packed-kind, packed-end}

@@ -2,7 +2,7 @@
 use Prim.Native.Nat.{_+_, _*_, _<_, _≤_}
 use native.Mathlib.Omega.{arith}
 use denote.Ref.{now}
-use Rattle.frames.proofs.frame_laws.FrameLaws.{BindNumbers, bind-numbers, bind-withheld, bind-made}
+use Rattle.frames.proofs.frame_laws.BindMarkLaws.{BindNumbers, bind-numbers, bind-withheld, bind-made}
 use borrow.Author.Needs.{needs}
 use Rattle.frames.proofs.declarations.bind_mark.Statement.{statement}
 use Rattle.frames.proofs.declarations.bind_mark.Tie as tie

@@ -1,8 +1,6 @@
 -- dseq_extend_mark: the environment is kept under the declared names, which join it; or 35.
-use Prim.Native.Nat.{_+_, _<_, _≤_}
-use mathlib.Core.Path.{_≡_, ap, _∙_}
+use mathlib.Core.Path.{ap}
 use native.Mathlib.Omega.{arith}
-use denote.Ref.{now}
 use Rattle.machine.proofs.stack_laws.SharedLaws.{value-fits}
 use Rattle.frames.proofs.frame_laws.FrameLaws.{joined-fits}
 use Rattle.frames.proofs.frame_laws.DseqMarkLaws.{extend-some, extend-withheld, extend-made}

@@ -1,7 +1,4 @@
 -- put_four: four entries more on control, or 36.
-use Prim.Native.Nat.{_<_, _≤_}
-use mathlib.Core.Path.{_≡_, ap, _∙_}
-use native.Mathlib.Omega.{arith}
 use denote.Ref.{now}
 use Rattle.machine.proofs.stack_laws.SharedLaws.{put-four-withheld, put-four-made}
 use Rattle.machine.proofs.stack_laws.RoomLaws.{Room, room-for, room-after, was-put}
