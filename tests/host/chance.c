@@ -193,7 +193,9 @@ static void print_image(size_t length)
     printf("\n");
 }
 
-static void family(const char *name, size_t (*make)(Random *), size_t count, uint64_t seed)
+/* Compares so many images of a sort; where they all pass, none may be refused with 1 to 14. */
+static void family(const char *name, size_t (*make)(Random *), int all_pass, size_t count,
+                   uint64_t seed)
 {
     Random random;
     Tally tally;
@@ -210,6 +212,9 @@ static void family(const char *name, size_t (*make)(Random *), size_t count, uin
         ran = call_all(&call);
         if (ran.reply.refusal <= PI_REFUSAL_CONTROL)
             tally.answers[ran.reply.refusal] += 1;
+        if (all_pass && ran.reply.refusal >= PI_REFUSAL_LENGTH && ran.reply.refusal <= PI_REFUSAL_CALL)
+            test_fault("an image that passes is refused with %" PRIu64 " at %" PRIu64,
+                       ran.reply.refusal, ran.reply.place);
         if (test_has_fault()) {
             printf("  budget %" PRIu64 ", seed %" PRIu64 "\n", call.budget, seed + index);
             print_image(call.image_length);
@@ -220,8 +225,8 @@ static void family(const char *name, size_t (*make)(Random *), size_t count, uin
 
 void test_chance(size_t count, uint64_t seed)
 {
-    family("random words", random_words, count, seed);
-    family("plausible words", plausible_words, count, seed);
-    family("images that pass", passing, count, seed);
-    family("damaged images", damaged, count, seed);
+    family("random words", random_words, 0, count, seed);
+    family("plausible words", plausible_words, 0, count, seed);
+    family("images that pass", passing, 1, count, seed);
+    family("damaged images", damaged, 0, count, seed);
 }

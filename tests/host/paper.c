@@ -60,7 +60,7 @@ static const Node not_assignable[] = {
     {PI_KIND_ASSIGN, 1}, {PI_KIND_DEREF, 0},
 };
 
-static const Node unseen[] = {
+static const Node later[] = {
     {PI_KIND_BLK, 0},
     {PI_KIND_DSEQ, 0},
     {PI_KIND_BIND, 1}, {PI_KIND_REF, 0}, {PI_KIND_NUM, 1},
@@ -105,7 +105,8 @@ static const Case cases[] = {
     {"J a cell that holds a location", TREE(location), 1, {9}, MOST, COMMAND, NONE(14), {10}},
     {"K a cell that holds a location is not set", TREE(not_assignable), 1, {9}, MOST, 0,
      REFUSED(13, 4, 0), {9}},
-    {"L declarations do not see each other", TREE(unseen), 0, {0}, MOST, 0, REFUSED(10, 7, 0), {0}},
+    {"L a later declaration sees an earlier one", TREE(later), 0, {0}, MOST, COMMAND, NONE(19), {0}},
+    {"L budget 18", TREE(later), 0, {0}, 18, COMMAND, REFUSED(30, 0, 18), {0}},
 };
 
 /* The image of a case. */

@@ -70,9 +70,18 @@ static const Faulty faulty[] = {
     {"truth for a number", PI_REFUSAL_TYPE, 0, 3,
      {{PI_KIND_SUM, 0}, {PI_KIND_NUM, 1}, {PI_KIND_BOO, 1}}},
     {"truth for a register", PI_REFUSAL_TYPE, 0, 2, {{PI_KIND_ASSIGN, 0}, {PI_KIND_BOO, 1}}},
+    {"name used before it is declared", PI_REFUSAL_UNBOUND, 3, 8,
+     {{PI_KIND_BLK, 0}, {PI_KIND_DSEQ, 0}, {PI_KIND_BIND, 2}, {PI_KIND_ID, 1}, {PI_KIND_BIND, 1},
+      {PI_KIND_NUM, 1}, {PI_KIND_ASSIGN, 0}, {PI_KIND_NUM, 1}}},
+    {"register hidden by an earlier declaration", PI_REFUSAL_TYPE, 5, 10,
+     {{PI_KIND_BLK, 0}, {PI_KIND_DSEQ, 0}, {PI_KIND_BIND, 0}, {PI_KIND_BOO, 1}, {PI_KIND_BIND, 1},
+      {PI_KIND_SUM, 0}, {PI_KIND_ID, 0}, {PI_KIND_NUM, 1}, {PI_KIND_ASSIGN, 0}, {PI_KIND_NUM, 1}}},
     {"name on both sides", PI_REFUSAL_REPEATED, 1, 8,
      {{PI_KIND_BLK, 0}, {PI_KIND_DSEQ, 0}, {PI_KIND_BIND, 1}, {PI_KIND_NUM, 1}, {PI_KIND_BIND, 1},
       {PI_KIND_NUM, 1}, {PI_KIND_ASSIGN, 0}, {PI_KIND_NUM, 1}}},
+    {"name used and declared again", PI_REFUSAL_REPEATED, 1, 8,
+     {{PI_KIND_BLK, 0}, {PI_KIND_DSEQ, 0}, {PI_KIND_BIND, 1}, {PI_KIND_NUM, 1}, {PI_KIND_BIND, 1},
+      {PI_KIND_ID, 1}, {PI_KIND_ASSIGN, 0}, {PI_KIND_NUM, 1}}},
     {"Formal repeated", PI_REFUSAL_REPEATED, 4, 13,
      {{PI_KIND_BLK, 0}, {PI_KIND_BIND, 1}, {PI_KIND_ABS, 2}, {PI_KIND_FORMAL, 2},
       {PI_KIND_FORMAL, PI_OPERAND(2, 1)}, {PI_KIND_BLK, 0}, {PI_KIND_BIND, 3}, {PI_KIND_NUM, 1},
@@ -256,14 +265,17 @@ static void test_limits(void)
         uint64_t refusal;
         uint64_t steps;
     } towers[] = {
-        {"256 cells", {1, 15, 17, 1, 0}, PI_REFUSAL_NONE, 1812},
-        {"a 257th cell", {1, 16, 16, 1, 0}, PI_REFUSAL_CELLS, 1781},
-        {"512 bindings", {1, 30, 17, 0, 0}, PI_REFUSAL_NONE, 2592},
-        {"a 513th binding", {2, 15, 17, 0, 0}, PI_REFUSAL_BINDINGS, 2546},
+        {"256 cells", {1, 15, 17, 1, 0}, PI_REFUSAL_NONE, 2052},
+        {"a 257th cell", {1, 16, 16, 1, 0}, PI_REFUSAL_CELLS, 2021},
+        {"512 bindings", {1, 30, 17, 0, 0}, PI_REFUSAL_NONE, 3072},
+        {"a 513th binding", {2, 15, 17, 0, 0}, PI_REFUSAL_BINDINGS, 3026},
         {"512 value entries", {15, 15, 1, 0, 0}, PI_REFUSAL_NONE, 1488},
         {"a 513th value entry", {16, 14, 1, 0, 0}, PI_REFUSAL_VALUES, 1229},
         {"512 control entries", {10, 1, 1, 0, 48}, PI_REFUSAL_NONE, 2073},
         {"a 513th control entry", {11, 1, 1, 0, 44}, PI_REFUSAL_CONTROL, 610},
+        /* With two names a Blk has a DSeq. */
+        {"a 513th value entry in a second declaration", {15, 15, 2, 0, 0}, PI_REFUSAL_VALUES, 2576},
+        {"a 513th control entry at a DSeq", {13, 1, 2, 0, 39}, PI_REFUSAL_CONTROL, 692},
     };
     size_t index;
     Call call;

@@ -142,19 +142,37 @@ static void deep_functions(Tree *tree)
     }
 }
 
-static void deep_declarations(Tree *tree)
+/* DSeqs below DSeqs to depth 63, in the second declaration or in the first; each name is made of the
+   one before it. */
+static void deep_second_declarations(Tree *tree)
 {
-    size_t level;
+    uint32_t level;
 
     tree_clear(tree, 1);
     tree_add(tree, PI_KIND_BLK, 0);
     for (level = 1; level <= 60; level += 1) {
         tree_add(tree, PI_KIND_DSEQ, 0);
-        tree_add(tree, PI_KIND_BIND, (uint32_t)level);
-        tree_add(tree, PI_KIND_NUM, 0);
+        tree_add(tree, PI_KIND_BIND, level);
+        tree_add(tree, PI_KIND_ID, level - 1);
     }
     tree_add(tree, PI_KIND_BIND, 61);
-    tree_add(tree, PI_KIND_NUM, 0);
+    tree_add(tree, PI_KIND_ID, 60);
+    tree_add(tree, PI_KIND_ASSIGN, 0);
+    tree_add(tree, PI_KIND_NUM, 7);
+}
+
+static void deep_first_declarations(Tree *tree)
+{
+    uint32_t level;
+
+    tree_clear(tree, 1);
+    tree_add(tree, PI_KIND_BLK, 0);
+    for (level = 1; level <= 60; level += 1)
+        tree_add(tree, PI_KIND_DSEQ, 0);
+    for (level = 1; level <= 61; level += 1) {
+        tree_add(tree, PI_KIND_BIND, level);
+        tree_add(tree, PI_KIND_ID, level - 1);
+    }
     tree_add(tree, PI_KIND_ASSIGN, 0);
     tree_add(tree, PI_KIND_NUM, 7);
 }
@@ -175,7 +193,8 @@ static void fits(const char *what, size_t taken, size_t figure)
 void test_stack(void)
 {
     static void (*const shapes[])(Tree *) = {
-        deep_commands, deep_functions, deep_declarations, deep_expressions,
+        deep_commands, deep_functions, deep_second_declarations, deep_first_declarations,
+        deep_expressions,
     };
     static Tree tree;
     size_t taken[4] = {0, 0, 0, 0};

@@ -73,18 +73,21 @@ void tree_of_nodes(Tree *tree, size_t nodes)
     add_assigns(tree, (nodes + 1) / 3);
 }
 
-/* A declaration of so many names from 20 on. */
+/* A declaration of so many names from 20 on, each but the first made of the one before it. */
 static void add_names(Tree *tree, size_t names, int cells)
 {
-    size_t index;
+    uint32_t name;
 
-    for (index = 0; index < names; index += 1) {
-        if (index + 1 < names)
+    for (name = 20; name < 20 + names; name += 1) {
+        if (name + 1 < 20 + names)
             tree_add(tree, PI_KIND_DSEQ, 0);
-        tree_add(tree, PI_KIND_BIND, 20 + (uint32_t)index);
+        tree_add(tree, PI_KIND_BIND, name);
         if (cells)
             tree_add(tree, PI_KIND_REF, 0);
-        tree_add(tree, PI_KIND_NUM, 0);
+        if (name == 20)
+            tree_add(tree, PI_KIND_NUM, 0);
+        else
+            tree_add(tree, PI_KIND_ID, name - 1);
     }
 }
 
@@ -177,7 +180,7 @@ static void grow_truth(Growth *growth, size_t levels)
 
 static void grow_command(Growth *growth, size_t levels);
 
-/* A Blk that binds a name to a new cell. Names 16 to 47 by the level. */
+/* A Blk that binds a name to a new cell. Names from 16 on by the level, which is below 8. */
 static void grow_block(Growth *growth, size_t levels)
 {
     uint32_t name = 16 + (uint32_t)levels;
@@ -190,6 +193,64 @@ static void grow_block(Growth *growth, size_t levels)
     growth->count += 1;
     grow_command(growth, levels - 1);
     growth->count -= 1;
+}
+
+/* The sum of a name and some number. */
+static void grow_from(Growth *growth, uint32_t name, size_t levels)
+{
+    tree_add(growth->tree, PI_KIND_SUM, 0);
+    tree_add(growth->tree, PI_KIND_ID, name);
+    grow_integer(growth, levels - 1);
+}
+
+/* A Blk that binds a name to a new cell and then another to a cell that is counted from it. */
+static void grow_sequence(Growth *growth, size_t levels)
+{
+    uint32_t first = 24 + (uint32_t)levels;
+    uint32_t second = 32 + (uint32_t)levels;
+    Tree *tree = growth->tree;
+
+    tree_add(tree, PI_KIND_BLK, 0);
+    tree_add(tree, PI_KIND_DSEQ, 0);
+    tree_add(tree, PI_KIND_BIND, first);
+    tree_add(tree, PI_KIND_REF, 0);
+    grow_integer(growth, levels - 1);
+    growth->names[growth->count] = first;
+    growth->count += 1;
+    tree_add(tree, PI_KIND_BIND, second);
+    tree_add(tree, PI_KIND_REF, 0);
+    grow_from(growth, first, levels);
+    growth->names[growth->count] = second;
+    growth->count += 1;
+    grow_command(growth, levels - 1);
+    growth->count -= 2;
+}
+
+/* A Blk that binds a name to a new cell and then a function that uses it, which is called. */
+static void grow_sequence_of_function(Growth *growth, size_t levels)
+{
+    uint32_t cell = 24 + (uint32_t)levels;
+    uint32_t function = 40 + (uint32_t)levels;
+    Tree *tree = growth->tree;
+
+    tree_add(tree, PI_KIND_BLK, 0);
+    tree_add(tree, PI_KIND_DSEQ, 0);
+    tree_add(tree, PI_KIND_BIND, cell);
+    tree_add(tree, PI_KIND_REF, 0);
+    grow_integer(growth, levels - 1);
+    growth->names[growth->count] = cell;
+    growth->count += 1;
+    tree_add(tree, PI_KIND_BIND, function);
+    tree_add(tree, PI_KIND_ABS, 0);
+    tree_add(tree, PI_KIND_BLK, 0);
+    tree_add(tree, PI_KIND_BIND, 62);
+    tree_add(tree, PI_KIND_REF, 0);
+    grow_from(growth, cell, levels);
+    growth->names[growth->count] = 62;
+    growth->count += 1;
+    grow_command(growth, levels - 1);
+    growth->count -= 2;
+    tree_add(tree, PI_KIND_CALL, PI_OPERAND(function, 0));
 }
 
 /* A function of a number and a location, called with an expression and a register or cell. */
@@ -220,7 +281,7 @@ static void grow_call(Growth *growth, size_t levels)
 static void grow_command(Growth *growth, size_t levels)
 {
     Tree *tree = growth->tree;
-    size_t choice = levels == 0 ? 0 : random_below(growth->random, 8);
+    size_t choice = levels == 0 ? 0 : random_below(growth->random, 10);
 
     if (choice <= 2) {
         tree_add(tree, PI_KIND_ASSIGN, any_name(growth));
@@ -235,6 +296,10 @@ static void grow_command(Growth *growth, size_t levels)
         grow_command(growth, levels - 1);
     } else if (choice == 6) {
         grow_block(growth, levels);
+    } else if (choice == 7) {
+        grow_sequence(growth, levels);
+    } else if (choice == 8) {
+        grow_sequence_of_function(growth, levels);
     } else {
         grow_call(growth, levels);
     }

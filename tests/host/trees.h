@@ -39,7 +39,8 @@ void tree_of_nodes(Tree *tree, size_t nodes);
 
 /*
  * A chain of functions, each of which calls the one before it from within so many nested Blks of so
- * many names each, and so many CSeqs; one register, which the innermost command sets to 7.
+ * many names each, and so many CSeqs; one register, which the innermost command sets to 7. Of a Blk's
+ * names each but the first is made of the one before it.
  */
 typedef struct Tower {
     size_t functions;

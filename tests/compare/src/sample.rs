@@ -39,19 +39,20 @@ pub struct Sample {
 }
 
 /// How many of each hundred samples are of which family.
-pub type Mixture = [(usize, Family); 11];
+pub type Mixture = [(usize, Family); 12];
 
 /// For checks, and for calls on bytes. Large cases take the second interpreter
 /// longest and are seldom.
 pub const CHECKED: Mixture = [
-    (20, Family::Small),
+    (16, Family::Small),
     (6, Family::Medium),
     (2, Family::Large),
     (6, Family::Faulty),
+    (10, Family::Sequences),
     (6, Family::Limits),
-    (24, Family::Damaged),
+    (22, Family::Damaged),
     (4, Family::Empty),
-    (14, Family::Shaped),
+    (10, Family::Shaped),
     (8, Family::Plausible),
     (4, Family::Words),
     (6, Family::Host),
@@ -59,10 +60,11 @@ pub const CHECKED: Mixture = [
 
 /// For runs, the program's too: more of what passes the checker.
 pub const RUN: Mixture = [
-    (34, Family::Small),
+    (26, Family::Small),
     (10, Family::Medium),
     (4, Family::Large),
-    (17, Family::Faulty),
+    (13, Family::Faulty),
+    (12, Family::Sequences),
     (8, Family::Limits),
     (8, Family::Damaged),
     (3, Family::Empty),

@@ -163,9 +163,10 @@ fn declaration<'t>(scope: &Scope<'t>, node: &'t Declaration) -> Result<Scope<'t>
             Ok(Scope::empty().with((node.name, meaning)))
         }
         Declaration::DSeq(node) => {
-            // Declarations of a DSeq do not see each other.
+            // The second declaration sees the names of the first, which hide
+            // those around the DSeq; the first does not see the second's.
             let first = declaration(scope, &node.first)?;
-            let second = declaration(scope, &node.second)?;
+            let second = declaration(&scope.joined(&first), &node.second)?;
             let on_both = first.iter().any(|(name, _)| has(&second, *name));
             require(!on_both, refusal::REPEATED, node.place)?;
             Ok(first.joined(&second))

@@ -165,8 +165,9 @@ fn at_node<'t>(node: Node<'t>, state: &State<'t>, effect: &mut Effect<'t>) {
         }
         Node::DSeq(node) => {
             effect.put(&node.first);
+            effect.mark(Mark::DSeqFirst);
             effect.put(&node.second);
-            effect.mark(Mark::DSeq);
+            effect.mark(Mark::DSeqSecond);
         }
         Node::Ref(node) => {
             effect.put(&node.value);
@@ -258,10 +259,21 @@ fn at_mark<'t>(mark: Mark<'t>, state: &State<'t>, effect: &mut Effect<'t>) -> Re
             effect.values.push(ValueEntry::Environment(one_name));
             effect.bindings = Some(state.bindings + 1);
         }
-        Mark::DSeq => {
+        Mark::DSeqFirst => {
+            // E is kept below the first declaration's environment, whose names
+            // the second declaration sees.
+            let first = environment_at(state, 0);
+            effect.uses = 1;
+            effect.values.push(ValueEntry::Environment(state.environment.clone()));
+            effect.values.push(ValueEntry::Environment(first.clone()));
+            effect.environment = Some(state.environment.joined(first));
+        }
+        Mark::DSeqSecond => {
+            // The kept E comes back; the two environments are joined.
             let (first, second) = (environment_at(state, 1), environment_at(state, 0));
-            effect.uses = 2;
+            effect.uses = 3;
             effect.values.push(ValueEntry::Environment(first.joined(second)));
+            effect.environment = Some(environment_at(state, 2).clone());
         }
         Mark::Call(node) => at_call_mark(node, state, effect),
         Mark::BlkFirst => {

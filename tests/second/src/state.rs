@@ -22,7 +22,11 @@ pub enum Mark<'t> {
     Loop,
     Ref,
     Bind,
-    DSeq,
+    /// A DSeq's first mark: its first declaration has run, and the second is to
+    /// see its names.
+    DSeqFirst,
+    /// A DSeq's second mark: both declarations have run.
+    DSeqSecond,
     Call(&'t Call),
     /// A Blk's first mark: its declaration has run.
     BlkFirst,

@@ -19,6 +19,12 @@ mod cases;
 mod limits;
 #[path = "../../../second/tests/suite/no_routine.rs"]
 mod no_routine;
+#[path = "../../../second/tests/suite/sequence_limits.rs"]
+mod sequence_limits;
+#[path = "../../../second/tests/suite/sequence_types.rs"]
+mod sequence_types;
+#[path = "../../../second/tests/suite/sequences.rs"]
+mod sequences;
 #[path = "../../../second/tests/suite/shape.rs"]
 mod shape;
 #[path = "../../../second/tests/suite/types.rs"]

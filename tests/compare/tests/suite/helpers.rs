@@ -159,7 +159,7 @@ pub fn papers_images() -> Vec<(&'static str, Vec<u32>, Answer)> {
     let function = blk(bind_abs(1, &[(2, 0)], body), call(1, vec![num(7)]));
     let location = blk(bind_ref(1, deref(0)), assign(0, sum(valref(1), num(1))));
     let unassignable = blk(bind_ref(1, deref(0)), assign(1, deref(0)));
-    let unseen = blk(dseq(bind_ref(1, num(1)), bind_ref(2, id(1))), assign(1, num(0)));
+    let later = blk(dseq(bind_ref(1, num(1)), bind_ref(2, id(1))), assign(1, num(0)));
     vec![
         ("A", CALCULATOR.to_vec(), Answer::Code(0)),
         ("D", image(0, sub(num(3), num(5))), Answer::Code(0)),
@@ -170,6 +170,6 @@ pub fn papers_images() -> Vec<(&'static str, Vec<u32>, Answer)> {
         ("I", image(1, function), Answer::Command),
         ("J", image(1, location), Answer::Command),
         ("K", image(1, unassignable), refused(13, 4)),
-        ("L", image(0, unseen), refused(10, 7)),
+        ("L", image(0, later), Answer::Command),
     ]
 }

@@ -68,8 +68,16 @@ refused 11 at 4
         assert!(shown.ends_with(&format!("\n{line}")), "{shown}");
     };
     ends(assign(0, id(5)), "   1   Id 5 <- 10 unbound: the name has no binding\n");
+    // The second declaration of a DSeq sees the first, and not the other way round.
     ends(
-        blk(dseq(bind(1, num(1)), bind(1, num(2))), assign(0, num(1))),
+        blk(dseq(bind(2, id(1)), bind(1, num(1))), assign(0, num(1))),
+        "   3       Id 1 <- 10 unbound: the name has no binding\n",
+    );
+    assert!(
+        said(blk(dseq(bind(1, num(1)), bind(2, id(1))), assign(0, id(2)))).ends_with("\ncommand\n")
+    );
+    ends(
+        blk(dseq(bind(1, num(1)), bind(1, id(1))), assign(0, num(1))),
         "   1   DSeq <- 12 repeated: the name is declared twice\n",
     );
     ends(

@@ -1,6 +1,7 @@
 //! One fault put into an image: each refusal of the image is reached by some of
 //! these, at many places. What the answer is, the reader and checker say.
 
+use super::noise::children;
 use super::random::Random;
 use crate::kinds::{by_number, Kind, MOST_DEPTH, NAMES, TABLE};
 
@@ -24,10 +25,50 @@ impl Parts {
         words
     }
 
+    fn kind(&self, place: usize) -> Kind {
+        by_number(self.nodes[place].0).expect("a kind").kind
+    }
+
     /// The places of the nodes of some kinds.
     fn places(&self, wanted: impl Fn(Kind) -> bool) -> Vec<usize> {
-        let kind = |place: &usize| by_number(self.nodes[*place].0).expect("a kind").kind;
-        (0..self.nodes.len()).filter(|place| wanted(kind(place))).collect()
+        (0..self.nodes.len()).filter(|place| wanted(self.kind(*place))).collect()
+    }
+
+    /// The place behind the node at this place and all below it.
+    fn behind(&self, place: usize) -> usize {
+        let (mut next, mut missing) = (place, 1);
+        while missing > 0 {
+            missing = missing - 1 + children(self.kind(next), self.nodes[next].1).len();
+            next += 1;
+        }
+        next
+    }
+
+    /// The places of the Binds that a declaration is made of.
+    fn binds(&self, declaration: usize) -> Vec<usize> {
+        match self.kind(declaration) {
+            Kind::DSeq => {
+                let first = declaration + 1;
+                [self.binds(first), self.binds(self.behind(first))].concat()
+            }
+            _ => vec![declaration],
+        }
+    }
+
+    /// The places from one to before another where a name is used.
+    fn uses(&self, from: usize, to: usize) -> Vec<usize> {
+        use Kind::*;
+        let uses = |place: &usize| matches!(self.kind(*place), Id | DeRef | ValRef | Assign | Call);
+        (from..to).filter(uses).collect()
+    }
+
+    /// One of some nodes takes the name of one of others.
+    fn take_a_name(&mut self, random: &mut Random, takers: &[usize], givers: &[usize]) {
+        if !takers.is_empty() && !givers.is_empty() {
+            let name = self.nodes[*random.pick(givers)].1 % NAMES;
+            let operand = &mut self.nodes[*random.pick(takers)].1;
+            *operand = *operand / NAMES * NAMES + name;
+        }
     }
 }
 
@@ -39,7 +80,7 @@ pub fn damage(random: &mut Random, image: &[u32]) -> Vec<u32> {
     }
     let mut parts = Parts::of(image);
     let place = random.below(parts.nodes.len());
-    match random.below(12) {
+    match random.below(14) {
         0 => {
             parts.nodes[place].0 = *random.pick(&[0, 18, 19, 25, 29, 32, 39, 43, 1 << 16, u32::MAX])
         }
@@ -59,6 +100,8 @@ pub fn damage(random: &mut Random, image: &[u32]) -> Vec<u32> {
         8 => parts.registers = random.below(17) as u32,
         9 => repeat_a_name(random, &mut parts),
         10 => change_a_call(random, &mut parts),
+        11 => change_a_sequence(random, &mut parts),
+        12 => set_another_name(random, &mut parts),
         _ => swap_kinds(random, &mut parts),
     }
     parts.image()
@@ -135,12 +178,45 @@ fn deepen(random: &mut Random, parts: &mut Parts) {
 fn repeat_a_name(random: &mut Random, parts: &mut Parts) {
     let wanted = *random.pick(&[Kind::Bind, Kind::Formal]);
     let named = parts.places(|kind| kind == wanted);
-    if named.len() >= 2 {
-        let (from, to) = (random.below(named.len()), random.below(named.len()));
-        let name = parts.nodes[named[from]].1 % NAMES;
-        let operand = &mut parts.nodes[named[to]].1;
-        *operand = *operand / NAMES * NAMES + name;
+    parts.take_a_name(random, &named, &named);
+}
+
+/// The same image with another name in one of its DSeqs.
+pub fn change_a_sequence_of(random: &mut Random, image: &[u32]) -> Vec<u32> {
+    let mut parts = Parts::of(image);
+    change_a_sequence(random, &mut parts);
+    parts.image()
+}
+
+/// A name between the two declarations of a DSeq: what the second one sees of the
+/// first decides whether that is a fault.
+fn change_a_sequence(random: &mut Random, parts: &mut Parts) {
+    let sequences = parts.places(|kind| kind == Kind::DSeq);
+    if sequences.is_empty() {
+        return;
     }
+    let first = *random.pick(&sequences) + 1;
+    let second = parts.behind(first);
+    let end = parts.behind(second);
+    let (firsts_binds, seconds_binds) = (parts.binds(first), parts.binds(second));
+    let (firsts_uses, seconds_uses) = (parts.uses(first, second), parts.uses(second, end));
+    match random.below(4) {
+        // The first declares a name that the second uses, and hides what it meant there.
+        0 => parts.take_a_name(random, &firsts_binds, &seconds_uses),
+        // The second uses what the first declares, in a form that may not fit.
+        1 => parts.take_a_name(random, &seconds_uses, &firsts_binds),
+        // The first uses what the second declares.
+        2 => parts.take_a_name(random, &firsts_uses, &seconds_binds),
+        // They change places: what the second saw is behind it.
+        _ => parts.nodes[first..end].rotate_left(second - first),
+    }
+}
+
+/// An Assign takes a name that a Bind or a Formal has: one that may not be set.
+fn set_another_name(random: &mut Random, parts: &mut Parts) {
+    let assigns = parts.places(|kind| kind == Kind::Assign);
+    let named = parts.places(|kind| matches!(kind, Kind::Bind | Kind::Formal));
+    parts.take_a_name(random, &assigns, &named);
 }
 
 /// One actual more or less, or a Call of something else.

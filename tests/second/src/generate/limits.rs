@@ -147,7 +147,7 @@ fn near_stacks(random: &mut Random) -> Routine {
 pub fn inner_command(random: &mut Random, helper_formals: usize) -> Command {
     let help = || call(HELPER, vec![num(0); helper_formals]);
     let nest = random.between(1, 6);
-    match random.below(12) {
+    match random.below(14) {
         0 => assign(0, (0..nest).fold(num(1), |right, _| sum(num(1), right))),
         1 => assign(0, (0..nest).fold(num(1), |left, _| sum(left, num(1)))),
         2 => (0..nest).fold(assign(0, num(5)), |first, _| cseq(first, assign(0, num(6)))),
@@ -166,6 +166,21 @@ pub fn inner_command(random: &mut Random, helper_formals: usize) -> Command {
             blk(declarations(all), assign(0, valref(1)))
         }
         10 => blk(bind_ref(1, boo(true)), repeat(id(1), assign(1, boo(false)))),
+        // DSeqs below one another's first or second declaration: each name is bound
+        // to the one before it.
+        11 => {
+            let first = (1..=nest as Name).fold(bind(1, num(4)), |first, name| {
+                dseq(first, bind(1 + name, sum(id(name), num(1))))
+            });
+            blk(first, assign(0, id(1 + nest as Name)))
+        }
+        12 => {
+            let last = bind_ref(1 + nest as Name, id(nest as Name));
+            let later = (2..=nest as Name)
+                .rev()
+                .fold(last, |second, name| dseq(bind(name, sum(num(1), id(name - 1))), second));
+            blk(dseq(bind(1, num(4)), later), assign(0, id(1 + nest as Name)))
+        }
         _ => {
             let mut generator = Generator { random, temper: Temper::Calm };
             generator.command(&Scope::of_registers(1), Room { nodes: 40, levels: 10 })

@@ -1,6 +1,7 @@
 //! Cases made from a seed, the same for the same seed everywhere.
 
 pub mod damage;
+pub mod declarations;
 pub mod empty;
 pub mod limits;
 pub mod noise;
@@ -12,7 +13,7 @@ pub mod well_typed;
 use crate::encode::encode;
 use crate::engine::{MOST_BUDGET, WORK_WORDS};
 use crate::kinds::{MOST_DEPTH, MOST_REGISTERS};
-use crate::tree::Routine;
+use crate::tree::{Root, Routine};
 use random::{starting_value, Random};
 use scope::Scope;
 use well_typed::{Generator, Room, Temper, LEAST_COMMAND};
@@ -38,6 +39,9 @@ pub enum Family {
     Large,
     /// Well-typed, up to 80 nodes, with faults of arithmetic in many places.
     Faulty,
+    /// A Blk whose DSeqs use what was declared before, up to some 200 nodes; one in
+    /// three has another name in one of its DSeqs, which may be a fault.
+    Sequences,
     /// Near a limit of nodes, depth, cells, bindings or stack entries.
     Limits,
     /// A well-typed image with one fault.
@@ -55,11 +59,12 @@ pub enum Family {
 }
 
 impl Family {
-    pub const ALL: [(&'static str, Family); 11] = [
+    pub const ALL: [(&'static str, Family); 12] = [
         ("small", Family::Small),
         ("medium", Family::Medium),
         ("large", Family::Large),
         ("faulty", Family::Faulty),
+        ("sequences", Family::Sequences),
         ("limits", Family::Limits),
         ("damaged", Family::Damaged),
         ("empty", Family::Empty),
@@ -84,6 +89,7 @@ impl Family {
                 let image = encode(&well_typed_routine(random, 80, Temper::Faulty));
                 case_of(random, image, true)
             }
+            Family::Sequences => sequences_case(random),
             Family::Limits => {
                 let image = encode(&limits::near_a_limit(random));
                 case_of(random, image, false)
@@ -134,6 +140,17 @@ fn well_typed_case(random: &mut Random, most_nodes: usize) -> Case {
     let temper = if random.chance(3, 4) { Temper::Calm } else { Temper::Wild };
     let image = encode(&well_typed_routine(random, most_nodes, temper));
     case_of(random, image, temper == Temper::Calm)
+}
+
+fn sequences_case(random: &mut Random) -> Case {
+    let temper = if random.chance(3, 4) { Temper::Calm } else { Temper::Faulty };
+    let registers = *random.pick(&[0, 1, 2, 4, 16]);
+    let root = Generator { random, temper }.sequences(&Scope::of_registers(registers));
+    let mut image = encode(&Routine { registers, root: Root::Command(root) });
+    if random.chance(1, 3) {
+        image = damage::change_a_sequence_of(random, &image);
+    }
+    case_of(random, image, true)
 }
 
 fn damaged_case(random: &mut Random) -> Case {

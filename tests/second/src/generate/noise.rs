@@ -92,7 +92,7 @@ fn operand(random: &mut Random, kind: Kind, close: bool) -> u32 {
 }
 
 /// What the children of a node must be.
-fn children(kind: Kind, operand: u32) -> Vec<Wanted> {
+pub(super) fn children(kind: Kind, operand: u32) -> Vec<Wanted> {
     match kind {
         Kind::Num | Kind::Boo | Kind::Id | Kind::DeRef | Kind::ValRef | Kind::Formal => vec![],
         Kind::Binary(_) => vec![Wanted::Expression; 2],

@@ -16,21 +16,41 @@ pub enum Meaning {
 #[derive(Clone)]
 pub struct Scope {
     meanings: Vec<Option<Meaning>>,
+    /// The names that the first declaration of a DSeq gives to the second, one bit
+    /// a name: they are used more often than others.
+    earlier: u64,
 }
 
 impl Scope {
     /// Names 0 to r − 1 are registers, code 2.
     pub fn of_registers(registers: u32) -> Scope {
         let register = |name| if name < registers { Some(Meaning::Code(2)) } else { None };
-        Scope { meanings: (0..NAMES).map(register).collect() }
+        Scope { meanings: (0..NAMES).map(register).collect(), earlier: 0 }
     }
 
+    /// The scope inside, where these names hide others.
     pub fn with(&self, declared: &[(Name, Meaning)]) -> Scope {
         let mut scope = self.clone();
         for (name, meaning) in declared {
             scope.meanings[*name as usize] = Some(meaning.clone());
+            scope.earlier &= !(1 << name);
         }
         scope
+    }
+
+    /// The scope of a DSeq's second declaration, which sees what the first one
+    /// declares.
+    pub fn with_earlier(&self, declared: &[(Name, Meaning)]) -> Scope {
+        let mut scope = self.with(declared);
+        for (name, _) in declared {
+            scope.earlier |= 1 << name;
+        }
+        scope
+    }
+
+    /// Whether the first declaration of a DSeq gives this name to the second.
+    pub fn is_earlier(&self, name: Name) -> bool {
+        self.earlier & (1 << name) != 0
     }
 
     fn all(&self) -> impl Iterator<Item = (Name, &Meaning)> {

@@ -2,12 +2,13 @@
 //! codes, aliases, loops that end and loops that do not.
 //!
 //! A tree is written downwards with a room: the nodes and the levels it may
-//! still take. Whoever hands a room on leaves at least the least room there.
+//! still take. Whoever hands a room on leaves at least the least room there. What
+//! a Blk declares is in `declarations.rs`.
 
 use super::random::Random;
 use super::scope::{Meaning, Scope};
 use crate::build::*;
-use crate::kinds::{CODES, MOST_COUNT, NAMES};
+use crate::kinds::{MOST_COUNT, NAMES};
 use crate::tree::*;
 
 /// The nodes and levels a subtree may take.
@@ -19,7 +20,7 @@ pub struct Room {
 
 impl Room {
     /// The room below a node, for one of its children.
-    fn below(self, nodes: usize) -> Room {
+    pub(super) fn below(self, nodes: usize) -> Room {
         Room { nodes, levels: self.levels - 1 }
     }
 
@@ -34,8 +35,8 @@ const fn room(nodes: usize, levels: usize) -> Room {
 
 /// Blk(Bind(x, Ref(leaf)), Assign(x, leaf)) can always be written.
 pub const LEAST_COMMAND: Room = room(6, 4);
-const LEAST_DECLARATION: Room = room(2, 2);
-const LEAST_BLOCK: Room = room(1 + 2 + 6, 5);
+pub(super) const LEAST_DECLARATION: Room = room(2, 2);
+pub(super) const LEAST_BLOCK: Room = room(1 + 2 + 6, 5);
 /// The nodes a counted loop needs around its body.
 const COUNTED: usize = 13;
 /// The nodes that cells of all three levels need around the rest.
@@ -51,13 +52,6 @@ enum Choice {
     CountedLoop,
     Block,
     Levels,
-}
-
-enum Binding {
-    Plain,
-    Cell,
-    Function,
-    Sequence,
 }
 
 /// How readily a tree runs into 31 and 32.
@@ -140,22 +134,31 @@ impl Generator<'_> {
         let mut choices = Vec::new();
         for (name, named) in scope.codes() {
             if named == code + 2 || (named < 2 && named == code) {
-                choices.push(id(name));
+                choices.push((name, id(name)));
             }
             if named >= 2 && named == code {
-                choices.push(deref(name));
+                choices.push((name, deref(name)));
             }
             if named == code + 4 {
-                choices.push(valref(name));
+                choices.push((name, valref(name)));
             }
         }
         if code == 0 {
-            choices.extend(scope.counters().into_iter().map(id));
+            choices.extend(scope.counters().into_iter().map(|name| (name, id(name))));
         }
         if code < 2 && (choices.is_empty() || self.random.chance(1, 3)) {
             return self.constant(code);
         }
-        self.random.pick(&choices).clone()
+        self.pick_named(scope, choices).1
+    }
+
+    /// One of these, each with its name: as often as not one that the first
+    /// declaration of a DSeq gives to the second, where there is one.
+    fn pick_named<T: Clone>(&mut self, scope: &Scope, choices: Vec<(Name, T)>) -> (Name, T) {
+        let earlier: Vec<(Name, T)> =
+            choices.iter().filter(|(name, _)| scope.is_earlier(*name)).cloned().collect();
+        let among = if !earlier.is_empty() && self.random.chance(1, 2) { earlier } else { choices };
+        self.random.pick(&among).clone()
     }
 
     fn constant(&mut self, code: Code) -> Expression {
@@ -168,7 +171,7 @@ impl Generator<'_> {
 
     /// A code up to `most` that the scope can make: a plain one in half of the
     /// cases, else any.
-    fn code(&mut self, scope: &Scope, most: Code) -> Code {
+    pub(super) fn code(&mut self, scope: &Scope, most: Code) -> Code {
         if self.random.chance(1, 2) {
             return self.random.below(2) as Code;
         }
@@ -184,7 +187,7 @@ impl Generator<'_> {
         }
         match self.random.weighted(&choices) {
             Choice::Assign => {
-                let (name, code) = *self.random.pick(&scope.assignable());
+                let (name, code) = self.pick_named(scope, scope.assignable());
                 let nodes = (room.nodes - 1).min(40);
                 assign(name, self.expression(scope, code, room.below(nodes)))
             }
@@ -214,8 +217,10 @@ impl Generator<'_> {
         if !scope.assignable().is_empty() && !large {
             choices.push((6, Choice::Assign));
         }
-        if room.nodes > MOST_COUNT as usize && !scope.callable().is_empty() && !large {
-            choices.push((8, Choice::Call));
+        let callable = scope.callable();
+        if room.nodes > MOST_COUNT as usize && !callable.is_empty() && !large {
+            let earlier = callable.iter().any(|(name, _)| scope.is_earlier(*name));
+            choices.push((if earlier { 24 } else { 8 }, Choice::Call));
         }
         if room.nodes > 2 * LEAST_COMMAND.nodes && room.levels > LEAST_COMMAND.levels {
             choices.push((if large { 8 } else { 3 }, Choice::Sequence));
@@ -244,7 +249,7 @@ impl Generator<'_> {
     }
 
     fn call(&mut self, scope: &Scope, room: Room) -> Command {
-        let (name, formals) = self.random.pick(&scope.callable()).clone();
+        let (name, formals) = self.pick_named(scope, scope.callable());
         let spare = room.nodes - 1 - formals.len();
         let each = room.below(1 + spare.min(40) / formals.len().max(1));
         let actuals = formals.iter().map(|code| self.expression(scope, *code, each)).collect();
@@ -291,7 +296,7 @@ impl Generator<'_> {
     }
 
     /// A Blk. The room is at least `LEAST_BLOCK`.
-    fn block(&mut self, scope: &Scope, room: Room) -> Blk {
+    pub(super) fn block(&mut self, scope: &Scope, room: Room) -> Blk {
         let most = room.nodes - 1 - LEAST_COMMAND.nodes;
         let nodes = self.random.between(LEAST_DECLARATION.nodes, most);
         let (declaration, declared) = self.declaration(scope, room.below(nodes), 0, MOST_NAMES);
@@ -299,86 +304,8 @@ impl Generator<'_> {
         block(declaration, self.command(&scope.with(&declared), command))
     }
 
-    /// A declaration of at most `names` names, none of them taken, and what it
-    /// declares. The room is at least `LEAST_DECLARATION`.
-    fn declaration(
-        &mut self,
-        scope: &Scope,
-        room: Room,
-        taken: u64,
-        names: usize,
-    ) -> (Declaration, Vec<(Name, Meaning)>) {
-        let mut choices = Vec::new();
-        if room.nodes >= 2 + LEAST_BLOCK.nodes && room.levels >= 2 + LEAST_BLOCK.levels {
-            choices.push((6, Binding::Function));
-        }
-        if room.nodes > 2 * LEAST_DECLARATION.nodes && room.levels >= 3 && names >= 2 {
-            choices.push((5, Binding::Sequence));
-        }
-        // A plain value or a cell would leave most of a large room empty.
-        if room.nodes <= 40 || choices.is_empty() {
-            choices.push((3, Binding::Plain));
-            if room.nodes >= 3 && room.levels >= 3 {
-                choices.push((5, Binding::Cell));
-            }
-        }
-        let name = self.name(taken);
-        match self.random.weighted(&choices) {
-            Binding::Plain => {
-                let code = self.code(scope, CODES - 1);
-                let value = self.expression(scope, code, room.below((room.nodes - 1).min(20)));
-                (bind(name, value), vec![(name, Meaning::Code(code))])
-            }
-            Binding::Cell => {
-                let code = self.code(scope, 5);
-                let room = Room { nodes: (room.nodes - 2).min(20), levels: room.levels - 2 };
-                let value = self.expression(scope, code, room);
-                (bind_ref(name, value), vec![(name, Meaning::Code(code + 2))])
-            }
-            Binding::Function => self.function(scope, room, name),
-            Binding::Sequence => {
-                let (least, most) =
-                    (LEAST_DECLARATION.nodes, room.nodes - 1 - LEAST_DECLARATION.nodes);
-                let nodes = self.random.between(least, most);
-                let (first, mut declared) =
-                    self.declaration(scope, room.below(nodes), taken, names / 2);
-                let taken = declared.iter().fold(taken, |taken, (name, _)| taken | 1 << name);
-                let rest = room.below(room.nodes - 1 - nodes);
-                let (second, more) = self.declaration(scope, rest, taken, names - names / 2);
-                declared.extend(more);
-                (dseq(first, second), declared)
-            }
-        }
-    }
-
-    fn function(
-        &mut self,
-        scope: &Scope,
-        room: Room,
-        name: Name,
-    ) -> (Declaration, Vec<(Name, Meaning)>) {
-        let most = (room.nodes - 2 - LEAST_BLOCK.nodes).min(MOST_COUNT as usize);
-        let count = self.random.between(0, most);
-        let mut taken = 0;
-        let mut formals = Vec::new();
-        for _ in 0..count {
-            let formal = self.name(taken);
-            taken |= 1 << formal;
-            // Now and then a code for which there may never be an actual.
-            let any = self.random.below(CODES as usize) as Code;
-            let code = if self.random.chance(1, 16) { any } else { self.code(scope, CODES - 1) };
-            formals.push((formal, code));
-        }
-        let meanings: Vec<_> =
-            formals.iter().map(|&(formal, code)| (formal, Meaning::Code(code))).collect();
-        let body = Room { nodes: room.nodes - 2 - count, levels: room.levels - 2 };
-        let body = self.block(&scope.with(&meanings), body);
-        let codes = formals.iter().map(|(_, code)| *code).collect();
-        (bind_abs(name, &formals, body), vec![(name, Meaning::Function(codes))])
-    }
-
     /// A name that is not taken; often a low one, so that names hide others.
-    fn name(&mut self, taken: u64) -> Name {
+    pub(super) fn name(&mut self, taken: u64) -> Name {
         loop {
             let among = if self.random.chance(1, 3) { 6 } else { NAMES as usize };
             let name = self.random.below(among);

@@ -44,9 +44,9 @@ fn steps_of_each_command() {
     assert_eq!(outcome(repeat(boo(false), assign(0, num(1))), &[0]), (Outcome::None, 3));
     // Blk, Bind, Num, Bind's mark, first mark, command, second mark.
     assert_eq!(outcome(blk(bind(1, num(2)), assign(0, num(1))), &[0]), (Outcome::None, 9));
-    // DSeq is two steps more than its declarations.
+    // DSeq is three steps more than its declarations.
     let two = dseq(bind(1, num(2)), bind(2, num(3)));
-    assert_eq!(outcome(blk(two, assign(0, num(1))), &[0]), (Outcome::None, 14));
+    assert_eq!(outcome(blk(two, assign(0, num(1))), &[0]), (Outcome::None, 15));
     // A function that is not called: Abs is one step.
     let function = bind_abs(1, &[], block(bind(2, num(0)), assign(0, num(0))));
     assert_eq!(outcome(blk(function, assign(0, num(1))), &[0]), (Outcome::None, 9));
@@ -108,19 +108,6 @@ fn names_come_back_when_a_block_is_left() {
     // A register hidden by a cell of the same name is kept.
     let root = cseq(blk(bind_ref(0, num(8)), assign(0, num(9))), assign(1, id(0)));
     assert_eq!(registers_after(root, &[4, 0]), [4, 4]);
-}
-
-/// Declarations of a DSeq run in the environment outside: name 1 is register 1
-/// in the second one, whatever the first binds.
-#[test]
-fn declarations_run_in_the_environment_outside() {
-    let both = dseq(bind(1, num(5)), bind(2, id(1)));
-    assert_eq!(registers_after(blk(both, assign(0, id(2))), &[0, 3]), [3, 3]);
-    let both = dseq(bind(2, id(1)), bind(1, num(5)));
-    assert_eq!(
-        registers_after(blk(both, assign(0, sum(mul(id(2), num(10)), id(1)))), &[0, 3]),
-        [35, 3]
-    );
 }
 
 /// D1 runs first: its fault is met and the second one's is not.

@@ -62,13 +62,6 @@ fn a_function_does_not_see_itself() {
     assert_eq!(registers_after(blk(outer, blk(inner, call(1, vec![]))), &[0]), [2]);
 }
 
-/// A function in a DSeq closes over the environment outside, not its sibling.
-#[test]
-fn a_function_does_not_see_its_sibling_declarations() {
-    let both = dseq(bind(1, num(5)), bind_abs(2, &[], body(assign(0, id(1)))));
-    assert_eq!(registers_after(blk(both, call(2, vec![])), &[0, 3]), [3, 3]);
-}
-
 /// The last actual's fault is met first.
 #[test]
 fn actuals_run_last_to_first() {

@@ -100,11 +100,11 @@ fn k_cell_that_holds_a_location_is_not_assignable() {
 }
 
 #[test]
-fn l_declarations_do_not_see_each_other() {
+fn l_a_later_declaration_sees_an_earlier_one() {
     let declaration = dseq(bind_ref(1, num(1)), bind_ref(2, id(1)));
     let root = blk(declaration, assign(1, num(0)));
-    assert_eq!(outcome(root.clone(), &[]), (refused(10, 7), 0));
-    assert_eq!(checked_tree(0, root), answer_refused(10, 7));
+    assert_eq!(outcome(root.clone(), &[]), (Outcome::None, 19));
+    assert_eq!(checked_tree(0, root), Answer::Command);
 }
 
 #[test]

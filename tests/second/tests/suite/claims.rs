@@ -1,7 +1,8 @@
 //! Claims about every state of generated runs (the paper's demand 3): a rule
 //! always applies, cells hold values of the type they were made with, no
-//! location outlives its cell, leaving a node restores what was there, and what
-//! a budget cuts off is the beginning of the longer run.
+//! location outlives its cell, leaving a node restores what was there, a DSeq gives
+//! back the environment that it kept, and what a budget cuts off is the beginning of
+//! the longer run.
 //!
 //! That a rule applies needs no assertion here: the interpreter panics where
 //! none does.
@@ -16,7 +17,7 @@ use second::node::Node;
 use second::rules::{apply, Effect};
 use second::state::*;
 use second::store::{Location, LocationSet, Value};
-use second::tree::{Code, Place};
+use second::tree::{Code, Name, Place};
 
 /// A state with a Blk or a Call on top of control, kept to compare its leaving.
 struct Entered<'t> {
@@ -28,16 +29,25 @@ struct Entered<'t> {
     compared: bool,
 }
 
+/// A state with a DSeq on top of control, kept to compare what its marks leave.
+struct Sequence<'t> {
+    environment: Environment<'t>,
+    values: Vec<ValueEntry<'t>>,
+}
+
 /// What is known of a run besides its state.
 struct History<'t> {
     /// The type each live cell was made with, by location.
     made: Vec<Code>,
     entered: Vec<Entered<'t>>,
+    /// The DSeqs whose second mark is to come, the innermost last.
+    sequences: Vec<Sequence<'t>>,
 }
 
 impl<'t> History<'t> {
     fn start(state: &State) -> History<'t> {
-        History { made: vec![0; state.store.live()], entered: Vec::new() }
+        let made = vec![0; state.store.live()];
+        History { made, entered: Vec::new(), sequences: Vec::new() }
     }
 
     /// The type of a value: an integer has 0, a truth 1, a location 2 more than
@@ -64,10 +74,15 @@ impl<'t> History<'t> {
                 compared: false,
             });
         }
+        if let Some(ControlEntry::Node(Node::DSeq(_))) = state.control.last() {
+            let environment = state.environment.clone();
+            self.sequences.push(Sequence { environment, values: state.values.clone() });
+        }
     }
 
-    /// Take note of the state after a step, and check it.
-    fn after(&mut self, left: Option<Place>, state: &State<'t>) {
+    /// Take note of the state after a step, which was at this mark if at any, and
+    /// check it.
+    fn after(&mut self, mark: Option<Mark>, state: &State<'t>) {
         let live = state.store.live();
         self.made.truncate(live);
         if self.made.len() < live {
@@ -78,9 +93,39 @@ impl<'t> History<'t> {
             let contents = state.store.contents(location).unwrap();
             assert_eq!(self.code(contents), self.made[location.0 as usize], "{location:?}");
         }
-        if let Some(place) = left {
-            self.compare(place, state);
+        match mark {
+            Some(Mark::BlkSecond { place, .. }) => self.compare(place, state),
+            Some(Mark::DSeqFirst) => self.compare_kept(state),
+            Some(Mark::DSeqSecond) => self.compare_given_back(state),
+            _ => {}
         }
+    }
+
+    /// A DSeq's first mark leaves on V the E of before and then the first
+    /// declaration's environment, whose names are added to E.
+    fn compare_kept(&self, state: &State) {
+        let sequence = self.sequences.last().expect("a DSeq's mark follows a DSeq");
+        let [below @ .., ValueEntry::Environment(kept), ValueEntry::Environment(first)] =
+            state.values.as_slice()
+        else {
+            panic!("a DSeq's first mark leaves {:?}", state.values);
+        };
+        assert!(same_entries(below, &sequence.values));
+        assert!(kept.same(&sequence.environment));
+        let names = |environment: &Environment| -> Vec<Name> {
+            environment.iter().map(|(name, _)| *name).collect()
+        };
+        assert_eq!(names(&state.environment), [names(first), names(kept)].concat());
+    }
+
+    /// Its second mark leaves one environment on V and the E of before.
+    fn compare_given_back(&mut self, state: &State) {
+        let sequence = self.sequences.pop().expect("a DSeq's mark follows a DSeq");
+        let [below @ .., ValueEntry::Environment(_)] = state.values.as_slice() else {
+            panic!("a DSeq's second mark leaves {:?}", state.values);
+        };
+        assert!(same_entries(below, &sequence.values));
+        assert!(state.environment.same(&sequence.environment));
     }
 
     /// A leaving of a node is compared with the latest earlier state that has
@@ -96,11 +141,12 @@ impl<'t> History<'t> {
         assert!(state.environment.same(&entered.environment));
         assert!(state.locations.same(&entered.locations));
         assert_eq!(state.store.live_locations(), entered.live);
-        assert_eq!(state.values.len(), entered.values.len());
-        for (now, then) in state.values.iter().zip(&entered.values) {
-            assert!(same_entry(now, then));
-        }
+        assert!(same_entries(&state.values, &entered.values));
     }
+}
+
+fn same_entries(some: &[ValueEntry], others: &[ValueEntry]) -> bool {
+    some.len() == others.len() && some.iter().zip(others).all(|(one, other)| same_entry(one, other))
 }
 
 fn same_entry(one: &ValueEntry, other: &ValueEntry) -> bool {
@@ -166,15 +212,15 @@ fn hold(case: &Case, budget: u64, dangling: bool) -> u64 {
         assert!(heights.cells <= 256 && heights.bindings <= 512);
         assert!(heights.values <= 512 && heights.control <= 512);
         history.before(state);
-        let left = match state.control.last() {
-            Some(ControlEntry::Mark(Mark::BlkSecond { place, .. })) => Some(*place),
+        let mark = match state.control.last() {
+            Some(ControlEntry::Mark(mark)) => Some(*mark),
             _ => None,
         };
         let steps = execution.steps();
         match execution.advance() {
             Advance::Made => {
                 assert_eq!(execution.steps(), steps + 1);
-                history.after(left, execution.state());
+                history.after(mark, execution.state());
             }
             Advance::Ended => break,
             Advance::Withheld(reason) => {
@@ -212,7 +258,8 @@ fn lowest_reason(execution: &Execution, reason: u32, budget: u64) {
             assert_eq!(Some(&reason), all.iter().min());
             // 33 and 34 come alone, and 35 with 36 at most: Ref's and Bind's
             // marks put nothing on control, and a Call with Formals has had more
-            // on both stacks than its mark leaves.
+            // on both stacks than its mark leaves. A DSeq puts nothing on V, and its
+            // marks nothing on control.
             assert!(all.len() == 1 || all == [35, 36], "{all:?}");
         }
     }
@@ -233,6 +280,12 @@ fn claims_hold_in_medium_runs() {
 #[test]
 fn claims_hold_in_large_runs() {
     let steps: u64 = (0..40).map(|seed| hold(&Family::Large.case(seed), 3_000, false)).sum();
+    assert!(steps > 20_000, "{steps} steps are few");
+}
+
+#[test]
+fn claims_hold_in_sequences() {
+    let steps: u64 = (0..600).map(|seed| hold(&Family::Sequences.case(seed), 1_500, true)).sum();
     assert!(steps > 20_000, "{steps} steps are few");
 }
 

@@ -218,23 +218,6 @@ fn a_name_on_both_sides_of_a_dseq_is_12_after_the_childrens_faults() {
 }
 
 #[test]
-fn declarations_of_a_dseq_do_not_see_each_other_either_way() {
-    let then = || assign(0, num(0));
-    let backward = dseq(bind(1, num(0)), bind(2, id(1)));
-    assert_eq!(checked_tree(1, blk(backward, then())), answer_refused(10, 5));
-    let forward = dseq(bind(2, id(1)), bind(1, num(0)));
-    assert_eq!(checked_tree(1, blk(forward, then())), answer_refused(10, 3));
-    // Each sees what the name meant outside: 0 is the register, an integer.
-    let outside = dseq(bind(0, boo(true)), bind(2, sum(id(0), num(1))));
-    assert_eq!(
-        checked_tree(1, blk(outside, repeat(id(0), call(9, vec![])))),
-        answer_refused(10, 10)
-    );
-    let outside = dseq(bind(0, boo(true)), bind(2, not(id(0))));
-    assert_eq!(checked_tree(1, blk(outside, then())), answer_refused(11, 5));
-}
-
-#[test]
 fn a_bind_does_not_see_its_own_name() {
     assert_eq!(checked_tree(1, blk(bind(1, id(1)), assign(0, num(0)))), answer_refused(10, 2));
     assert_eq!(
@@ -366,6 +349,10 @@ fn functions_see_earlier_functions_around_them() {
         checked_tree(1, blk(first.clone(), blk(second.clone(), call(2, vec![])))),
         Answer::Command
     );
-    // Not within one DSeq.
-    assert_eq!(checked_tree(1, blk(dseq(first, second), call(2, vec![]))), answer_refused(10, 14));
+    // Within one DSeq too, and not the other way round.
+    assert_eq!(
+        checked_tree(1, blk(dseq(first.clone(), second.clone()), call(2, vec![]))),
+        Answer::Command
+    );
+    assert_eq!(checked_tree(1, blk(dseq(second, first), call(2, vec![]))), answer_refused(10, 7));
 }

@@ -19,8 +19,8 @@ fn small() {
 
 #[test]
 fn medium() {
-    let tally = family(Family::Medium, 200);
-    reaches(&tally, &[0, 1, 2, 20, 21, 22, 30, 31, 32], 5);
+    let tally = family(Family::Medium, 300);
+    reaches(&tally, &[0, 1, 2, 20, 21, 22, 30, 31, 32], 2);
 }
 
 #[test]
@@ -33,6 +33,12 @@ fn large() {
 fn faulty() {
     let tally = family(Family::Faulty, 300);
     reaches(&tally, &[0, 1, 2, 20, 30, 31, 32], 50);
+}
+
+#[test]
+fn sequences() {
+    let tally = family(Family::Sequences, 300);
+    reaches(&tally, &[0, 1, 2, 10, 11, 12, 20, 21, 22, 30, 31], 5);
 }
 
 #[test]

@@ -35,6 +35,12 @@ fn faulty() {
 }
 
 #[test]
+fn sequences() {
+    let tally = family(Family::Sequences, 6_000);
+    reaches(&tally, &[0, 10, 11, 12, 13, 14, 22], 20);
+}
+
+#[test]
 fn limits() {
     let tally = family(Family::Limits, 2_000);
     reaches(&tally, &[0, 2, 6, 22], 50);

@@ -8,4 +8,5 @@ mod every_type;
 mod families;
 mod no_routine;
 mod paper;
+mod sequences;
 mod work_words;

@@ -18,7 +18,8 @@ fn every_answer() -> Vec<(Answer, Vec<u32>)> {
         papers_images().into_iter().map(|(_, image, answer)| (answer, image)).collect();
     let unnamed = || block(bind(1, num(0)), assign(0, num(0)));
     let repeated = blk(bind_abs(1, &[(2, 0), (2, 0)], unnamed()), call(1, vec![]));
-    let twice = blk(dseq(bind(1, num(1)), bind(1, num(2))), assign(0, num(0)));
+    let both = |first, second| blk(dseq(first, second), assign(0, num(0)));
+    let twice = both(bind(1, num(1)), bind(1, id(1)));
     all.extend([
         (Answer::Code(1), image(0, boo(true))),
         (Answer::Code(2), image(1, deref(0))),
@@ -41,6 +42,9 @@ fn every_answer() -> Vec<(Answer, Vec<u32>)> {
         (refused(11, 0), image(0, sum(num(1), boo(true)))),
         (refused(12, 4), image(1, repeated)),
         (refused(12, 1), image(1, twice)),
+        (Answer::Command, image(1, both(bind(1, num(1)), bind_ref(2, id(1))))),
+        (refused(10, 3), image(1, both(bind(2, id(1)), bind(1, num(1))))),
+        (refused(11, 5), image(1, both(bind(0, boo(true)), bind(1, sum(id(0), num(1)))))),
         (refused(13, 3), image(1, blk(bind(1, num(0)), assign(1, num(0))))),
         (refused(14, 3), image(1, blk(bind(1, num(0)), call(1, vec![])))),
     ]);

@@ -13,7 +13,7 @@ fn family(family: Family, count: u64) -> Tally {
 
 #[test]
 fn small() {
-    reaches(&family(Family::Small, 400), &[0, 1, 2, 3, 30, 31, 32], 3);
+    reaches(&family(Family::Small, 500), &[0, 1, 2, 3, 30, 31, 32], 1);
 }
 
 #[test]
@@ -29,6 +29,11 @@ fn large() {
 #[test]
 fn faulty() {
     reaches(&family(Family::Faulty, 200), &[0, 1, 2, 31, 32], 5);
+}
+
+#[test]
+fn sequences() {
+    reaches(&family(Family::Sequences, 300), &[0, 1, 2, 10, 11, 12, 31, 32], 1);
 }
 
 #[test]

@@ -29,7 +29,7 @@ fn cases_a_to_l() {
         ("I", &[i64::MIN], "none\nsteps 21\nregister 0 7\n"),
         ("J", &[9], "none\nsteps 14\nregister 0 10\n"),
         ("K", &[9], "refused 13 at 4\nsteps 0\n"),
-        ("L", &[], "refused 10 at 7\nsteps 0\n"),
+        ("L", &[], "none\nsteps 19\n"),
     ];
     for (case, starts, output) in table {
         let input = program_input(&papers_image(case), starts);

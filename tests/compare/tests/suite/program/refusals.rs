@@ -48,13 +48,15 @@ fn refusals_1_to_6() {
 #[test]
 fn refusals_10_to_14() {
     let function = || bind_abs(1, &[(2, 0)], block(bind(3, num(0)), assign(0, id(2))));
-    let repeated = dseq(bind(1, num(1)), bind(1, num(2)));
-    let table: [(Command, u32, u32); 8] = [
+    let repeated = dseq(bind(1, num(1)), bind(1, id(1)));
+    let too_early = dseq(bind(2, id(1)), bind(1, num(1)));
+    let table: [(Command, u32, u32); 9] = [
         (assign(0, id(1)), 10, 1),
         (assign(1, num(0)), 10, 0),
         (assign(0, boo(true)), 11, 0),
         (repeat(num(1), assign(0, num(0))), 11, 0),
         (blk(repeated, assign(0, num(0))), 12, 1),
+        (blk(too_early, assign(0, num(0))), 10, 3),
         (blk(bind(1, num(1)), assign(1, num(2))), 13, 3),
         (blk(function(), call(1, vec![])), 14, 9),
         (blk(function(), call(1, vec![boo(true)])), 11, 9),
@@ -140,6 +142,23 @@ fn refusals_35_and_36() {
         let tower = Tower::reaching(values, control, 11, call(HELPER, vec![]));
         let input = program_input(&encode(&tower.routine()), &vec![0; tower.registers]);
         let output = agreed_output(&input);
+        assert!(output.starts_with(outcome), "{values} and {control}: {output}");
+    }
+}
+
+/// At a DSeq: its own four entries of control, and the kept E while its second
+/// declaration runs.
+#[test]
+fn refusals_35_and_36_at_a_sequence() {
+    for (values, control, outcome) in [
+        (506, 505, "none\n"),
+        (508, 400, "refused 35 at 0\n"),
+        (100, 506, "refused 36 at 0\n"),
+        (100, 507, "refused 36 at 0\n"),
+    ] {
+        let inner = blk(dseq(bind(1, num(4)), bind(2, id(1))), assign(0, id(2)));
+        let tower = Tower::reaching(values, control, 11, inner);
+        let output = agreed_output(&program_input(&encode(&tower.routine()), &[0]));
         assert!(output.starts_with(outcome), "{values} and {control}: {output}");
     }
 }

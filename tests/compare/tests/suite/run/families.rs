@@ -36,6 +36,12 @@ fn faulty() {
 }
 
 #[test]
+fn sequences() {
+    let tally = family(Family::Sequences, 2_000);
+    reaches(&tally, &[0, 10, 11, 12, 13, 14, 30, 31, 32], 10);
+}
+
+#[test]
 fn limits() {
     let tally = family(Family::Limits, 600);
     reaches(&tally, &[0, 2, 6, 30, 33, 34, 35, 36], 20);

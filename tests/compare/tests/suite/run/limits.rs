@@ -58,6 +58,7 @@ fn growing() -> Vec<Command> {
         repeat(lt(id(0), num(1)), set()),
         blk(bind(1, num(1)), set()),
         blk(dseq(bind(1, num(1)), bind_ref(2, deref(0))), assign(0, valref(2))),
+        blk(dseq(bind(1, num(1)), bind(2, id(1))), assign(0, id(2))),
         blk(function, call(1, vec![num(7)])),
         call(HELPER, vec![]),
     ]
@@ -114,7 +115,7 @@ fn cells_at_every_number_near_256() {
     let random = &mut Random::new(3);
     let mut ends = Ends::default();
     let in_turn = || blk(bind_ref(1, num(4)), assign(0, id(1)));
-    let two = || blk(dseq(bind_ref(1, num(4)), bind_ref(2, deref(0))), assign(0, valref(2)));
+    let two = || blk(dseq(bind_ref(1, num(4)), bind_ref(2, deref(1))), assign(0, valref(2)));
     for registers in [1, 2, 16] {
         for inner in [in_turn(), cseq(in_turn(), in_turn()), two(), blk(bind_ref(3, num(1)), two())]
         {
@@ -134,7 +135,7 @@ fn bindings_at_every_number_near_512() {
     let mut ends = Ends::default();
     let help = || call(HELPER, vec![num(0); 4]);
     let name = || blk(bind(1, num(4)), assign(0, id(1)));
-    let two = || blk(dseq(bind(1, num(4)), bind_ref(2, num(5))), assign(0, id(2)));
+    let two = || blk(dseq(bind(1, num(4)), bind_ref(2, id(1))), assign(0, id(2)));
     let function =
         || blk(bind_abs(1, &[], block(bind(2, num(0)), assign(0, num(3)))), call(1, vec![]));
     for registers in [1, 16] {

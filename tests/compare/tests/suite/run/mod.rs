@@ -11,4 +11,6 @@ mod limits;
 mod loops;
 mod no_routine;
 mod paper;
+mod sequence_limits;
+mod sequences;
 mod work_words;

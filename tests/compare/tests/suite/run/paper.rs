@@ -29,7 +29,7 @@ fn no(refusal: u64, place: u64, steps: u64) -> RunReply {
 fn cases_a_to_l() {
     type Row = (&'static str, &'static [i64], u64, RunReply, &'static [i64]);
     const MOST: u64 = MOST_BUDGET;
-    let table: [Row; 18] = [
+    let table: [Row; 19] = [
         ("A", &[], MOST, ended(NUMBER, 25, 7), &[]),
         ("A", &[], 6, no(30, 0, 6), &[]),
         ("A", &[], 7, ended(NUMBER, 25, 7), &[]),
@@ -44,7 +44,8 @@ fn cases_a_to_l() {
         ("I", &[0], MOST, ended(NONE, 0, 21), &[7]),
         ("J", &[9], MOST, ended(NONE, 0, 14), &[10]),
         ("K", &[9], MOST, no(13, 4, 0), &[9]),
-        ("L", &[], MOST, no(10, 7, 0), &[]),
+        ("L", &[], MOST, ended(NONE, 0, 19), &[]),
+        ("L", &[], 18, no(30, 0, 18), &[]),
         ("G", &[1, 3], 71, ended(NONE, 0, 71), &[6, 0]),
         ("G", &[1, 3], 70, no(30, 0, 70), &[6, 0]),
         ("G", &[1, 3], 10, no(30, 0, 10), &[1, 3]),

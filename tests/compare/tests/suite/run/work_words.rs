@@ -27,6 +27,13 @@ fn tower_reaching(values: usize, control: usize) -> Vec<u32> {
     encode(&Tower::reaching(values, control, 11, inner).routine())
 }
 
+/// A tower whose inner Blk has a DSeq.
+fn sequence_reaching(values: usize, control: usize) -> Vec<u32> {
+    let both = dseq(bind(1, num(7)), bind(2, id(1)));
+    let inner = cseq(assign(0, num(7)), blk(both, assign(0, id(2))));
+    encode(&Tower::reaching(values, control, 11, inner).routine())
+}
+
 /// A call for each answer a run has, with the refusal's number or 0.
 fn every_answer() -> Vec<(u32, Case)> {
     let zero = cseq(assign(0, num(7)), assign(0, div(num(1), num(0))));
@@ -48,7 +55,9 @@ fn every_answer() -> Vec<(u32, Case)> {
         (6, image(0, (0..64).fold(boo(true), |operand, _| not(operand)))),
         (10, image(3, id(9))),
         (11, image(1, sum(num(1), boo(true)))),
-        (12, image(1, blk(dseq(bind(1, num(1)), bind(1, num(2))), assign(0, num(0))))),
+        (0, image(1, blk(dseq(bind(1, num(1)), bind_ref(2, id(1))), assign(0, id(2))))),
+        (10, image(1, blk(dseq(bind(2, id(1)), bind(1, num(1))), assign(0, num(0))))),
+        (12, image(1, blk(dseq(bind(1, num(1)), bind(1, id(1))), assign(0, num(0))))),
         (13, image(1, blk(bind(1, num(0)), assign(1, num(0))))),
         (14, image(1, blk(bind(1, num(0)), call(1, vec![])))),
         (30, image(1, repeat(boo(true), assign(0, sum(id(0), num(1)))))),
@@ -58,6 +67,8 @@ fn every_answer() -> Vec<(u32, Case)> {
         (34, tower(Layer::Block { plain: 20, cells: 0 }, 26)),
         (35, tower_reaching(510, 400)),
         (36, tower_reaching(100, 511)),
+        (35, sequence_reaching(508, 400)),
+        (36, sequence_reaching(100, 507)),
     ];
     let call = |(number, image): (u32, Vec<u32>)| {
         let count = image[1] as usize;
