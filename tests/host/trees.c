@@ -203,54 +203,54 @@ static void grow_from(Growth *growth, uint32_t name, size_t levels)
     grow_integer(growth, levels - 1);
 }
 
+/* A Blk and a DSeq whose first declaration binds a name to a new cell; the second is to follow. */
+static uint32_t grow_first_declaration(Growth *growth, size_t levels)
+{
+    uint32_t name = 24 + (uint32_t)levels;
+
+    tree_add(growth->tree, PI_KIND_BLK, 0);
+    tree_add(growth->tree, PI_KIND_DSEQ, 0);
+    tree_add(growth->tree, PI_KIND_BIND, name);
+    tree_add(growth->tree, PI_KIND_REF, 0);
+    grow_integer(growth, levels - 1);
+    growth->names[growth->count] = name;
+    growth->count += 1;
+    return name;
+}
+
+/* A Bind of a name to a new cell, which is counted from another, and a command. */
+static void grow_counted(Growth *growth, uint32_t name, uint32_t from, size_t levels)
+{
+    tree_add(growth->tree, PI_KIND_BIND, name);
+    tree_add(growth->tree, PI_KIND_REF, 0);
+    grow_from(growth, from, levels);
+    growth->names[growth->count] = name;
+    growth->count += 1;
+    grow_command(growth, levels - 1);
+    growth->count -= 1;
+}
+
 /* A Blk that binds a name to a new cell and then another to a cell that is counted from it. */
 static void grow_sequence(Growth *growth, size_t levels)
 {
-    uint32_t first = 24 + (uint32_t)levels;
-    uint32_t second = 32 + (uint32_t)levels;
-    Tree *tree = growth->tree;
+    uint32_t first = grow_first_declaration(growth, levels);
 
-    tree_add(tree, PI_KIND_BLK, 0);
-    tree_add(tree, PI_KIND_DSEQ, 0);
-    tree_add(tree, PI_KIND_BIND, first);
-    tree_add(tree, PI_KIND_REF, 0);
-    grow_integer(growth, levels - 1);
-    growth->names[growth->count] = first;
-    growth->count += 1;
-    tree_add(tree, PI_KIND_BIND, second);
-    tree_add(tree, PI_KIND_REF, 0);
-    grow_from(growth, first, levels);
-    growth->names[growth->count] = second;
-    growth->count += 1;
-    grow_command(growth, levels - 1);
-    growth->count -= 2;
+    grow_counted(growth, 32 + (uint32_t)levels, first, levels);
+    growth->count -= 1;
 }
 
 /* A Blk that binds a name to a new cell and then a function that uses it, which is called. */
 static void grow_sequence_of_function(Growth *growth, size_t levels)
 {
-    uint32_t cell = 24 + (uint32_t)levels;
+    uint32_t cell = grow_first_declaration(growth, levels);
     uint32_t function = 40 + (uint32_t)levels;
-    Tree *tree = growth->tree;
 
-    tree_add(tree, PI_KIND_BLK, 0);
-    tree_add(tree, PI_KIND_DSEQ, 0);
-    tree_add(tree, PI_KIND_BIND, cell);
-    tree_add(tree, PI_KIND_REF, 0);
-    grow_integer(growth, levels - 1);
-    growth->names[growth->count] = cell;
-    growth->count += 1;
-    tree_add(tree, PI_KIND_BIND, function);
-    tree_add(tree, PI_KIND_ABS, 0);
-    tree_add(tree, PI_KIND_BLK, 0);
-    tree_add(tree, PI_KIND_BIND, 62);
-    tree_add(tree, PI_KIND_REF, 0);
-    grow_from(growth, cell, levels);
-    growth->names[growth->count] = 62;
-    growth->count += 1;
-    grow_command(growth, levels - 1);
-    growth->count -= 2;
-    tree_add(tree, PI_KIND_CALL, PI_OPERAND(function, 0));
+    tree_add(growth->tree, PI_KIND_BIND, function);
+    tree_add(growth->tree, PI_KIND_ABS, 0);
+    tree_add(growth->tree, PI_KIND_BLK, 0);
+    grow_counted(growth, 62, cell, levels);
+    growth->count -= 1;
+    tree_add(growth->tree, PI_KIND_CALL, PI_OPERAND(function, 0));
 }
 
 /* A function of a number and a location, called with an expression and a register or cell. */
