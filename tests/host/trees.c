@@ -180,17 +180,21 @@ static void grow_truth(Growth *growth, size_t levels)
 
 static void grow_command(Growth *growth, size_t levels);
 
-/* A Blk that binds a name to a new cell. Names from 16 on by the level, which is below 8. */
-static void grow_block(Growth *growth, size_t levels)
+/* A Bind of a name to a new cell; the name can be used from here on. */
+static void grow_cell(Growth *growth, uint32_t name, size_t levels)
 {
-    uint32_t name = 16 + (uint32_t)levels;
-
-    tree_add(growth->tree, PI_KIND_BLK, 0);
     tree_add(growth->tree, PI_KIND_BIND, name);
     tree_add(growth->tree, PI_KIND_REF, 0);
     grow_integer(growth, levels - 1);
     growth->names[growth->count] = name;
     growth->count += 1;
+}
+
+/* A Blk that binds a name to a new cell. Names from 16 on by the level, which is below 8. */
+static void grow_block(Growth *growth, size_t levels)
+{
+    tree_add(growth->tree, PI_KIND_BLK, 0);
+    grow_cell(growth, 16 + (uint32_t)levels, levels);
     grow_command(growth, levels - 1);
     growth->count -= 1;
 }
@@ -210,11 +214,7 @@ static uint32_t grow_first_declaration(Growth *growth, size_t levels)
 
     tree_add(growth->tree, PI_KIND_BLK, 0);
     tree_add(growth->tree, PI_KIND_DSEQ, 0);
-    tree_add(growth->tree, PI_KIND_BIND, name);
-    tree_add(growth->tree, PI_KIND_REF, 0);
-    grow_integer(growth, levels - 1);
-    growth->names[growth->count] = name;
-    growth->count += 1;
+    grow_cell(growth, name, levels);
     return name;
 }
 

@@ -83,6 +83,22 @@ with-control w κ =
       size = κ .size;
     }
 
+-- Other entries of control.
+abbrev pub with-controls : List ℕ → Regions → Regions
+with-controls ws κ =
+    record {
+      nodes = κ .nodes;
+      control = ws;
+      values = κ .values;
+      rows = κ .rows;
+      cells = κ .cells;
+      environment = κ .environment;
+      declared = κ .declared;
+      base = κ .base;
+      beyond = κ .beyond;
+      size = κ .size;
+    }
+
 -- Other entries of the value stack.
 abbrev pub with-values : List Slot → Regions → Regions
 with-values X κ =

@@ -2,7 +2,7 @@
 use Prim.Native.Nat.{ℕ}
 use mathlib.Core.Path.{_≡_}
 use mathlib.Core.Bool.{false}
-use mathlib.Core.List.{List, _∷_}
+use mathlib.Core.List.{List, _∷_, _++_}
 use lib.ListN.{length, take, drop}
 use Rattle.rules.specs.paper.Refusals.{Reason, reason-number}
 use Rattle.rules.specs.paper.States.{Bindable, Environment, Store, Entry, bindable, environment, locations, Item, mark, extend-mark, State, state}
@@ -73,25 +73,13 @@ Steps before m w i answer after =
     (C : List Item) (X : List Entry) (E : Environment) (S : Store) (L : List ℕ) (n : ℕ) (r : Rule) (e : Effect) →
     Ready before m w i C X E S L n r e → StepAnswer (judge false e) answer before after
 
--- Two, three or four entries more on control, the last one given on top: what the step to them answers. The entries below them may be in
--- another mode: a declaration goes from one stage to its end.
-abbrev pub PutsTwo : (before : List ℕ) → Machine → (below top : ℕ) → Stepped → (after : List ℕ) → Type 0
-PutsTwo before m below top answer after =
-    (C : List Item) (X : List Entry) (E : Environment) (S : Store) (L : List ℕ) (n : ℕ) (i j : Item) (mode : Mode) → Beside (regions before m) mode X E S L n →
-    ControlAs (regions before m .nodes) mode (top ∷ below ∷ regions before m .control) (i ∷ j ∷ C) →
-    StepAnswer (judge false (goes (state (i ∷ j ∷ C) X E S L n))) answer before after
-
-abbrev pub PutsThree : (before : List ℕ) → Machine → (below middle top : ℕ) → Stepped → (after : List ℕ) → Type 0
-PutsThree before m below middle top answer after =
-    (C : List Item) (X : List Entry) (E : Environment) (S : Store) (L : List ℕ) (n : ℕ) (i j k : Item) (mode : Mode) → Beside (regions before m) mode X E S L n →
-    ControlAs (regions before m .nodes) mode (top ∷ middle ∷ below ∷ regions before m .control) (i ∷ j ∷ k ∷ C) →
-    StepAnswer (judge false (goes (state (i ∷ j ∷ k ∷ C) X E S L n))) answer before after
-
-abbrev pub PutsFour : (before : List ℕ) → Machine → (lowest below middle top : ℕ) → Stepped → (after : List ℕ) → Type 0
-PutsFour before m lowest below middle top answer after =
-    (C : List Item) (X : List Entry) (E : Environment) (S : Store) (L : List ℕ) (n : ℕ) (i j k l : Item) (mode : Mode) → Beside (regions before m) mode X E S L n →
-    ControlAs (regions before m .nodes) mode (top ∷ middle ∷ below ∷ lowest ∷ regions before m .control) (i ∷ j ∷ k ∷ l ∷ C) →
-    StepAnswer (judge false (goes (state (i ∷ j ∷ k ∷ l ∷ C) X E S L n))) answer before after
+-- Some entries more on control, the top one first: what the step to them answers, whatever items control has then. They need not be in the
+-- mode of the entries below them: a declaration goes from one stage to its end.
+abbrev pub Puts : (before : List ℕ) → Machine → (new : List ℕ) → Stepped → (after : List ℕ) → Type 0
+Puts before m new answer after =
+    (C : List Item) (X : List Entry) (E : Environment) (S : Store) (L : List ℕ) (n : ℕ) (mode : Mode) → Beside (regions before m) mode X E S L n →
+    ControlAs (regions before m .nodes) mode (new ++ regions before m .control) C →
+    StepAnswer (judge false (goes (state C X E S L n))) answer before after
 
 -- One value or closure more on the value stack.
 abbrev pub Pushes : (before : List ℕ) → Machine → (label payload : ℕ) → Stepped → (after : List ℕ) → Type 0
@@ -100,11 +88,11 @@ Pushes before m label payload answer after =
     BindableAs (regions before m .nodes) (regions before m .rows) label payload b →
     StepAnswer (judge false (goes (state C (bindable b ∷ X) E S L n))) answer before after
 
--- A name or a node on the value stack, and two entries more on control.
-abbrev pub Enters : (before : List ℕ) → Machine → (payload below top : ℕ) → Stepped → (after : List ℕ) → Type 0
-Enters before m payload below top answer after =
-    (C : List Item) (X : List Entry) (E : Environment) (S : Store) (L : List ℕ) (n : ℕ) (i j : Item) (x : Entry) (mode : Mode) → Beside (regions before m) mode X E S L n →
-    ControlAs (regions before m .nodes) mode (top ∷ below ∷ regions before m .control) (i ∷ j ∷ C) →
+-- A name or a node on the value stack, and some entries more on control.
+abbrev pub Enters : (before : List ℕ) → Machine → (payload : ℕ) (new : List ℕ) → Stepped → (after : List ℕ) → Type 0
+Enters before m payload new answer after =
+    (C : List Item) (X : List Entry) (E : Environment) (S : Store) (L : List ℕ) (n : ℕ) (x : Entry) (mode : Mode) → Beside (regions before m) mode X E S L n →
+    ControlAs (regions before m .nodes) mode (new ++ regions before m .control) C →
     ((label : ℕ) →
     ValuesAs (regions before m .nodes) (regions before m .rows) (regions before m .base) (regions before m .declared) (regions before m .environment) E mode (slot label payload ∷ regions before m .values) (x ∷ X)) →
-    StepAnswer (judge false (goes (state (i ∷ j ∷ C) (x ∷ X) E S L n))) answer before after
+    StepAnswer (judge false (goes (state C (x ∷ X) E S L n))) answer before after

@@ -1,8 +1,9 @@
 // What several rules do alike: a value more, or two to four entries more on control, each with the limits that it can reach.
 ghost use mathlib.Core.Path.{_≡_};
+ghost use mathlib.Core.List.{[], _∷_};
 ghost use Rattle.machine.specs.Room.{full-stack};
 ghost use Rattle.machine.specs.Regions.{Fits};
-ghost use Rattle.machine.specs.Steps.{PutsTwo, PutsThree, PutsFour, Pushes, Enters};
+ghost use Rattle.machine.specs.Steps.{Puts, Pushes, Enters};
 use crate::Machine;
 use crate::Stepped;
 use crate::layout::MOST_CONTROL_ENTRIES;
@@ -39,7 +40,7 @@ pub fn push(work: &mut [u64], m: Machine, label: u64, payload: u64) -> Stepped
 // Two entries go on control.
 pub fn put_two(work: &mut [u64], m: Machine, below: u64, top: u64) -> Stepped
     requires { ⌜ Fits (now work) m ⌝ }
-    ensures { λ r. ⌜ PutsTwo (now (work .entry)) m below top r (now (work .exit)) ⌝ }
+    ensures { λ r. ⌜ Puts (now (work .entry)) m (top ∷ below ∷ []) r (now (work .exit)) ⌝ }
 {
     if MOST_CONTROL_ENTRIES < m.control + 2 {
         return Stepped::Withheld(reasons::CONTROL_ENTRIES);
@@ -51,7 +52,7 @@ pub fn put_two(work: &mut [u64], m: Machine, below: u64, top: u64) -> Stepped
 // Three entries go on control.
 pub fn put_three(work: &mut [u64], m: Machine, below: u64, middle: u64, top: u64) -> Stepped
     requires { ⌜ Fits (now work) m ⌝ }
-    ensures { λ r. ⌜ PutsThree (now (work .entry)) m below middle top r (now (work .exit)) ⌝ }
+    ensures { λ r. ⌜ Puts (now (work .entry)) m (top ∷ middle ∷ below ∷ []) r (now (work .exit)) ⌝ }
 {
     if MOST_CONTROL_ENTRIES < m.control + 3 {
         return Stepped::Withheld(reasons::CONTROL_ENTRIES);
@@ -71,7 +72,7 @@ pub fn put_four(
     top: u64,
 ) -> Stepped
     requires { ⌜ Fits (now work) m ⌝ }
-    ensures { λ r. ⌜ PutsFour (now (work .entry)) m lowest below middle top r (now (work .exit)) ⌝ }
+    ensures { λ r. ⌜ Puts (now (work .entry)) m (top ∷ middle ∷ below ∷ lowest ∷ []) r (now (work .exit)) ⌝ }
 {
     if MOST_CONTROL_ENTRIES < m.control + 4 {
         return Stepped::Withheld(reasons::CONTROL_ENTRIES);
@@ -85,7 +86,7 @@ pub fn put_four(
 // A name or a node goes on the value stack and two entries on control: Assign, Loop, Bind.
 pub fn enter(work: &mut [u64], m: Machine, payload: u64, below: u64, top: u64) -> Stepped
     requires { ⌜ Fits (now work) m ⌝ }
-    ensures { λ r. ⌜ Enters (now (work .entry)) m payload below top r (now (work .exit)) ⌝ }
+    ensures { λ r. ⌜ Enters (now (work .entry)) m payload (top ∷ below ∷ []) r (now (work .exit)) ⌝ }
 {
     let full = full_stack(m.values + 1, m.control + 2);
     if full != 0 {

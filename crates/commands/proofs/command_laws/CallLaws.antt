@@ -15,7 +15,7 @@ use Rattle.rules.specs.paper.Run.{judge}
 use Rattle.machine.specs.Layout.{call-word}
 use Rattle.reader.specs.Pack.{packed-operand, packed-end}
 use Rattle.reader.specs.Stored.{HasWord, operand-is, StoredActuals, no-actuals, one-actual, StoredCommand, call}
-use Rattle.machine.specs.Regions.{Regions, regions, Fits, with-control}
+use Rattle.machine.specs.Regions.{regions, Fits, with-control, with-controls}
 use Rattle.machine.specs.Represents.{Mode, running, ControlAs, expression-on, call-on}
 use Rattle.machine.specs.Steps.{StepAnswer, Ready, Applicable, Steps}
 use Rattle.machine.specs.declared.Machine.{Machine}
@@ -91,21 +91,6 @@ pub record Putting (nodes : List ℕ) (mode : Mode) (control : List ℕ) (left a
   many : left ≡ length rest
   control-as : ControlAs nodes mode control items
   come-to : put-actuals rest items ≡ all
-
-abbrev with-controls : List ℕ → Regions → Regions
-with-controls ws κ =
-    record {
-      nodes = κ .nodes;
-      control = ws;
-      values = κ .values;
-      rows = κ .rows;
-      cells = κ .cells;
-      environment = κ .environment;
-      declared = κ .declared;
-      base = κ .base;
-      beyond = κ .beyond;
-      size = κ .size;
-    }
 
 -- Nothing but control has changed, and whatever was to be put on it is still to be put on what it is now.
 pub record Goes (words : List ℕ) (m : Machine) (left₀ at₀ : ℕ) (words′ : List ℕ) (m′ : Machine) (left at : ℕ) : Type 0 where

@@ -2,7 +2,7 @@
 use Prim.Native.Nat.{ℕ, _+_, _<_}
 use mathlib.Core.Path.{_≡_, refl, sym, _∙_, subst}
 use mathlib.Core.Bool.{false}
-use mathlib.Core.List.{List, _∷_}
+use mathlib.Core.List.{List, [], _∷_}
 use native.Mathlib.Omega.{arith}
 use lib.ListN.{getD}
 use Rattle.rules.specs.paper.Tree.{Expression, Command, Assign, Loop, CSeq}
@@ -16,7 +16,7 @@ use Rattle.reader.specs.Pack.{packed-operand, packed-end}
 use Rattle.reader.specs.Stored.{HasWord, operand-is, StoredExpression, StoredCommand, assign, loop, cseq}
 use Rattle.machine.specs.Regions.{regions}
 use Rattle.machine.specs.Represents.{running, expression-on, command-on, assign-on, loop-on, name-on, node-on}
-use Rattle.machine.specs.Steps.{StepAnswer, Applicable, Steps, PutsTwo, Enters}
+use Rattle.machine.specs.Steps.{StepAnswer, Applicable, Steps, Puts, Enters}
 use Rattle.machine.specs.declared.Machine.{Machine}
 use Rattle.machine.specs.declared.Stepped.{Stepped}
 use Rattle.machine.proofs.state_laws.NodeLaws.{node-word}
@@ -44,14 +44,14 @@ assign-effect : {C : List Item} {E : Environment} {S : Store} {L : List ℕ} {n 
     Table C E S L n r (command (Assign p x e)) X f → goes (state (expression e ∷ mark assign-mark ∷ C) (name x ∷ X) E S L n) ≡ f
 assign-effect Rules.assign = refl
 
-pub assign-steps : (words : List ℕ) (m : Machine) (i : ℕ) (r : Stepped) (after : List ℕ) (x′ : ℕ) → x′ ≡ packed-operand (getD words i 0) → Enters words m x′ (mark-word assign-mark) (i + 1) r after →
+pub assign-steps : (words : List ℕ) (m : Machine) (i : ℕ) (r : Stepped) (after : List ℕ) (x′ : ℕ) → x′ ≡ packed-operand (getD words i 0) → Enters words m x′ ((i + 1) ∷ mark-word assign-mark ∷ []) r after →
     (x : ℕ) (e : Expression) → Steps words m i (command (Assign i x e)) r after
 assign-steps words m i r after x′ q enters x e C X E S L n rule f ready =
     let t = command-top (regions words m) i (Assign i x e) (ready .models) in
     let a = assign-at (t .stored) in
     let u = t .rest in
     subst (λ g. StepAnswer (judge false g) r words after) (assign-effect (ready .applies))
-    (enters C X E S L n (expression e) (mark assign-mark) (name x) (running (t .blocks)) u (expression-on (a .assigned) (assign-on refl (t .control-as)))
+    (enters (expression e ∷ mark assign-mark ∷ C) X E S L n (name x) (running (t .blocks)) u (expression-on (a .assigned) (assign-on refl (t .control-as)))
     (λ label. name-on (q ∙ operand-is (node-word words m (a .word)) (omega arith)) (a .name-low) (u .values-as)))
 
 -- ---- Loop.
@@ -68,13 +68,13 @@ loop-effect : {C : List Item} {E : Environment} {S : Store} {L : List ℕ} {n : 
     Table C E S L n r (command (Loop p e c)) X f → goes (state (expression e ∷ mark loop-mark ∷ C) (node (Loop p e c) ∷ X) E S L n) ≡ f
 loop-effect Rules.loop = refl
 
-pub loop-steps : (words : List ℕ) (m : Machine) (i : ℕ) (r : Stepped) (after : List ℕ) → Enters words m i (mark-word loop-mark) (i + 1) r after →
+pub loop-steps : (words : List ℕ) (m : Machine) (i : ℕ) (r : Stepped) (after : List ℕ) → Enters words m i ((i + 1) ∷ mark-word loop-mark ∷ []) r after →
     (e : Expression) (c : Command) → Steps words m i (command (Loop i e c)) r after
 loop-steps words m i r after enters e c C X E S L n rule f ready =
     let t = command-top (regions words m) i (Loop i e c) (ready .models) in
     let u = t .rest in
     subst (λ g. StepAnswer (judge false g) r words after) (loop-effect (ready .applies))
-    (enters C X E S L n (expression e) (mark loop-mark) (node (Loop i e c)) (running (t .blocks)) u (expression-on (loop-at (t .stored) .test) (loop-on refl (t .control-as)))
+    (enters (expression e ∷ mark loop-mark ∷ C) X E S L n (node (Loop i e c)) (running (t .blocks)) u (expression-on (loop-at (t .stored) .test) (loop-on refl (t .control-as)))
     (λ label. node-on (t .stored) (u .values-as)))
 
 -- ---- CSeq.
@@ -98,12 +98,12 @@ sequence-effect Rules.cseq = refl
 pub sequence-low : (words : List ℕ) (m : Machine) (i : ℕ) (c₁ c₂ : Command) → Applicable words m i (command (CSeq i c₁ c₂)) → i + 1 < most-nodes
 sequence-low words m i c₁ c₂ a = command-root (sequence-at (command-top (regions words m) i (CSeq i c₁ c₂) (a .ready .models) .stored) .first) .word .place-low
 
-pub sequence-steps : (words : List ℕ) (m : Machine) (i : ℕ) (r : Stepped) (after : List ℕ) (second : ℕ) → second ≡ packed-end (getD words (i + 1) 0) → PutsTwo words m second (i + 1) r after →
+pub sequence-steps : (words : List ℕ) (m : Machine) (i : ℕ) (r : Stepped) (after : List ℕ) (second : ℕ) → second ≡ packed-end (getD words (i + 1) 0) → Puts words m ((i + 1) ∷ second ∷ []) r after →
     (c₁ c₂ : Command) → Steps words m i (command (CSeq i c₁ c₂)) r after
 sequence-steps words m i r after second q puts c₁ c₂ C X E S L n rule f ready =
     let t = command-top (regions words m) i (CSeq i c₁ c₂) (ready .models) in
     let a = sequence-at (t .stored) in
     let place = q ∙ node-end words m (command-root (a .first)) in
     subst (λ g. StepAnswer (judge false g) r words after) (sequence-effect (ready .applies))
-    (puts C X E S L n (command c₁) (command c₂) (running (t .blocks)) (t .rest)
+    (puts (command c₁ ∷ command c₂ ∷ C) X E S L n (running (t .blocks)) (t .rest)
     (command-on (a .first) (command-on (subst (λ k. StoredCommand (regions words m .nodes) (a .depth) k (a .next) c₂) (sym place) (a .second)) (t .control-as))))

@@ -2,7 +2,7 @@
 use Prim.Native.Nat.{ℕ, suc, _+_, _-_, _<_, _≤_}
 use mathlib.Core.Path.{_≡_, refl, sym, ap, _∙_, subst}
 use mathlib.Core.Bool.{Bool, true, false}
-use mathlib.Core.List.{List, _∷_}
+use mathlib.Core.List.{List, [], _∷_}
 use native.Mathlib.Omega.{arith}
 use lib.ListN.{getD}
 use Rattle.rules.specs.paper.Tree.{Expression, Command, Loop}
@@ -16,7 +16,7 @@ use Rattle.reader.specs.Pack.{packed-end}
 use Rattle.reader.specs.Stored.{end-is, StoredCommand, loop}
 use Rattle.machine.specs.Regions.{Slot, Regions, regions, Fits, with-control, with-values}
 use Rattle.machine.specs.Represents.{Mode, ControlAs, command-on, loop-on, ValuesAs, Models}
-use Rattle.machine.specs.Steps.{StepAnswer, Applicable, Steps, PutsTwo}
+use Rattle.machine.specs.Steps.{StepAnswer, Applicable, Steps, Puts}
 use Rattle.machine.specs.declared.Machine.{Machine}
 use Rattle.machine.specs.declared.Stepped.{Stepped}
 use Rattle.machine.specs.declared.Stepped.the-variants.{Made}
@@ -132,7 +132,7 @@ module _ (words : List ℕ) (m : Machine) where
               (ap (λ κ. κ .nodes) (h .popped)) (ap (λ κ. κ .beyond) (h .popped)) (ap (λ κ. κ .size) (h .popped))
 
   pub loop-repeats : (w body : ℕ) (after : List ℕ) (answer : Stepped) → (truth-there ≡ 0 → ⊥) → body ≡ packed-end (getD words (node-there + 1) 0) →
-      PutsTwo words (at-height (m .values - 2) m) node-there body answer after → Steps words m w (mark loop-mark) answer after
+      Puts words (at-height (m .values - 2) m) (body ∷ node-there ∷ []) answer after → Steps words m w (mark loop-mark) answer after
   loop-repeats w body after answer not-zero ends puts C X E S L n r e ready = by (ready .models) (looping (ready .applies) (loop-taken (ready .models)))
     where
       by : (μ : Models (with-control w (regions words m)) (mark loop-mark ∷ C) X E S L n) → Looping (loop-taken μ) e → StepAnswer (judge false e) answer words after
@@ -160,5 +160,5 @@ module _ (words : List ℕ) (m : Machine) where
               (popped-state (loop-taken μ) h, again (μ .control-as) (h .stored) (subst (λ j. StoredCommand (regions words m .nodes) (the-parts .depth) j (the-parts .next) (h .repeated)) body-is (the-parts .stored)))
 
           by-test : (t : Bool) → truth-there ≡ truth-word t → StepAnswer (judge false (Comes t C (h .repeated) (Loop (h .place) (h .tested) (h .repeated)) (h .rest) E S L n)) answer words after
-          by-test true q = puts C (h .rest) E S L n (command (h .repeated)) (command (Loop (h .place) (h .tested) (h .repeated))) (both .0 .mode) (beside (both .0)) (both .1)
+          by-test true q = puts (command (h .repeated) ∷ command (Loop (h .place) (h .tested) (h .repeated)) ∷ C) (h .rest) E S L n (both .0 .mode) (beside (both .0)) (both .1)
           by-test false q = absurd (not-zero q)

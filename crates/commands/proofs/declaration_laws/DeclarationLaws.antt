@@ -2,7 +2,7 @@
 use Prim.Native.Nat.{ℕ, suc, _+_, _*_, _<_, _≤_}
 use mathlib.Core.Path.{_≡_, refl, sym, ap, _∙_, subst}
 use mathlib.Core.Bool.{false}
-use mathlib.Core.List.{List, _∷_}
+use mathlib.Core.List.{List, [], _∷_}
 use native.Mathlib.Omega.{arith}
 use lib.ListN.{getD}
 use Rattle.rules.specs.paper.Tree.{Expression, Formal, Block, Declaration, Bind, DSeq, Bound, Ref, Abs}
@@ -16,7 +16,7 @@ use Rattle.reader.specs.Pack.{packed-operand, packed-end}
 use Rattle.reader.specs.Stored.{HasWord, operand-is, StoredExpression, StoredDeclaration, bind, dseq, StoredBound, plain-of, ref, abs}
 use Rattle.machine.specs.Regions.{slots, regions}
 use Rattle.machine.specs.Represents.{SegmentAs, no-row, one-row, closure-as, Stage, declaring, ControlAs, expression-on, declaration-on, reference-on, abstraction-on, ref-on, bind-on, dseq-extend-on, dseq-join-on, name-on}
-use Rattle.machine.specs.Steps.{StepAnswer, Applicable, Steps, PutsTwo, PutsFour, Pushes, Enters}
+use Rattle.machine.specs.Steps.{StepAnswer, Applicable, Steps, Puts, Pushes, Enters}
 use Rattle.machine.specs.declared.Machine.{Machine}
 use Rattle.machine.specs.declared.Stepped.{Stepped}
 use Rattle.machine.proofs.state_laws.NodeLaws.{node-word}
@@ -53,14 +53,14 @@ bound-on (plain-of s) h = expression-on s h
 bound-on (ref w s) h = reference-on (ref w s) h
 bound-on (abs l w s t) h = abstraction-on (abs l w s t) h
 
-pub bind-steps : (words : List ℕ) (m : Machine) (i : ℕ) (r : Stepped) (after : List ℕ) (x′ : ℕ) → x′ ≡ packed-operand (getD words i 0) → Enters words m x′ (mark-word bind-mark) (i + 1) r after →
+pub bind-steps : (words : List ℕ) (m : Machine) (i : ℕ) (r : Stepped) (after : List ℕ) (x′ : ℕ) → x′ ≡ packed-operand (getD words i 0) → Enters words m x′ ((i + 1) ∷ mark-word bind-mark ∷ []) r after →
     (x : ℕ) (b : Bound) → Steps words m i (declaration (Bind i x b)) r after
 bind-steps words m i r after x′ q enters x b C X E S L n rule f ready =
     let t = declaration-top (regions words m) i (Bind i x b) (ready .models) in
     let a = bind-at (t .stored) in
     let u = t .rest in
     subst (λ g. StepAnswer (judge false g) r words after) (bind-effect (ready .applies))
-    (enters C X E S L n (bound-item b) (mark bind-mark) (name x) (declaring (t .stage) (t .bindings) (t .blocks)) u (bound-on (a .bound) (bind-on refl (t .control-as)))
+    (enters (bound-item b ∷ mark bind-mark ∷ C) X E S L n (name x) (declaring (t .stage) (t .bindings) (t .blocks)) u (bound-on (a .bound) (bind-on refl (t .control-as)))
     (λ label. name-on (q ∙ operand-is (node-word words m (a .word)) (omega arith)) (a .name-low) (u .values-as)))
 
 -- ---- DSeq.
@@ -85,13 +85,13 @@ pub declaration-sequence-low : (words : List ℕ) (m : Machine) (i : ℕ) (d₁ 
 declaration-sequence-low words m i d₁ d₂ a = declaration-root (join-at (declaration-top (regions words m) i (DSeq i d₁ d₂) (a .ready .models) .stored) .first) .word .place-low
 
 pub declaration-sequence-steps : (words : List ℕ) (m : Machine) (i : ℕ) (r : Stepped) (after : List ℕ) (second : ℕ) → second ≡ packed-end (getD words (i + 1) 0) →
-    PutsFour words m (mark-word dseq-join-mark) second (mark-word dseq-extend-mark) (i + 1) r after → (d₁ d₂ : Declaration) → Steps words m i (declaration (DSeq i d₁ d₂)) r after
+    Puts words m ((i + 1) ∷ mark-word dseq-extend-mark ∷ second ∷ mark-word dseq-join-mark ∷ []) r after → (d₁ d₂ : Declaration) → Steps words m i (declaration (DSeq i d₁ d₂)) r after
 declaration-sequence-steps words m i r after second q puts d₁ d₂ C X E S L n rule f ready =
     let t = declaration-top (regions words m) i (DSeq i d₁ d₂) (ready .models) in
     let a = join-at (t .stored) in
     let place = q ∙ node-end words m (declaration-root (a .first)) in
     subst (λ g. StepAnswer (judge false g) r words after) (join-effect (ready .applies))
-    (puts C X E S L n (declaration d₁) (mark dseq-extend-mark) (declaration d₂) (mark dseq-join-mark) (declaring (t .stage) (t .bindings) (t .blocks)) (t .rest)
+    (puts (declaration d₁ ∷ mark dseq-extend-mark ∷ declaration d₂ ∷ mark dseq-join-mark ∷ C) X E S L n (declaring (t .stage) (t .bindings) (t .blocks)) (t .rest)
     (declaration-on (a .first)
     (dseq-extend-on refl
     (declaration-on (subst (λ k. StoredDeclaration (regions words m .nodes) (a .depth) k (a .next) d₂) (sym place) (a .second)) (dseq-join-on refl (t .control-as))))))
@@ -115,12 +115,12 @@ reference-effect Rules.ref = refl
 pub reference-low : (words : List ℕ) (m : Machine) (w p : ℕ) (e : Expression) → Applicable words m w (reference p e) → w < most-nodes
 reference-low words m w p e a = reference-at (reference-top (regions words m) w p e (a .ready .models) .stored) .place-low
 
-pub reference-steps : (words : List ℕ) (m : Machine) (i : ℕ) (r : Stepped) (after : List ℕ) → PutsTwo words m (mark-word ref-mark) (i + 1) r after →
+pub reference-steps : (words : List ℕ) (m : Machine) (i : ℕ) (r : Stepped) (after : List ℕ) → Puts words m ((i + 1) ∷ mark-word ref-mark ∷ []) r after →
     (p : ℕ) (e : Expression) → Steps words m i (reference p e) r after
 reference-steps words m i r after puts p e C X E S L n rule f ready =
     let t = reference-top (regions words m) i p e (ready .models) in
     subst (λ g. StepAnswer (judge false g) r words after) (reference-effect (ready .applies))
-    (puts C X E S L n (expression e) (mark ref-mark) (declaring (t .stage) (t .bindings) (t .blocks)) (t .rest)
+    (puts (expression e ∷ mark ref-mark ∷ C) X E S L n (declaring (t .stage) (t .bindings) (t .blocks)) (t .rest)
     (expression-on (reference-at (t .stored) .contents) (ref-on refl (t .control-as))))
 
 -- ---- Abs.

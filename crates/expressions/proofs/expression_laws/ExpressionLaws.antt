@@ -2,7 +2,7 @@
 use Prim.Native.Nat.{ℕ, suc, _+_, _<_, _^_}
 use mathlib.Core.Path.{_≡_, refl, sym, ap, _∙_, subst}
 use mathlib.Core.Bool.{Bool, false}
-use mathlib.Core.List.{List, _∷_}
+use mathlib.Core.List.{List, [], _∷_}
 use native.Mathlib.Omega.{arith}
 use lib.IntN.{pos}
 use lib.ListN.{length, getD}
@@ -21,7 +21,7 @@ use Rattle.reader.specs.StandingLaws.{expression-low, expression-root}
 use Rattle.integers.specs.WordLaws.{integer-low}
 use Rattle.machine.specs.Regions.{regions}
 use Rattle.machine.specs.Represents.{integer-as, truth-as, value-as, ControlAs, expression-on, operator-on, not-on}
-use Rattle.machine.specs.Steps.{StepAnswer, Applicable, Steps, PutsTwo, PutsThree, Pushes}
+use Rattle.machine.specs.Steps.{StepAnswer, Applicable, Steps, Puts, Pushes}
 use Rattle.machine.specs.declared.Machine.{Machine}
 use Rattle.machine.specs.declared.Stepped.{Stepped}
 use Rattle.machine.proofs.state_laws.NodeLaws.{node-word, ExpressionTop, expression-top}
@@ -108,7 +108,7 @@ module _ (words : List ℕ) (m : Machine) (w : ℕ) where
         by : {r : Rule} {e : Effect} → Table C E S L n r (expression (Boo w b)) X e → StepAnswer (judge false e) answer words after
         by boo = pushes C X E S L n (value (truth b)) (top .lowered) (value-as (truth-as is-truth))
 
-    pub binary-steps : (which second : ℕ) → second ≡ packed-end (getD words (w + 1) 0) → PutsThree words m (mark-base + which) second (w + 1) answer after →
+    pub binary-steps : (which second : ℕ) → second ≡ packed-end (getD words (w + 1) 0) → Puts words m ((w + 1) ∷ second ∷ (mark-base + which) ∷ []) answer after →
         (o : Operator) (e₁ e₂ : Expression) → which ≡ operator-number o → Steps words m w (expression (Binary w o e₁ e₂)) answer after
     binary-steps which second q puts o e₁ e₂ h C X E S L n r e ready = by (ready .applies)
       where
@@ -129,9 +129,9 @@ module _ (words : List ℕ) (m : Machine) (w : ℕ) where
             (operator-on (ap (λ k. mark-base + k) h) (top .lowered .control-as)))
 
         by : {r : Rule} {e : Effect} → Table C E S L n r (expression (Binary w o e₁ e₂)) X e → StepAnswer (judge false e) answer words after
-        by binary = puts C X E S L n (expression e₁) (expression e₂) (mark (operator-mark o)) (top .lowered .mode) (beside (top .lowered)) control
+        by binary = puts (expression e₁ ∷ expression e₂ ∷ mark (operator-mark o) ∷ C) X E S L n (top .lowered .mode) (beside (top .lowered)) control
 
-    pub negation-steps : PutsTwo words m (mark-word not-mark) (w + 1) answer after → (e : Expression) → Steps words m w (expression (Not w e)) answer after
+    pub negation-steps : Puts words m ((w + 1) ∷ mark-word not-mark ∷ []) answer after → (e : Expression) → Steps words m w (expression (Not w e)) answer after
     negation-steps puts inner C X E S L n r e ready = by (ready .applies)
       where
         top : ExpressionTop (regions words m) w (Not w inner) C X E S L n
@@ -146,4 +146,4 @@ module _ (words : List ℕ) (m : Machine) (w : ℕ) where
             (not-on refl (top .lowered .control-as))
 
         by : {r : Rule} {e : Effect} → Table C E S L n r (expression (Not w inner)) X e → StepAnswer (judge false e) answer words after
-        by negation = puts C X E S L n (expression inner) (mark not-mark) (top .lowered .mode) (beside (top .lowered)) control
+        by negation = puts (expression inner ∷ mark not-mark ∷ C) X E S L n (top .lowered .mode) (beside (top .lowered)) control

@@ -135,3 +135,18 @@ fn joined(random: &mut Random, mut all: Vec<Declaration>) -> Declaration {
     let second = all.split_off(random.between(1, all.len() - 1));
     dseq(joined(random, all), joined(random, second))
 }
+
+/// So many DSeqs, each the first declaration of the one around it. Every Bind but
+/// the first is of one more than the name bound before it; the last name is one
+/// above their number.
+pub fn to_the_left(count: Name) -> Declaration {
+    let one_more = |name| bind(1 + name, sum(id(name), num(1)));
+    (1..=count).fold(bind(1, num(4)), |first, name| dseq(first, one_more(name)))
+}
+
+/// So many DSeqs, each the second declaration of the one around it, and at the end
+/// this one. Every Bind before it but the first is of the name bound before it.
+pub fn to_the_right(count: Name, last: Declaration) -> Declaration {
+    let before = |name| if name == 1 { num(4) } else { id(name - 1) };
+    (1..=count).rev().fold(last, |second, name| dseq(bind(name, before(name)), second))
+}

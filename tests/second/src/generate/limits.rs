@@ -1,6 +1,7 @@
 //! Trees near every limit of the paper: nodes, depth, cells, bindings and the
 //! entries of both stacks.
 
+use super::declarations::{to_the_left, to_the_right};
 use super::random::Random;
 use super::scope::Scope;
 use super::tower::{Layer, Tower, HELPER, MOST_LOCALS};
@@ -168,18 +169,10 @@ pub fn inner_command(random: &mut Random, helper_formals: usize) -> Command {
         10 => blk(bind_ref(1, boo(true)), repeat(id(1), assign(1, boo(false)))),
         // DSeqs below one another's first or second declaration: each name is bound
         // to the one before it.
-        11 => {
-            let first = (1..=nest as Name).fold(bind(1, num(4)), |first, name| {
-                dseq(first, bind(1 + name, sum(id(name), num(1))))
-            });
-            blk(first, assign(0, id(1 + nest as Name)))
-        }
+        11 => blk(to_the_left(nest as Name), assign(0, id(1 + nest as Name))),
         12 => {
             let last = bind_ref(1 + nest as Name, id(nest as Name));
-            let later = (2..=nest as Name)
-                .rev()
-                .fold(last, |second, name| dseq(bind(name, sum(num(1), id(name - 1))), second));
-            blk(dseq(bind(1, num(4)), later), assign(0, id(1 + nest as Name)))
+            blk(to_the_right(nest as Name, last), assign(0, id(1 + nest as Name)))
         }
         _ => {
             let mut generator = Generator { random, temper: Temper::Calm };

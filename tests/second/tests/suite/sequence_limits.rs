@@ -7,28 +7,23 @@ use second::build::*;
 use second::encode;
 use second::engine::MOST_BUDGET;
 use second::execution::{high_marks, reasons_of_room, room, Execution};
+use second::generate::declarations;
 use second::reader::read;
 use second::refusal;
 use second::rules::{apply, Effect};
 use second::state::{ControlEntry, Heights, Mark, State, ValueEntry};
 use second::tree::*;
 
-/// So many DSeqs, each the first declaration of the one around it. Every Bind but
-/// the first is of the name bound before it.
+/// A Blk of so many DSeqs, each the first declaration of the one around it.
 fn to_the_left(count: Name) -> Command {
-    let first = (1..=count)
-        .fold(bind(1, num(4)), |first, name| dseq(first, bind(1 + name, sum(id(name), num(1)))));
-    blk(first, assign(0, id(1 + count)))
+    blk(declarations::to_the_left(count), assign(0, id(1 + count)))
 }
 
-/// So many DSeqs, each the second declaration of the one around it, and as the last
-/// Bind's value this one.
+/// A Blk of so many DSeqs, each the second declaration of the one around it, and as
+/// the last Bind's value this one.
 fn to_the_right(count: Name, last: fn(Name) -> Expression) -> Command {
-    let bind_before = |name| if name == 1 { num(4) } else { id(name - 1) };
-    let all = (1..=count).rev().fold(bind(1 + count, last(count)), |second, name| {
-        dseq(bind(name, bind_before(name)), second)
-    });
-    blk(all, assign(0, id(1 + count)))
+    let last = bind(1 + count, last(count));
+    blk(declarations::to_the_right(count, last), assign(0, id(1 + count)))
 }
 
 /// The highest heights of a tower's run.

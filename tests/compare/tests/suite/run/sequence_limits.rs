@@ -6,6 +6,7 @@ use crate::helpers::{agreed_run, with_starts};
 use compare::run::Ran;
 use second::build::*;
 use second::encode;
+use second::generate::declarations;
 use second::generate::random::Random;
 use second::generate::tower::{Tower, HELPER};
 use second::generate::Case;
@@ -88,20 +89,16 @@ fn both_stacks_at_one_sequence() {
     assert_eq!(end(510, 506, sequence()), (36, 2));
 }
 
-/// So many DSeqs below one another's first declaration.
+/// A Blk of so many DSeqs below one another's first declaration.
 fn to_the_left(count: Name) -> Command {
-    let first = (1..=count)
-        .fold(bind(1, num(4)), |first, name| dseq(first, bind(1 + name, sum(id(name), num(1)))));
-    blk(first, assign(0, id(1 + count)))
+    blk(declarations::to_the_left(count), assign(0, id(1 + count)))
 }
 
-/// So many below one another's second declaration, the last value being this one.
+/// A Blk of so many below one another's second declaration, the last value being
+/// this one.
 fn to_the_right(count: Name, last: Expression) -> Command {
-    let before = |name| if name == 1 { num(4) } else { id(name - 1) };
-    let all = (1..=count)
-        .rev()
-        .fold(bind(1 + count, last), |second, name| dseq(bind(name, before(name)), second));
-    blk(all, assign(0, id(1 + count)))
+    let last = bind(1 + count, last);
+    blk(declarations::to_the_right(count, last), assign(0, id(1 + count)))
 }
 
 /// Three entries of control more for each DSeq, and the Bind's own.
