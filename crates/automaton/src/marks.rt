@@ -2,6 +2,7 @@
 ghost use Rattle.rules.specs.paper.States.{Mark, mark};
 ghost use Rattle.machine.specs.Steps.{Applicable, Steps};
 use commands::marks::assign_mark;
+use commands::marks::conditional_mark;
 use commands::marks::loop_mark;
 use commands::marks::ref_mark;
 use expressions::marks::not_mark;
@@ -34,6 +35,7 @@ pub fn mark_rule(work: &mut [u64], m: Machine, word: u64) -> Stepped
         LEAVE => leave_mark(work, m, word),
         EXTEND => extend_mark(work, m, word),
         kinds::CALL => call_mark(work, m, word),
+        kinds::COND => conditional_mark(work, m, word),
         kinds::BIND => bind_mark(work, m, word),
         DSEQ_EXTEND => dseq_extend_mark(work, m, word),
         DSEQ_JOIN => dseq_join_mark(work, m, word),

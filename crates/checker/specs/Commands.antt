@@ -5,7 +5,7 @@ use mathlib.Core.List.{List}
 use lib.ListN.{length, getD}
 use Rattle.rules.specs.paper.Refusals.{Refusal, refusal-number}
 use Rattle.rules.specs.paper.Limits.{names, most-parameters}
-use Rattle.rules.specs.paper.Tree.{Formal, Expression, Command, Assign, Call, Block, Declaration, Bound, Root}
+use Rattle.rules.specs.paper.Tree.{Formal, Expression, Command, Assign, Call, Cond, Block, Declaration, Bound, Root}
 use Rattle.rules.specs.paper.Checker.{Scope, Judged, fault, fine, _>>=_, same-codes, distinct, with-formals, expression-codes, command-ok, block-ok, declaration-gives, bound-means, Passed, expression-of-code, a-command, register-scope, root-is}
 use Rattle.reader.specs.Stored.{HasWord, StoredActuals, StoredFormals, StoredCommand, StoredBlock, StoredDeclaration, StoredBound, RootAt}
 use Rattle.typing.specs.Rows.{rows-from, rows-end, Rows, ScopeAt}
@@ -100,6 +100,10 @@ FormalsJudgedAt words words′ scope tail node count r =
 -- The command that stands there is fine, or its first fault.
 abbrev pub CommandJudgedAt : List ℕ → (registers scope node : ℕ) → Answer → Type 0
 CommandJudgedAt words registers scope node r = (c : Command) (Γ : Scope) → CommandAt words node c → ScopeAt words registers scope Γ → r ≡ fine-answer (command-ok Γ c)
+
+abbrev pub ConditionalJudgedAt : List ℕ → (registers scope node : ℕ) → Answer → Type 0
+ConditionalJudgedAt words registers scope node r =
+    (e : Expression) (c₁ c₂ : Command) (Γ : Scope) → CommandAt words node (Cond node e c₁ c₂) → ScopeAt words registers scope Γ → r ≡ fine-answer (command-ok Γ (Cond node e c₁ c₂))
 
 abbrev pub BlockJudgedAt : List ℕ → (registers scope node : ℕ) → Answer → Type 0
 BlockJudgedAt words registers scope node r = (b : Block) (Γ : Scope) → BlockAt words node b → ScopeAt words registers scope Γ → r ≡ fine-answer (block-ok Γ b)

@@ -3,10 +3,10 @@ ghost use mathlib.Core.List.{List};
 ghost use Prim.Native.Nat.{ℕ, _≤_};
 ghost use lib.ListN.{length};
 ghost use Rattle.rules.specs.paper.Limits.{most-parameters};
-ghost use Rattle.rules.specs.paper.Tree.{Expression, Formal, Command, Block, Declaration, Bound};
+ghost use Rattle.rules.specs.paper.Tree.{Expression, Formal, Command, Cond, Block, Declaration, Bound};
 ghost use Rattle.rules.specs.paper.Checker.{Scope};
 ghost use Rattle.typing.specs.Rows.{rows-end, ScopeAt};
-ghost use Rattle.checker.specs.Commands.{WritesRowsFrom, ActualsAt, FormalsAt, AssignAt, CallAt, CommandAt, BlockAt, DeclarationAt, BoundAt, ActualsJudgedAt, AgreementJudgedAt, AssignJudgedAt, CallJudgedAt, CommandJudgedAt, BlockJudgedAt, DeclarationJudgedAt, BoundJudgedAt};
+ghost use Rattle.checker.specs.Commands.{WritesRowsFrom, ActualsAt, FormalsAt, AssignAt, CallAt, CommandAt, BlockAt, DeclarationAt, BoundAt, ActualsJudgedAt, AgreementJudgedAt, AssignJudgedAt, CallJudgedAt, CommandJudgedAt, ConditionalJudgedAt, BlockJudgedAt, DeclarationJudgedAt, BoundJudgedAt};
 use crate::formals::formals;
 use reader::NAMES;
 use reader::end;
@@ -153,6 +153,10 @@ pub(crate) fn command(work: &mut [u64], registers: usize, scope: usize, node: us
         };
         return truth(node, 0, code);
     }
+    if which == kinds::COND {
+        let chosen = conditional(work, registers, scope, node);
+        return anew(chosen);
+    }
     let first = command(work, registers, scope, node + 1);
     let Answer::Is(done) = first else {
         return first;
@@ -160,6 +164,32 @@ pub(crate) fn command(work: &mut [u64], registers: usize, scope: usize, node: us
     let after = end(work, node + 1);
     let second = command(work, registers, scope, after);
     anew(second)
+}
+
+// The Cond at a node: its test, then both commands, taken or not; that the test is a truth is judged last.
+fn conditional(work: &mut [u64], registers: usize, scope: usize, node: usize) -> Answer
+    requires { ⌜ rows-end ≤ length (now work) ⌝ }
+    requires { ⌜ scope ≤ node ⌝ }
+    requires { ⌜ ((Γ : Scope) × ScopeAt (now work) registers scope Γ) ⌝ }
+    requires { ⌜ ((e : Expression) × (c₁ : Command) × (c₂ : Command) × CommandAt (now work) node (Cond node e c₁ c₂)) ⌝ }
+    ensures { λ r. ⌜ ConditionalJudgedAt (now (work .entry)) registers scope node r ⌝ }
+    ensures { λ r. ⌜ WritesRowsFrom (now (work .entry)) (now (work .exit)) node ⌝ }
+{
+    let test = expression(work, registers, scope, node + 1);
+    let Answer::Is(code) = test else {
+        return test;
+    };
+    let where_true = end(work, node + 1);
+    let first = command(work, registers, scope, where_true);
+    let Answer::Is(done) = first else {
+        return first;
+    };
+    let where_false = end(work, where_true);
+    let second = command(work, registers, scope, where_false);
+    let Answer::Is(done) = second else {
+        return second;
+    };
+    truth(node, 0, code)
 }
 
 // The block at a node: its declaration, then its command in the scope with the names that this gives.

@@ -2,8 +2,8 @@
 -- layout.rt.
 use Prim.Native.Nat.{ℕ, _+_, _-_, _*_}
 use Rattle.rules.specs.paper.Limits.{names, most-cells, most-bindings, most-value-entries, most-control-entries}
-use Rattle.rules.specs.paper.Kinds.{negation, assign, loop, cseq, blk, call, bind, dseq, expression-kind, command-kind, declaration-kind, ref, abs, binary, kind-number}
-use Rattle.rules.specs.paper.States.{Mark, operator-mark, not-mark, assign-mark, loop-mark, ref-mark, bind-mark, dseq-extend-mark, dseq-join-mark, extend-mark, leave-mark, call-mark}
+use Rattle.rules.specs.paper.Kinds.{negation, assign, loop, cseq, blk, call, conditional, bind, dseq, expression-kind, command-kind, declaration-kind, ref, abs, binary, kind-number}
+use Rattle.rules.specs.paper.States.{Mark, operator-mark, not-mark, assign-mark, loop-mark, conditional-mark, ref-mark, bind-mark, dseq-extend-mark, dseq-join-mark, extend-mark, leave-mark, call-mark}
 
 -- ---- The regions, one behind the other.
 
@@ -92,6 +92,7 @@ mark-number (operator-mark o) = kind-number (expression-kind (binary o))
 mark-number not-mark = kind-number (expression-kind negation)
 mark-number assign-mark = kind-number (command-kind assign)
 mark-number loop-mark = kind-number (command-kind loop)
+mark-number conditional-mark = kind-number (command-kind conditional)
 mark-number (leave-mark p n) = kind-number (command-kind cseq)
 mark-number extend-mark = kind-number (command-kind blk)
 mark-number (call-mark p x k) = kind-number (command-kind call)
@@ -115,6 +116,7 @@ mark-word (operator-mark o) = plain-word (operator-mark o)
 mark-word not-mark = plain-word not-mark
 mark-word assign-mark = plain-word assign-mark
 mark-word loop-mark = plain-word loop-mark
+mark-word conditional-mark = plain-word conditional-mark
 mark-word (leave-mark p n) = leave-word n
 mark-word extend-mark = plain-word extend-mark
 mark-word (call-mark p x k) = call-word (x + names * k)

@@ -7,10 +7,10 @@ use mathlib.Core.List.{List, [], _∷_}
 use mathlib.Core.Option.{some}
 use lib.IntN.{ℤ}
 use lib.ListN.{length}
-use Rattle.rules.specs.paper.Tree.{Operator, Expression, Formal, Command, Loop, Block, Declaration, Ref, Abs}
+use Rattle.rules.specs.paper.Tree.{Operator, Expression, Formal, Command, Block, Declaration, Ref, Abs}
 use Rattle.rules.specs.paper.Limits.{names, most-parameters, most-nodes}
 use Rattle.rules.specs.claims.Listing.{truth-word}
-use Rattle.rules.specs.paper.States.{Value, integer, truth, location, Bindable, value, closure, Environment, empty, bound, Cell, Store, Entry, bindable, name, node, environment, locations, operator-mark, not-mark, assign-mark, loop-mark, ref-mark, bind-mark, dseq-extend-mark, dseq-join-mark, extend-mark, leave-mark, call-mark, Item, expression, command, declaration, reference, abstraction, mark}
+use Rattle.rules.specs.paper.States.{Value, integer, truth, location, Bindable, value, closure, Environment, empty, bound, Cell, Store, Entry, bindable, name, node, environment, locations, operator-mark, not-mark, assign-mark, loop-mark, conditional-mark, ref-mark, bind-mark, dseq-extend-mark, dseq-join-mark, extend-mark, leave-mark, call-mark, Item, expression, command, declaration, reference, abstraction, mark}
 use Rattle.machine.specs.Layout.{closure-unit, mark-word, link}
 use Rattle.reader.specs.Stored.{StoredExpression, StoredCommand, StoredDeclaration, StoredBound}
 use Rattle.integers.specs.Words.{integer-of}
@@ -86,6 +86,8 @@ pub data ControlAs (nodes : List ℕ) : Mode → List ℕ → List Item → Type
       ControlAs nodes (running ms) ws C → ControlAs nodes (running ms) (w ∷ ws) (mark assign-mark ∷ C)
   loop-on : {ms : List ℕ} {ws : List ℕ} {C : List Item} {w : ℕ} → w ≡ mark-word loop-mark →
       ControlAs nodes (running ms) ws C → ControlAs nodes (running ms) (w ∷ ws) (mark loop-mark ∷ C)
+  conditional-on : {ms : List ℕ} {ws : List ℕ} {C : List Item} {w : ℕ} → w ≡ mark-word conditional-mark →
+      ControlAs nodes (running ms) ws C → ControlAs nodes (running ms) (w ∷ ws) (mark conditional-mark ∷ C)
   ref-on : {g : Stage} {m : ℕ} {ms : List ℕ} {ws : List ℕ} {C : List Item} {w : ℕ} → w ≡ mark-word ref-mark →
       ControlAs nodes (declaring g m ms) ws C → ControlAs nodes (declaring g m ms) (w ∷ ws) (mark ref-mark ∷ C)
   bind-on : {g : Stage} {m : ℕ} {ms : List ℕ} {ws : List ℕ} {C : List Item} {w : ℕ} → w ≡ mark-word bind-mark →
@@ -111,8 +113,8 @@ pub data ValuesAs (nodes : List ℕ) : (rows : List Slot) (base declared pointer
       BindableAs nodes rows (s .label) (s .payload) b → ValuesAs nodes rows base d p E m ws X → ValuesAs nodes rows base d p E m (s ∷ ws) (bindable b ∷ X)
   name-on : {rows : List Slot} {base d p : ℕ} {E : Environment} {m : Mode} {s : Slot} {ws : List Slot} {X : List Entry} {x : ℕ} →
       s .payload ≡ x → x < names → ValuesAs nodes rows base d p E m ws X → ValuesAs nodes rows base d p E m (s ∷ ws) (name x ∷ X)
-  node-on : {rows : List Slot} {base d p : ℕ} {E : Environment} {m : Mode} {s : Slot} {ws : List Slot} {X : List Entry} {depth j q : ℕ} {e : Expression} {c : Command} →
-      StoredCommand nodes depth (s .payload) j (Loop q e c) → ValuesAs nodes rows base d p E m ws X → ValuesAs nodes rows base d p E m (s ∷ ws) (node (Loop q e c) ∷ X)
+  node-on : {rows : List Slot} {base d p : ℕ} {E : Environment} {m : Mode} {s : Slot} {ws : List Slot} {X : List Entry} {depth j : ℕ} {c : Command} →
+      StoredCommand nodes depth (s .payload) j c → ValuesAs nodes rows base d p E m ws X → ValuesAs nodes rows base d p E m (s ∷ ws) (node c ∷ X)
   declared-on : {rows : List Slot} {base d e p m : ℕ} {g : Stage} {ms : List ℕ} {E D : Environment} {s : Slot} {ws : List Slot} {X : List Entry} →
       SegmentAs nodes rows d p D → ValuesAs nodes rows base e p E (declaring g m ms) ws X → ValuesAs nodes rows base d p E (declaring (at-end g) m ms) (s ∷ ws) (environment D ∷ X)
   saved-on : {rows : List Slot} {base d e f p m : ℕ} {g : Stage} {ms : List ℕ} {E D F : Environment} {s u : Slot} {ws : List Slot} {X : List Entry} →

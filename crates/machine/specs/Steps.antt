@@ -1,5 +1,5 @@
 -- What a step of the machine answers, by the rules' table.
-use Prim.Native.Nat.{ℕ}
+use Prim.Native.Nat.{ℕ, _<_}
 use mathlib.Core.Path.{_≡_}
 use mathlib.Core.Bool.{false}
 use mathlib.Core.List.{List, _∷_, _++_}
@@ -8,7 +8,7 @@ use Rattle.rules.specs.paper.Refusals.{Reason, reason-number}
 use Rattle.rules.specs.paper.States.{Bindable, Environment, Store, Entry, bindable, environment, locations, Item, mark, extend-mark, State, state}
 use Rattle.rules.specs.paper.Rules.{Rule, Effect, goes, Table}
 use Rattle.rules.specs.paper.Run.{Verdict, made, withheld, judge}
-use Rattle.rules.specs.paper.Limits.{most-nodes, work-words}
+use Rattle.rules.specs.paper.Limits.{most-nodes, most-control-entries, work-words}
 use Rattle.machine.specs.Regions.{slot, regions, Fits, with-control}
 use Rattle.machine.specs.Represents.{BindableAs, Mode, ControlAs, ValuesAs, Beside, Models}
 use Rattle.machine.specs.declared.Machine.{Machine}
@@ -44,13 +44,14 @@ abbrev pub StepAnswer : Verdict → Stepped → (before after : List ℕ) → Ty
 StepAnswer (made τ) r before after = IsMade τ r before after
 StepAnswer (withheld x) r before after = IsWithheld x r before after
 
--- An item was taken off control: its word, the machine without it, and the rule that applies at it. At a block's first mark the value
--- stack has the declared names on the location set.
+-- An item was taken off control: its word, the machine without it, which has room for one entry again, and the rule that applies at the
+-- item. At a block's first mark the value stack has the declared names on the location set.
 abbrev pub AtExtendMark : Item → List Entry → Type 0
 AtExtendMark i X = i ≡ mark extend-mark → (D : Environment) × (K : List ℕ) × (Y : List Entry) × (X ≡ environment D ∷ locations K ∷ Y)
 
 pub record Ready (words : List ℕ) (m : Machine) (w : ℕ) (i : Item) (C : List Item) (X : List Entry) (E : Environment) (S : Store) (L : List ℕ) (n : ℕ) (r : Rule) (e : Effect) : Type 0 where
   pub fits : Fits words m
+  pub room : m .control < most-control-entries
   pub models : Models (with-control w (regions words m)) (i ∷ C) X E S L n
   pub applies : Table C E S L n r i X e
   pub at-extend-mark : AtExtendMark i X

@@ -94,6 +94,8 @@ pub const ASSIGN_MARK: u64 = MARK + kinds::ASSIGN as u64;
 
 pub const LOOP_MARK: u64 = MARK + kinds::LOOP as u64;
 
+pub const COND_MARK: u64 = MARK + kinds::COND as u64;
+
 pub const LEAVE_MARK: u64 = MARK + LEAVE as u64;
 
 pub const EXTEND_MARK: u64 = MARK + EXTEND as u64;

@@ -83,7 +83,7 @@ pub fn put_four(
     Stepped::Made(put_control(work, third, top))
 }
 
-// A name or a node goes on the value stack and two entries on control: Assign, Loop, Bind.
+// A name or a node goes on the value stack and two entries on control: Assign, Loop, Cond, Bind.
 pub fn enter(work: &mut [u64], m: Machine, payload: u64, below: u64, top: u64) -> Stepped
     requires { ⌜ Fits (now work) m ⌝ }
     ensures { λ r. ⌜ Enters (now (work .entry)) m payload (top ∷ below ∷ []) r (now (work .exit)) ⌝ }

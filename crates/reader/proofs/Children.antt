@@ -9,7 +9,7 @@ use lib.Dec.{T, eqb, eqb→eq, eqb-refl}
 use lib.ListN.{length, drop, replicate, length-replicate, length-append}
 use Rattle.rules.specs.proofs.Basics.{passed-test}
 use Rattle.rules.specs.paper.Limits.{words}
-use Rattle.rules.specs.paper.Kinds.{Kind, num, boo, id, deref, valref, binary, negation, assign, loop, cseq, blk, call, bind, dseq, expression-kind, command-kind, declaration-kind, ref, abs, formal, row-of, upper-part, Sort, an-expression, a-command, a-declaration, a-bound, a-formal, a-block, a-root, Children, these, counted, sorts-of, child-sorts}
+use Rattle.rules.specs.paper.Kinds.{Kind, num, boo, id, deref, valref, binary, negation, assign, loop, cseq, blk, call, conditional, bind, dseq, expression-kind, command-kind, declaration-kind, ref, abs, formal, row-of, upper-part, Sort, an-expression, a-command, a-declaration, a-bound, a-formal, a-block, a-root, Children, these, counted, sorts-of, child-sorts}
 use Rattle.reader.specs.Tables.{sort-numbers, sort-number, sort-of-number, fixed-sorts, counted-sort, sort-after, sort-from-last, count-shift, fixed-at, fixed-room, sorts-at, sort-bits, sort-room, last-children, shift-at, shift-room, row-word, last-sorts, SortedAt}
 use Rattle.reader.proofs.TableRows.{row-of-kind}
 
@@ -31,6 +31,7 @@ counted-children (command-kind loop) w h = uncounted 2 w h
 counted-children (command-kind cseq) w h = uncounted 2 w h
 counted-children (command-kind blk) w h = uncounted 2 w h
 counted-children (command-kind call) w h = omega (arith, length-append (replicate (upper-part w) an-expression) [], length-replicate (upper-part w) an-expression)
+counted-children (command-kind conditional) w h = uncounted 3 w h
 counted-children (declaration-kind bind) w h = uncounted 1 w h
 counted-children (declaration-kind dseq) w h = uncounted 2 w h
 counted-children ref w h = uncounted 1 w h

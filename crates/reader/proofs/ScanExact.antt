@@ -6,15 +6,15 @@ use native.Mathlib.Omega.{arith}
 use lib.Dec.{T, eqb, ltb, ltb→lt}
 use lib.ListN.{length, replicate}
 use Rattle.rules.specs.proofs.Basics.{append-nothing}
-use Rattle.rules.specs.paper.Tree.{Num, Boo, Id, DeRef, ValRef, Binary, Not, Assign, Loop, CSeq, block, Call, Blk, Bind, DSeq, plain, Ref, Abs, expression, command}
+use Rattle.rules.specs.paper.Tree.{Num, Boo, Id, DeRef, ValRef, Binary, Not, Assign, Loop, CSeq, block, Call, Cond, Blk, Bind, DSeq, plain, Ref, Abs, expression, command}
 use Rattle.rules.specs.paper.Limits.{names}
-use Rattle.rules.specs.paper.Kinds.{Kind, ExpressionKind, CommandKind, DeclarationKind, num, boo, id, deref, valref, binary, negation, assign, loop, cseq, blk, call, bind, dseq, expression-kind, command-kind, declaration-kind, ref, abs, formal, operand-fits, operator-number, upper-part, an-expression, a-command, a-declaration, a-bound, a-formal, a-block, a-root}
+use Rattle.rules.specs.paper.Kinds.{Kind, ExpressionKind, CommandKind, DeclarationKind, num, boo, id, deref, valref, binary, negation, assign, loop, cseq, blk, call, conditional, bind, dseq, expression-kind, command-kind, declaration-kind, ref, abs, formal, operand-fits, operator-number, upper-part, an-expression, a-command, a-declaration, a-bound, a-formal, a-block, a-root}
 use Rattle.rules.specs.paper.Reader.{Node, got, then, _>>=_, give, wants-expression, wants-command, wants-declaration, wants-blk, wants-bound, wants-formal, wants-root, BlkKind, blk-kind, BoundKind, plain-kind, ref-kind, abs-kind, FormalKind, formal-kind, RootKind, root-expression, root-command, expression-by, command-by, declaration-by, bound-by, root-by, name-part, read-expression, read-many, read-formal, read-command, read-block, read-declaration, read-bound, read-root}
 use Rattle.rules.specs.claims.Listing.{truth-word}
-use Rattle.reader.specs.KindNumbers.{boo-number, not-number, loop-number, cseq-number, blk-number, call-number, dseq-number, ref-number, abs-number, formal-number}
+use Rattle.reader.specs.KindNumbers.{boo-number, not-number, loop-number, cseq-number, blk-number, call-number, conditional-number, dseq-number, ref-number, abs-number, formal-number}
 use Rattle.reader.specs.Pack.{node-words, expression-words, formal-words, all-words, command-words, block-words, declaration-words, bound-words, root-words}
 use Rattle.reader.specs.Scan.{accepting, scan-list, scan}
-use Rattle.reader.proofs.ScanLaws.{map-got, then-same, then-assoc, then-wrapped, then-same-with, option-map, finish, below, one-child, two-children, no-child, many-same, many-counted, list-append, sorted-same, deep-same}
+use Rattle.reader.proofs.ScanLaws.{map-got, then-same, then-assoc, then-wrapped, then-same-with, option-map, finish, below, one-child, two-children, three-children, no-child, many-same, many-counted, list-append, sorted-same, deep-same}
 
 -- ---- Each reader's own way of saying which sort it wants.
 wants-expression-same : (k : Kind) → option-map expression-kind (wants-expression k) ≡ accepting an-expression k
@@ -55,6 +55,7 @@ wants-blk-same (command-kind loop) = refl
 wants-blk-same (command-kind cseq) = refl
 wants-blk-same (command-kind blk) = refl
 wants-blk-same (command-kind call) = refl
+wants-blk-same (command-kind conditional) = refl
 wants-blk-same (declaration-kind k) = refl
 wants-blk-same ref = refl
 wants-blk-same abs = refl
@@ -186,6 +187,10 @@ module _ (d : ℕ) (commands : (i : ℕ) (ns : List Node) → map-got command-wo
       (λ es. give (Call p (name-part w) es)) (λ ws. finish (command-kind call) w p ws)
       (λ es q j rest. ap (λ x. got (node-words call-number x p (all-words expression-words es)) j rest) (count-back w (length es) q))
       ∙ ap (λ l. then (scan-list (scan d) l i ns) (λ ws. finish (command-kind call) w p ws)) (sym (append-nothing (replicate (upper-part w) an-expression)))
+  command-kind-same conditional w p t i ns =
+      three-children d (command-kind conditional) w p an-expression a-command a-command refl (read-expression d) expression-words (expression-same d)
+      (read-command d) command-words commands (read-command d) command-words commands
+      (λ a b c. Cond p a b c) command-words (λ a b c. zero-operand conditional-number w p (expression-words a ++ (command-words b ++ command-words c)) t) i ns
 
   block-kind-same : (k : BlkKind) (w p : ℕ) → T (operand-fits (blk-only k) w) → (i : ℕ) (ns : List Node) →
       map-got block-words ((read-declaration d >>= λ a. read-command d >>= λ b. give (Blk p a b)) i ns) ≡ below d (blk-only k) w p i ns

@@ -95,39 +95,58 @@ finish k w p below = give (node-words (kind-number k) w p below)
 abbrev pub below : (d : ℕ) → Kind → (operand place : ℕ) → Read (List ℕ)
 below d k w p = scan-list (scan d) (child-sorts k w) >>= λ ws. finish k w p ws
 
+-- A child, and what follows it: its words go before those of the children after it.
+child-then : {A C : Type 0} (d : ℕ) (sort : Sort) (sorts : List Sort) (read : Read A) (words : A → List ℕ) → ((i : ℕ) (ns : List Node) → map-got words (read i ns) ≡ scan d sort i ns) →
+    (next : A → Read C) (all : C → List ℕ) (last : List ℕ → Read (List ℕ)) →
+    ((a : A) (j : ℕ) (rest : List Node) → map-got all (next a j rest) ≡ then (scan-list (scan d) sorts j rest) (λ ws. last (words a ++ ws))) →
+    (i : ℕ) (ns : List Node) → map-got all ((read >>= next) i ns) ≡ then (scan-list (scan d) (sort ∷ sorts) i ns) last
+unfolding scan-list
+child-then d sort sorts read words same next all last follows i ns =
+    then-same words all (read i ns) (scan d sort i ns) (same i ns) next (λ vs j rest. then (scan-list (scan d) sorts j rest) (λ ws. last (vs ++ ws))) follows
+    ∙ joined (scan d sort i ns)
+  where
+    joined : (m : Got (List ℕ)) →
+        then m (λ vs j rest. then (scan-list (scan d) sorts j rest) (λ ws. last (vs ++ ws)))
+        ≡ then (then m (λ vs. scan-list (scan d) sorts >>= λ ws. give (vs ++ ws))) last
+    joined (refused x p) = refl
+    joined (got vs j rest) = sym (then-assoc (scan-list (scan d) sorts j rest) (λ ws. give (vs ++ ws)) last)
+
+-- The last child: nothing follows it.
+last-child : {A C : Type 0} (d : ℕ) (sort : Sort) (read : Read A) (words : A → List ℕ) → ((i : ℕ) (ns : List Node) → map-got words (read i ns) ≡ scan d sort i ns) →
+    (make : A → C) (all : C → List ℕ) (made : List ℕ → List ℕ) → ((a : A) → all (make a) ≡ made (words a)) →
+    (i : ℕ) (ns : List Node) → map-got all ((read >>= λ a. give (make a)) i ns) ≡ then (scan-list (scan d) (sort ∷ []) i ns) (λ ws. give (made ws))
+unfolding scan-list
+last-child d sort read words same make all made is i ns =
+    child-then d sort [] read words same (λ a. give (make a)) all (λ ws. give (made ws))
+    (λ a j rest. ap (λ ws. got ws j rest) (is a ∙ ap made (sym (append-nothing (words a))))) i ns
+
 pub one-child : {A B : Type 0} (d : ℕ) (k : Kind) (w p : ℕ) (sort : Sort) → child-sorts k w ≡ sort ∷ [] → (read : Read A) (words : A → List ℕ) →
     ((i : ℕ) (ns : List Node) → map-got words (read i ns) ≡ scan d sort i ns) → (make : A → B) (all : B → List ℕ) →
     ((a : A) → all (make a) ≡ node-words (kind-number k) w p (words a)) →
     (i : ℕ) (ns : List Node) → map-got all ((read >>= λ a. give (make a)) i ns) ≡ below d k w p i ns
-unfolding scan-list
-one-child d k w p sort c read words same make all made i ns =
-    rw c
-    (then-same words all (read i ns) (scan d sort i ns) (same i ns) (λ a. give (make a)) (λ ws j rest. then (then (got [] j rest) (λ b. give (ws ++ b))) (λ vs. finish k w p vs)) (λ a j rest.
-    ap (λ ws. got ws j rest) (made a ∙ ap (node-words (kind-number k) w p) (sym (append-nothing (words a)))))
-    ∙ sym (then-assoc (scan d sort i ns) (λ ws j rest. then (got [] j rest) (λ b. give (ws ++ b))) (λ vs. finish k w p vs)))
+one-child d k w p sort c read words same make all made i ns = rw c (last-child d sort read words same make all (node-words (kind-number k) w p) made i ns)
 
 pub two-children : {A B C : Type 0} (d : ℕ) (k : Kind) (w p : ℕ) (first second : Sort) → child-sorts k w ≡ first ∷ second ∷ [] →
     (read : Read A) (words : A → List ℕ) → ((i : ℕ) (ns : List Node) → map-got words (read i ns) ≡ scan d first i ns) →
     (read′ : Read B) (words′ : B → List ℕ) → ((i : ℕ) (ns : List Node) → map-got words′ (read′ i ns) ≡ scan d second i ns) →
     (make : A → B → C) (all : C → List ℕ) → ((a : A) (b : B) → all (make a b) ≡ node-words (kind-number k) w p (words a ++ words′ b)) →
     (i : ℕ) (ns : List Node) → map-got all ((read >>= λ a. read′ >>= λ b. give (make a b)) i ns) ≡ below d k w p i ns
-unfolding scan-list
 two-children d k w p first second c read words same read′ words′ same′ make all made i ns =
     rw c
-    (then-same words all (read i ns) (scan d first i ns) (same i ns) (λ a. read′ >>= λ b. give (make a b))
-    (λ ws j rest. then (scan-list (scan d) (second ∷ []) j rest) (λ b j′ rest′. then (got (ws ++ b) j′ rest′) (λ vs. finish k w p vs)))
-    (λ a j rest.
-    then-same words′ all (read′ j rest) (scan d second j rest) (same′ j rest) (λ b. give (make a b))
-    (λ vs j′ rest′. then (then (got [] j′ rest′) (λ b. give (vs ++ b))) (λ b j″ rest″. then (got (words a ++ b) j″ rest″) (λ vs. finish k w p vs)))
-    (λ b j′ rest′. ap (λ ws. got ws j′ rest′) (made a b ∙ ap (λ x. node-words (kind-number k) w p (words a ++ x)) (sym (append-nothing (words′ b)))))
-    ∙ sym (then-assoc (scan d second j rest) (λ vs j′ rest′. then (got [] j′ rest′) (λ b. give (vs ++ b))) (λ b j′ rest′. then (got (words a ++ b) j′ rest′) (λ vs. finish k w p vs))))
-    ∙ assoc-two (scan d first i ns))
-  where
-    assoc-two : (m : Got (List ℕ)) →
-        then m (λ ws j rest. then (scan-list (scan d) (second ∷ []) j rest) (λ b j′ rest′. then (got (ws ++ b) j′ rest′) (λ vs. finish k w p vs)))
-        ≡ then (then m (λ ws j rest. then (scan-list (scan d) (second ∷ []) j rest) (λ b. give (ws ++ b)))) (λ vs. finish k w p vs)
-    assoc-two (refused x q) = refl
-    assoc-two (got ws j rest) = sym (then-assoc (scan-list (scan d) (second ∷ []) j rest) (λ b. give (ws ++ b)) (λ vs. finish k w p vs))
+    (child-then d first (second ∷ []) read words same (λ a. read′ >>= λ b. give (make a b)) all (λ ws. finish k w p ws)
+    (λ a. last-child d second read′ words′ same′ (make a) all (λ ws. node-words (kind-number k) w p (words a ++ ws)) (made a)) i ns)
+
+pub three-children : {A B C D : Type 0} (d : ℕ) (k : Kind) (w p : ℕ) (first second third : Sort) → child-sorts k w ≡ first ∷ second ∷ third ∷ [] →
+    (read : Read A) (words : A → List ℕ) → ((i : ℕ) (ns : List Node) → map-got words (read i ns) ≡ scan d first i ns) →
+    (read′ : Read B) (words′ : B → List ℕ) → ((i : ℕ) (ns : List Node) → map-got words′ (read′ i ns) ≡ scan d second i ns) →
+    (read″ : Read C) (words″ : C → List ℕ) → ((i : ℕ) (ns : List Node) → map-got words″ (read″ i ns) ≡ scan d third i ns) →
+    (make : A → B → C → D) (all : D → List ℕ) → ((a : A) (b : B) (c : C) → all (make a b c) ≡ node-words (kind-number k) w p (words a ++ (words′ b ++ words″ c))) →
+    (i : ℕ) (ns : List Node) → map-got all ((read >>= λ a. read′ >>= λ b. read″ >>= λ c. give (make a b c)) i ns) ≡ below d k w p i ns
+three-children d k w p first second third c read words same read′ words′ same′ read″ words″ same″ make all made i ns =
+    rw c
+    (child-then d first (second ∷ third ∷ []) read words same (λ a. read′ >>= λ b. read″ >>= λ e. give (make a b e)) all (λ ws. finish k w p ws)
+    (λ a. child-then d second (third ∷ []) read′ words′ same′ (λ b. read″ >>= λ e. give (make a b e)) all (λ ws. finish k w p (words a ++ ws))
+    (λ b. last-child d third read″ words″ same″ (make a b) all (λ ws. node-words (kind-number k) w p (words a ++ (words′ b ++ ws))) (made a b))) i ns)
 
 pub no-child : {B : Type 0} (d : ℕ) (k : Kind) (w p : ℕ) → child-sorts k w ≡ [] → (b : B) (all : B → List ℕ) → all b ≡ node-words (kind-number k) w p [] →
     (i : ℕ) (ns : List Node) → map-got all (got b i ns) ≡ below d k w p i ns

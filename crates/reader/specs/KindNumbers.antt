@@ -1,6 +1,6 @@
 -- The numbers of the kinds by name, but for the operators' (operator-number of the rules).
 use Prim.Native.Nat.{ℕ}
-use Rattle.rules.specs.paper.Kinds.{kind-number, num, boo, id, deref, valref, negation, assign, loop, cseq, blk, call, bind, dseq, expression-kind, command-kind, declaration-kind, ref, abs, formal}
+use Rattle.rules.specs.paper.Kinds.{kind-number, num, boo, id, deref, valref, negation, assign, loop, cseq, blk, call, conditional, bind, dseq, expression-kind, command-kind, declaration-kind, ref, abs, formal}
 
 abbrev pub num-number : ℕ
 num-number = kind-number (expression-kind num)
@@ -34,6 +34,9 @@ blk-number = kind-number (command-kind blk)
 
 abbrev pub call-number : ℕ
 call-number = kind-number (command-kind call)
+
+abbrev pub conditional-number : ℕ
+conditional-number = kind-number (command-kind conditional)
 
 abbrev pub bind-number : ℕ
 bind-number = kind-number (declaration-kind bind)

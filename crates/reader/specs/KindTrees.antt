@@ -7,8 +7,8 @@ use mathlib.Core.List.{List}
 use native.Mathlib.Omega.{arith}
 use lib.ListN.{getD}
 use Rattle.rules.specs.paper.Kinds.{operator-number}
-use Rattle.rules.specs.paper.Tree.{Operator, Expression, Num, Boo, Id, DeRef, ValRef, Binary, Not, Command, Assign, Loop, CSeq, block, Call, Blk, Declaration, Bind, DSeq, Bound}
-use Rattle.reader.specs.KindNumbers.{num-number, boo-number, id-number, not-number, deref-number, valref-number, assign-number, loop-number, cseq-number, blk-number, call-number, bind-number, dseq-number, ref-number}
+use Rattle.rules.specs.paper.Tree.{Operator, Expression, Num, Boo, Id, DeRef, ValRef, Binary, Not, Command, Assign, Loop, CSeq, block, Call, Cond, Blk, Declaration, Bind, DSeq, Bound}
+use Rattle.reader.specs.KindNumbers.{num-number, boo-number, id-number, not-number, deref-number, valref-number, assign-number, loop-number, cseq-number, blk-number, call-number, conditional-number, bind-number, dseq-number, ref-number}
 use Rattle.reader.specs.Pack.{packed-kind}
 use Rattle.reader.specs.Stored.{StoredExpression, StoredCommand, StoredDeclaration}
 use Rattle.reader.specs.Stored as Stored
@@ -111,6 +111,7 @@ pub data CommandOf (i : ℕ) : (kind : ℕ) → Command → Type 0 where
   sequence-at : {c₁ c₂ : Command} → CommandOf i cseq-number (CSeq i c₁ c₂)
   block-at : {d : Declaration} {c : Command} → CommandOf i blk-number (block (Blk i d c))
   call-at : {x : ℕ} {es : List Expression} → CommandOf i call-number (Call i x es)
+  conditional-at : {e : Expression} {c₁ c₂ : Command} → CommandOf i conditional-number (Cond i e c₁ c₂)
 
 pub command-of : {words : List ℕ} {d i j : ℕ} {c : Command} (s : StoredCommand words d i j c) → CommandOf i (command-root s .kind) c
 unfolding command-root block-root
@@ -119,6 +120,7 @@ command-of (Stored.loop h a b) = loop-at
 command-of (Stored.cseq h a b) = sequence-at
 command-of (Stored.block-of (Stored.blk h a b)) = block-at
 command-of (Stored.call l g h a) = call-at
+command-of (Stored.conditional h a b c) = conditional-at
 
 pub is-assign : {i k : ℕ} {c : Command} → CommandOf i k c → k ≡ assign-number → (x : ℕ) × (e : Expression) × (c ≡ Assign i x e)
 is-assign (assign-at {x = x} {e = e}) q = (x, e, refl)
@@ -126,6 +128,7 @@ is-assign loop-at q = absurd (omega (arith, q))
 is-assign sequence-at q = absurd (omega (arith, q))
 is-assign block-at q = absurd (omega (arith, q))
 is-assign call-at q = absurd (omega (arith, q))
+is-assign conditional-at q = absurd (omega (arith, q))
 
 pub is-loop : {i k : ℕ} {c : Command} → CommandOf i k c → k ≡ loop-number → (e : Expression) × (d : Command) × (c ≡ Loop i e d)
 is-loop assign-at q = absurd (omega (arith, q))
@@ -133,6 +136,7 @@ is-loop (loop-at {e = e} {c = c}) q = (e, c, refl)
 is-loop sequence-at q = absurd (omega (arith, q))
 is-loop block-at q = absurd (omega (arith, q))
 is-loop call-at q = absurd (omega (arith, q))
+is-loop conditional-at q = absurd (omega (arith, q))
 
 pub is-sequence : {i k : ℕ} {c : Command} → CommandOf i k c → k ≡ cseq-number → (c₁ c₂ : Command) × (c ≡ CSeq i c₁ c₂)
 is-sequence assign-at q = absurd (omega (arith, q))
@@ -140,6 +144,7 @@ is-sequence loop-at q = absurd (omega (arith, q))
 is-sequence (sequence-at {c₁ = c₁} {c₂ = c₂}) q = (c₁, c₂, refl)
 is-sequence block-at q = absurd (omega (arith, q))
 is-sequence call-at q = absurd (omega (arith, q))
+is-sequence conditional-at q = absurd (omega (arith, q))
 
 pub is-block : {i k : ℕ} {c : Command} → CommandOf i k c → k ≡ blk-number → (d : Declaration) × (b : Command) × (c ≡ block (Blk i d b))
 is-block assign-at q = absurd (omega (arith, q))
@@ -147,13 +152,23 @@ is-block loop-at q = absurd (omega (arith, q))
 is-block sequence-at q = absurd (omega (arith, q))
 is-block (block-at {d = d} {c = c}) q = (d, c, refl)
 is-block call-at q = absurd (omega (arith, q))
+is-block conditional-at q = absurd (omega (arith, q))
 
-pub is-call : {i k : ℕ} {c : Command} → CommandOf i k c → (k ≡ assign-number → ⊥) → (k ≡ loop-number → ⊥) → (k ≡ cseq-number → ⊥) → (k ≡ blk-number → ⊥) → (x : ℕ) × (es : List Expression) × (c ≡ Call i x es)
-is-call assign-at q r s t = absurd (q refl)
-is-call loop-at q r s t = absurd (r refl)
-is-call sequence-at q r s t = absurd (s refl)
-is-call block-at q r s t = absurd (t refl)
-is-call (call-at {x = x} {es = es}) q r s t = (x, es, refl)
+pub is-conditional : {i k : ℕ} {c : Command} → CommandOf i k c → k ≡ conditional-number → (e : Expression) × (c₁ c₂ : Command) × (c ≡ Cond i e c₁ c₂)
+is-conditional assign-at q = absurd (omega (arith, q))
+is-conditional loop-at q = absurd (omega (arith, q))
+is-conditional sequence-at q = absurd (omega (arith, q))
+is-conditional block-at q = absurd (omega (arith, q))
+is-conditional call-at q = absurd (omega (arith, q))
+is-conditional (conditional-at {e = e} {c₁ = c₁} {c₂ = c₂}) q = (e, c₁, c₂, refl)
+
+pub is-call : {i k : ℕ} {c : Command} → CommandOf i k c → (k ≡ assign-number → ⊥) → (k ≡ loop-number → ⊥) → (k ≡ cseq-number → ⊥) → (k ≡ blk-number → ⊥) → (k ≡ conditional-number → ⊥) → (x : ℕ) × (es : List Expression) × (c ≡ Call i x es)
+is-call assign-at q r s t u = absurd (q refl)
+is-call loop-at q r s t u = absurd (r refl)
+is-call sequence-at q r s t u = absurd (s refl)
+is-call block-at q r s t u = absurd (t refl)
+is-call (call-at {x = x} {es = es}) q r s t u = (x, es, refl)
+is-call conditional-at q r s t u = absurd (u refl)
 
 -- The kinds of commands are below those of declarations.
 pub command-kinds : {i k : ℕ} {c : Command} → CommandOf i k c → (assign-number ≤ k) × (k < bind-number)
@@ -162,6 +177,7 @@ command-kinds loop-at = (omega arith, omega arith)
 command-kinds sequence-at = (omega arith, omega arith)
 command-kinds block-at = (omega arith, omega arith)
 command-kinds call-at = (omega arith, omega arith)
+command-kinds conditional-at = (omega arith, omega arith)
 
 pub stored-command-kind : {words : List ℕ} {d i j : ℕ} {c : Command} → StoredCommand words d i j c → (assign-number ≤ packed-kind (getD words i 0)) × (packed-kind (getD words i 0) < bind-number)
 stored-command-kind s = let k = command-kinds (command-of s) in (omega (arith, root-kind (command-root s), k .0), omega (arith, root-kind (command-root s), k .1))

@@ -3,10 +3,10 @@ use Prim.Native.Nat.{ℕ, suc, _+_, _*_, _/_, _%_}
 use mathlib.Core.List.{List, [], _∷_, _++_}
 use lib.ListN.{length}
 use Rattle.rules.specs.paper.Kinds.{operator-number}
-use Rattle.rules.specs.paper.Tree.{Expression, Num, Boo, Id, DeRef, ValRef, Binary, Not, Formal, Command, Assign, Loop, CSeq, block, Call, Block, Blk, Declaration, Bind, DSeq, Bound, plain, Ref, Abs, Root, expression, command, absent}
+use Rattle.rules.specs.paper.Tree.{Expression, Num, Boo, Id, DeRef, ValRef, Binary, Not, Formal, Command, Assign, Loop, CSeq, block, Call, Cond, Block, Blk, Declaration, Bind, DSeq, Bound, plain, Ref, Abs, Root, expression, command, absent}
 use Rattle.rules.specs.paper.Limits.{names}
 use Rattle.rules.specs.claims.Listing.{truth-word}
-use Rattle.reader.specs.KindNumbers.{num-number, boo-number, id-number, not-number, deref-number, valref-number, assign-number, loop-number, cseq-number, blk-number, call-number, bind-number, dseq-number, ref-number, abs-number, formal-number}
+use Rattle.reader.specs.KindNumbers.{num-number, boo-number, id-number, not-number, deref-number, valref-number, assign-number, loop-number, cseq-number, blk-number, call-number, conditional-number, bind-number, dseq-number, ref-number, abs-number, formal-number}
 
 -- The room of a kind and of an end in a node's word, and what one unit of the operand above them counts.
 abbrev pub kinds-room : ℕ
@@ -59,6 +59,7 @@ unfoldable mutual
   command-words (CSeq p c₁ c₂) = node-words cseq-number 0 p (command-words c₁ ++ command-words c₂)
   command-words (block b) = block-words b
   command-words (Call p x es) = node-words call-number (x + names * length es) p (all-words expression-words es)
+  command-words (Cond p e c₁ c₂) = node-words conditional-number 0 p (expression-words e ++ (command-words c₁ ++ command-words c₂))
 
   pub block-words : Block → List ℕ
   block-words (Blk p d c) = node-words blk-number 0 p (declaration-words d ++ command-words c)

@@ -10,7 +10,7 @@ use Rattle.rules.specs.paper.Kinds.{operator-number}
 use Rattle.rules.specs.paper.Tree.{Operator, arithmetic, Eq, order, logic, Sum, Sub, Mul, Div, Lt, Le, Gt, Ge, And, Or, Expression, Formal, Command, Block, Declaration, Bound, Root, absent}
 use Rattle.reader.specs.KindNumbers.{id-number, not-number}
 use Rattle.reader.specs.Pack.{kinds-room, packed-kind, packed-end}
-use Rattle.reader.specs.Stored.{HasWord, kind-is, end-is, StoredExpression, num, boo, id, deref, valref, binary, negation, StoredActuals, no-actuals, one-actual, StoredFormals, no-formals, one-formal, StoredCommand, assign, loop, cseq, block-of, call, StoredBlock, blk, StoredDeclaration, bind, dseq, StoredBound, plain-of, ref, abs, StoredRoot, root-expression, root-command, root-absent, RootAt}
+use Rattle.reader.specs.Stored.{HasWord, kind-is, end-is, StoredExpression, num, boo, id, deref, valref, binary, negation, StoredActuals, no-actuals, one-actual, StoredFormals, no-formals, one-formal, StoredCommand, assign, loop, cseq, block-of, call, conditional, StoredBlock, blk, StoredDeclaration, bind, dseq, StoredBound, plain-of, ref, abs, StoredRoot, root-expression, root-command, root-absent, RootAt}
 
 -- ---- Places, and the parts of an operand.
 
@@ -85,6 +85,7 @@ command-root (loop h a b) = rooted h (omega arith)
 command-root (cseq h a b) = rooted h (omega arith)
 command-root (block-of a) = block-root a
 command-root (call l g h a) = rooted h (omega arith)
+command-root (conditional h a b c) = rooted h (omega arith)
 
 unfoldable pub declaration-root : {words : List ℕ} {d i j : ℕ} {c : Declaration} → StoredDeclaration words d i j c → Rooted words i j
 declaration-root (bind l h a) = rooted h (omega arith)
@@ -150,6 +151,7 @@ mutual
   command-on (cseq h a b) = omega (arith, command-on a, command-on b)
   command-on (block-of a) = block-on a
   command-on (call l g h a) = omega (arith, actuals-on a)
+  command-on (conditional h a b c) = omega (arith, expression-on a, command-on b, command-on c)
 
   pub block-on : {words : List ℕ} {d i j : ℕ} {b : Block} → StoredBlock words d i j b → i < j
   block-on (blk h a b) = omega (arith, declaration-on a, command-on b)

@@ -7,11 +7,11 @@ use mathlib.Core.List.{List, [], _∷_}
 use native.Mathlib.Omega.{arith}
 use lib.ListN.{length, getD}
 use Rattle.rules.specs.paper.Kinds.{operator-number}
-use Rattle.rules.specs.paper.Tree.{Operator, Expression, Num, Boo, Id, DeRef, ValRef, Binary, Not, Formal, Command, Assign, Loop, CSeq, block, Call, Block, Blk, Declaration, Bind, DSeq, Bound, plain, Ref, Abs, Root, expression, command, absent}
+use Rattle.rules.specs.paper.Tree.{Operator, Expression, Num, Boo, Id, DeRef, ValRef, Binary, Not, Formal, Command, Assign, Loop, CSeq, block, Call, Cond, Block, Blk, Declaration, Bind, DSeq, Bound, plain, Ref, Abs, Root, expression, command, absent}
 use Rattle.rules.specs.paper.Limits as Limits
 use Rattle.rules.specs.paper.Limits.{most-nodes, names, codes, most-parameters}
 use Rattle.rules.specs.claims.Listing.{truth-word}
-use Rattle.reader.specs.KindNumbers.{num-number, boo-number, id-number, not-number, deref-number, valref-number, assign-number, loop-number, cseq-number, blk-number, call-number, bind-number, dseq-number, ref-number, abs-number, formal-number}
+use Rattle.reader.specs.KindNumbers.{num-number, boo-number, id-number, not-number, deref-number, valref-number, assign-number, loop-number, cseq-number, blk-number, call-number, conditional-number, bind-number, dseq-number, ref-number, abs-number, formal-number}
 use Rattle.reader.specs.Pack.{kinds-room, pack, packed-kind, packed-end, packed-operand}
 
 -- The word of a node: its kind, its operand, and the first node after its descendants.
@@ -66,6 +66,8 @@ mutual
     block-of : {d i j : ℕ} {b : Block} → StoredBlock words d i j b → StoredCommand words d i j (block b)
     call : {d i j x : ℕ} {es : List Expression} → x < names → length es ≤ most-parameters → HasWord words i call-number (x + names * length es) j →
         StoredActuals words d (suc i) j es → StoredCommand words (suc d) i j (Call i x es)
+    conditional : {d i j k l : ℕ} {e : Expression} {c₁ c₂ : Command} → HasWord words i conditional-number 0 l →
+        StoredExpression words d (suc i) j e → StoredCommand words d j k c₁ → StoredCommand words d k l c₂ → StoredCommand words (suc d) i l (Cond i e c₁ c₂)
 
   pub data StoredBlock (words : List ℕ) : (depth place next : ℕ) → Block → Type 0 where
     blk : {d i j k : ℕ} {dec : Declaration} {c : Command} → HasWord words i blk-number 0 k → StoredDeclaration words d (suc i) j dec → StoredCommand words d j k c → StoredBlock words (suc d) i k (Blk i dec c)

@@ -11,7 +11,7 @@ use Rattle.rules.specs.paper.Tree.{Expression, Formal, Command, Block, Declarat
 use Rattle.rules.specs.paper.Limits as Limits
 use Rattle.rules.specs.paper.Limits.{most-nodes, names, most-depth}
 use Rattle.rules.specs.claims.Listing.{truth-word}
-use Rattle.reader.specs.KindNumbers.{num-number, boo-number, id-number, not-number, deref-number, valref-number, assign-number, loop-number, cseq-number, blk-number, call-number, bind-number, dseq-number, ref-number, abs-number, formal-number}
+use Rattle.reader.specs.KindNumbers.{num-number, boo-number, id-number, not-number, deref-number, valref-number, assign-number, loop-number, cseq-number, blk-number, call-number, conditional-number, bind-number, dseq-number, ref-number, abs-number, formal-number}
 use Rattle.rules.specs.claims.Shape.{ShapedExpression, ShapedFormal, Many, none-left, one-more, ShapedCommand, ShapedBlock, ShapedDeclaration, ShapedBound, ShapedRoot}
 use Rattle.rules.specs.claims.Shape as Shape
 use Rattle.reader.specs.Pack.{pack, node-words, expression-words, formal-words, all-words, command-words, block-words, declaration-words, bound-words, root-words}
@@ -47,6 +47,9 @@ segment-right words i (w ∷ a) b s = subst (λ j. Segment words j b) (suc-add i
 next-two : (i j k : ℕ) (a b : List ℕ) → j ≡ suc i + length a → k ≡ j + length b → k ≡ i + suc (length (a ++ b))
 next-two i j k a b h g = omega (arith, length-append a b, h, g)
 
+next-three : (i j k l : ℕ) (a b c : List ℕ) → j ≡ suc i + length a → k ≡ j + length b → l ≡ k + length c → l ≡ i + suc (length (a ++ (b ++ c)))
+next-three i j k l a b c h g f = next-two i j l a (b ++ c) h (omega (arith, length-append b c, g, f))
+
 expression-next : {d i j : ℕ} {e : Expression} → ShapedExpression d i j e → j ≡ i + length (expression-words e)
 unfolding expression-words
 expression-next (Shape.num h) = omega arith
@@ -76,6 +79,8 @@ mutual
   command-next (Shape.cseq {i = i} {j = j} {k = k} {c₁ = c₁} {c₂ = c₂} h g) = next-two i j k (command-words c₁) (command-words c₂) (command-next h) (command-next g)
   command-next (Shape.block-of h) = block-next h
   command-next (Shape.call {d = d} h g m) = omega (arith, many-next (ShapedExpression d) expression-words (λ i j e s. expression-next s) m)
+  command-next (Shape.conditional {i = i} {j = j} {k = k} {l = l} {e = e} {c₁ = c₁} {c₂ = c₂} h g f) =
+      next-three i j k l (expression-words e) (command-words c₁) (command-words c₂) (expression-next h) (command-next g) (command-next f)
 
   block-next : {d i j : ℕ} {b : Block} → ShapedBlock d i j b → j ≡ i + length (block-words b)
   block-next (Shape.blk {i = i} {j = j} {k = k} {dec = dec} {c = c} h g) = next-two i j k (declaration-words dec) (command-words c) (declaration-next h) (command-next g)
@@ -170,6 +175,18 @@ module _ (words : List ℕ) where
         Stored.call h g
         (word-of words i call-number (x + names * length es) j (all-words expression-words es) s (omega (arith, many-next (ShapedExpression d) expression-words (λ i j e s. expression-next s) m)) l (omega arith))
         (actuals-stored m l (tail-of i call-number (x + names * length es) (all-words expression-words es) s))
+    command-stored (Shape.conditional {i = i} {j = j} {k = k} {l = n} {e = e} {c₁ = c₁} {c₂ = c₂} h g f) l s =
+        let q = expression-next h in
+        let r = command-next g in
+        let u = command-next f in
+        let both = command-words c₁ ++ command-words c₂ in
+        let t = tail-of i conditional-number 0 (expression-words e ++ both) s in
+        let v = subst (λ m. Segment words m both) (sym q) (segment-right words (suc i) (expression-words e) both t) in
+        Stored.conditional
+        (word-of words i conditional-number 0 n (expression-words e ++ both) s (next-three i j k n (expression-words e) (command-words c₁) (command-words c₂) q r u) l (omega arith))
+        (expression-stored h (omega (arith, r, u, l)) (segment-left words (suc i) (expression-words e) both t))
+        (command-stored g (omega (arith, u, l)) (segment-left words j (command-words c₁) (command-words c₂) v))
+        (command-stored f l (subst (λ m. Segment words m (command-words c₂)) (sym r) (segment-right words j (command-words c₁) (command-words c₂) v)))
 
     block-stored : {d i j : ℕ} {b : Block} → ShapedBlock d i j b → j ≤ most-nodes → Segment words i (block-words b) → StoredBlock words d i j b
     block-stored (Shape.blk {i = i} {j = j} {k = k} {dec = dec} {c = c} h g) l s =
@@ -253,6 +270,7 @@ module _ (words words′ : List ℕ) (same : SameNodes words words′) where
     same-command (Stored.cseq h a b) = Stored.cseq (same-word h) (same-command a) (same-command b)
     same-command (Stored.block-of a) = Stored.block-of (same-block a)
     same-command (Stored.call l g h a) = Stored.call l g (same-word h) (same-actuals a)
+    same-command (Stored.conditional h a b c) = Stored.conditional (same-word h) (same-expression a) (same-command b) (same-command c)
 
     pub same-block : {d i j : ℕ} {b : Block} → StoredBlock words d i j b → StoredBlock words′ d i j b
     same-block (Stored.blk h a b) = Stored.blk (same-word h) (same-declaration a) (same-command b)

@@ -43,6 +43,8 @@ pub const BLK: usize = 23;
 
 pub const CALL: usize = 24;
 
+pub const COND: usize = 25;
+
 pub const BIND: usize = 30;
 
 pub const DSEQ: usize = 31;

@@ -80,12 +80,14 @@ const CODES: u64 = 8;
 
 const MOST_PARAMETERS: u64 = 8;
 
-// How many children: none, one or two; as many as the operand's upper part says; or as many as the operand says, and one more.
+// How many children: none, one, two or three; as many as the operand's upper part says; or as many as the operand says, and one more.
 const NO_CHILD: u64 = 0 << FIXED_AT | WORD_BITS << SHIFT_AT;
 
 const ONE_CHILD: u64 = 1 << FIXED_AT | WORD_BITS << SHIFT_AT;
 
 const TWO_CHILDREN: u64 = 2 << FIXED_AT | WORD_BITS << SHIFT_AT;
+
+const THREE_CHILDREN: u64 = 3 << FIXED_AT | WORD_BITS << SHIFT_AT;
 
 const COUNTED: u64 = 0 << FIXED_AT | NAME_BITS << SHIFT_AT;
 
@@ -142,6 +144,13 @@ const BLK_ROW: u64 = IS_BLOCK | TWO_CHILDREN | DECLARATION << SECOND_LAST | COMM
 
 const CALL_ROW: u64 = IS_COMMAND | COUNTED | EXPRESSION * EACH | NAME_AND_COUNT;
 
+const COND_ROW: u64 = IS_COMMAND
+    | THREE_CHILDREN
+    | EXPRESSION << THIRD_LAST
+    | COMMAND << SECOND_LAST
+    | COMMAND << LAST
+    | ZERO;
+
 const BIND_ROW: u64 = IS_DECLARATION | ONE_CHILD | BOUND << LAST | A_NAME;
 
 const DSEQ_ROW: u64 = IS_DECLARATION
@@ -183,6 +192,7 @@ pub(crate) fn row(kind: usize) -> u64
         kinds::CSEQ => CSEQ_ROW,
         kinds::BLK => BLK_ROW,
         kinds::CALL => CALL_ROW,
+        kinds::COND => COND_ROW,
         kinds::BIND => BIND_ROW,
         kinds::DSEQ => DSEQ_ROW,
         kinds::REF => REF_ROW,

@@ -9,16 +9,16 @@ use lib.Dec.{eqb}
 use Rattle.rules.specs.paper.Kinds.{operator-number}
 use Rattle.rules.specs.paper.Tree.{Arithmetic, Sum, Sub, Mul, Div, Order, Lt, Le, Gt, Ge, Logic, And, Or, Operator, arithmetic, Eq, order, logic}
 use Rattle.rules.specs.paper.Limits.{names}
-use Rattle.rules.specs.paper.States.{Item, mark, Mark, operator-mark, not-mark, assign-mark, loop-mark, ref-mark, bind-mark, dseq-extend-mark, dseq-join-mark, extend-mark, leave-mark, call-mark}
+use Rattle.rules.specs.paper.States.{Item, mark, Mark, operator-mark, not-mark, assign-mark, loop-mark, conditional-mark, ref-mark, bind-mark, dseq-extend-mark, dseq-join-mark, extend-mark, leave-mark, call-mark}
 use Rattle.machine.specs.Layout.{mark-base, leave-word, call-word}
-use Rattle.machine.specs.Represents.{Mode, ControlAs, operator-on, not-on, assign-on, loop-on, ref-on, bind-on, dseq-extend-on, dseq-join-on, extend-on, leave-on, call-on}
+use Rattle.machine.specs.Represents.{Mode, ControlAs, operator-on, not-on, assign-on, loop-on, conditional-on, ref-on, bind-on, dseq-extend-on, dseq-join-on, extend-on, leave-on, call-on}
 use Rattle.machine.specs.Steps.{Applicable, Steps}
 use Rattle.machine.specs.declared.Machine.{Machine}
 use Rattle.machine.specs.declared.Stepped.{Stepped}
 
 -- The rules of marks.
 pub data Arm : Type 0 where
-  on-operator on-not on-assign on-loop on-leave on-extend on-call on-bind on-dseq-extend on-dseq-join on-ref : Arm
+  on-operator on-not on-assign on-loop on-leave on-extend on-call on-conditional on-bind on-dseq-extend on-dseq-join on-ref : Arm
 
 -- By the number, in the order of the code's arms.
 abbrev pub arm-of : ℕ → Arm
@@ -29,11 +29,12 @@ arm-of k =
     (cond (eqb k 22) on-leave
     (cond (eqb k 23) on-extend
     (cond (eqb k 24) on-call
+    (cond (eqb k 25) on-conditional
     (cond (eqb k 30) on-bind
     (cond (eqb k 41) on-dseq-extend
     (cond (eqb k 31) on-dseq-join
     (cond (eqb k 40) on-ref
-    on-operator)))))))))
+    on-operator))))))))))
 
 -- Which marks have the rule.
 abbrev pub Has : (w : ℕ) → Arm → Mark → Type 0
@@ -44,6 +45,7 @@ Has w on-loop k = k ≡ loop-mark
 Has w on-leave k = (p n : ℕ) × (k ≡ leave-mark p n)
 Has w on-extend k = k ≡ extend-mark
 Has w on-call k = (p x n : ℕ) × (k ≡ call-mark p x n)
+Has w on-conditional k = k ≡ conditional-mark
 Has w on-bind k = k ≡ bind-mark
 Has w on-dseq-extend k = k ≡ dseq-extend-mark
 Has w on-dseq-join k = k ≡ dseq-join-mark
@@ -78,6 +80,7 @@ has (operator-on {w = w} {o = o} q h) = operator-has w o q
 has (not-on {w = w} q h) = by-kind w 15 not-mark (omega (arith, q)) refl
 has (assign-on {w = w} q h) = by-kind w 20 assign-mark (omega (arith, q)) refl
 has (loop-on {w = w} q h) = by-kind w 21 loop-mark (omega (arith, q)) refl
+has (conditional-on {w = w} q h) = by-kind w 25 conditional-mark (omega (arith, q)) refl
 has (ref-on {w = w} q h) = by-kind w 40 ref-mark (omega (arith, q)) refl
 has (bind-on {w = w} q h) = by-kind w 30 bind-mark (omega (arith, q)) refl
 has (dseq-extend-on {w = w} q h) = by-kind w 41 dseq-extend-mark (omega (arith, q)) refl
@@ -89,17 +92,18 @@ has (call-on {w = w} {p = p} {x = x} {k = k} q l g h) = by-kind w 24 (call-mark 
 -- ---- The last arm: none of the numbers of the others.
 
 abbrev pub Others : ℕ → Type 0
-Others k = (((((((((Unit {0} × (k ≡ 15 → ⊥)) × (k ≡ 20 → ⊥)) × (k ≡ 21 → ⊥)) × (k ≡ 22 → ⊥)) × (k ≡ 23 → ⊥)) × (k ≡ 24 → ⊥)) × (k ≡ 30 → ⊥)) × (k ≡ 41 → ⊥)) × (k ≡ 31 → ⊥)) × (k ≡ 40 → ⊥)
+Others k = ((((((((((Unit {0} × (k ≡ 15 → ⊥)) × (k ≡ 20 → ⊥)) × (k ≡ 21 → ⊥)) × (k ≡ 22 → ⊥)) × (k ≡ 23 → ⊥)) × (k ≡ 24 → ⊥)) × (k ≡ 25 → ⊥)) × (k ≡ 30 → ⊥)) × (k ≡ 41 → ⊥)) × (k ≡ 31 → ⊥)) × (k ≡ 40 → ⊥)
 
 pub is-operator : (k : ℕ) → Others k → arm-of k ≡ on-operator
 is-operator k h =
     rw (
-      ne-eqb k 15 (h .0 .0 .0 .0 .0 .0 .0 .0 .0 .1),
-      ne-eqb k 20 (h .0 .0 .0 .0 .0 .0 .0 .0 .1),
-      ne-eqb k 21 (h .0 .0 .0 .0 .0 .0 .0 .1),
-      ne-eqb k 22 (h .0 .0 .0 .0 .0 .0 .1),
-      ne-eqb k 23 (h .0 .0 .0 .0 .0 .1),
-      ne-eqb k 24 (h .0 .0 .0 .0 .1),
+      ne-eqb k 15 (h .0 .0 .0 .0 .0 .0 .0 .0 .0 .0 .1),
+      ne-eqb k 20 (h .0 .0 .0 .0 .0 .0 .0 .0 .0 .1),
+      ne-eqb k 21 (h .0 .0 .0 .0 .0 .0 .0 .0 .1),
+      ne-eqb k 22 (h .0 .0 .0 .0 .0 .0 .0 .1),
+      ne-eqb k 23 (h .0 .0 .0 .0 .0 .0 .1),
+      ne-eqb k 24 (h .0 .0 .0 .0 .0 .1),
+      ne-eqb k 25 (h .0 .0 .0 .0 .1),
       ne-eqb k 30 (h .0 .0 .0 .1),
       ne-eqb k 41 (h .0 .0 .1),
       ne-eqb k 31 (h .0 .1),

@@ -16,7 +16,7 @@ use Rattle.reader.specs.Stored as Stored
 use Rattle.reader.specs.StandingLaws.{expression-root, command-root, declaration-root, root-low}
 use Rattle.reader.specs.KindTrees.{expression-of, expression-kinds, command-of, command-kinds, declaration-of, declaration-kinds}
 use Rattle.machine.specs.Regions.{stack, Regions, regions, Fits, with-control}
-use Rattle.machine.specs.Represents.{Mode, ControlAs, expression-on, command-on, declaration-on, reference-on, abstraction-on, operator-on, not-on, assign-on, loop-on, ref-on, bind-on, dseq-extend-on, dseq-join-on, extend-on, leave-on, call-on, Models}
+use Rattle.machine.specs.Represents.{Mode, ControlAs, expression-on, command-on, declaration-on, reference-on, abstraction-on, operator-on, not-on, assign-on, loop-on, conditional-on, ref-on, bind-on, dseq-extend-on, dseq-join-on, extend-on, leave-on, call-on, Models}
 use Rattle.machine.specs.Steps.{Stands, Ready}
 use Rattle.automaton.specs.Runs.{EnabledAt}
 use Rattle.machine.specs.declared.Machine.{Machine}
@@ -93,6 +93,7 @@ module _ (words : List ℕ) (m : Machine) where
   item-sort (not-on q h) = mark-sort (omega (arith, q))
   item-sort (assign-on q h) = mark-sort (omega (arith, q))
   item-sort (loop-on q h) = mark-sort (omega (arith, q))
+  item-sort (conditional-on q h) = mark-sort (omega (arith, q))
   item-sort (ref-on q h) = mark-sort (omega (arith, q))
   item-sort (bind-on q h) = mark-sort (omega (arith, q))
   item-sort (dseq-extend-on q h) = mark-sort (omega (arith, q))
@@ -120,6 +121,7 @@ taken words m {i} {C} {X} {E} {S} {L} {n} h =
       ready =
           record {
             fits = record { room = f .room; few-control = omega (arith, f .few-control); few-values = f .few-values; few-bindings = f .few-bindings; few-cells = f .few-cells };
+            room = omega (arith, f .few-control, one);
             models = μ;
             applies = h .applies;
             at-extend-mark = h .at-extend-mark;

@@ -1,9 +1,10 @@
 pub mod PackingLaws
 pub mod KeptLaws
--- Commands by their kinds, with Assign, Call and blocks.
+-- Commands by their kinds, with Assign, Call, Cond and blocks.
 pub mod AssignLaws
 pub mod ActualLaws
 pub mod AgreementLaws
 pub mod CallLaws
 pub mod CommandLaws
+pub mod ConditionalLaws
 pub mod BlockLaws

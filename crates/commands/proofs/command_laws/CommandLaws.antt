@@ -1,21 +1,21 @@
--- The rules of Assign, Loop and CSeq, and which command stands at a place by its kind.
-use Prim.Native.Nat.{ℕ, _+_, _<_}
+-- The rules of Assign, Loop, Cond and CSeq, and which command stands at a place by its kind.
+use Prim.Native.Nat.{ℕ, suc, _+_, _<_}
 use mathlib.Core.Path.{_≡_, refl, sym, _∙_, subst}
 use mathlib.Core.Bool.{false}
 use mathlib.Core.List.{List, [], _∷_}
 use native.Mathlib.Omega.{arith}
 use lib.ListN.{getD}
-use Rattle.rules.specs.paper.Tree.{Expression, Command, Assign, Loop, CSeq}
+use Rattle.rules.specs.paper.Tree.{Expression, Command, Assign, Loop, CSeq, Cond}
 use Rattle.rules.specs.paper.Limits.{names, most-nodes}
-use Rattle.rules.specs.paper.States.{Environment, Store, Entry, name, node, Item, expression, command, mark, assign-mark, loop-mark, state}
+use Rattle.rules.specs.paper.States.{Environment, Store, Entry, name, node, Item, expression, command, mark, Mark, assign-mark, loop-mark, conditional-mark, state}
 use Rattle.rules.specs.paper.Rules.{Rule, Effect, goes, Table}
 use Rattle.rules.specs.paper.Rules as Rules
 use Rattle.rules.specs.paper.Run.{judge}
 use Rattle.machine.specs.Layout.{mark-word}
 use Rattle.reader.specs.Pack.{packed-operand, packed-end}
-use Rattle.reader.specs.Stored.{HasWord, operand-is, StoredExpression, StoredCommand, assign, loop, cseq}
+use Rattle.reader.specs.Stored.{HasWord, operand-is, StoredExpression, StoredCommand, assign, loop, cseq, conditional}
 use Rattle.machine.specs.Regions.{regions}
-use Rattle.machine.specs.Represents.{running, expression-on, command-on, assign-on, loop-on, name-on, node-on}
+use Rattle.machine.specs.Represents.{running, ControlAs, expression-on, command-on, assign-on, loop-on, conditional-on, name-on, node-on}
 use Rattle.machine.specs.Steps.{StepAnswer, Applicable, Steps, Puts, Enters}
 use Rattle.machine.specs.declared.Machine.{Machine}
 use Rattle.machine.specs.declared.Stepped.{Stepped}
@@ -54,28 +54,51 @@ assign-steps words m i r after x′ q enters x e C X E S L n rule f ready =
     (enters (expression e ∷ mark assign-mark ∷ C) X E S L n (name x) (running (t .blocks)) u (expression-on (a .assigned) (assign-on refl (t .control-as)))
     (λ label. name-on (q ∙ operand-is (node-word words m (a .word)) (omega arith)) (a .name-low) (u .values-as)))
 
--- ---- Loop.
+-- ---- Loop and Cond: the node on the value stack, its test and the mark on control.
 
-record LoopAt (nodes : List ℕ) (i : ℕ) (e : Expression) : Type 0 where
+record TestAt (nodes : List ℕ) (i : ℕ) (e : Expression) : Type 0 where
   depth : ℕ
   next : ℕ
   test : StoredExpression nodes depth (i + 1) next e
 
-loop-at : {nodes : List ℕ} {d i j p : ℕ} {e : Expression} {c : Command} → StoredCommand nodes d i j (Loop p e c) → LoopAt nodes i e
-loop-at {nodes} {e = e} (loop {d = d} {i = i} {j = j} h a b) = record { depth = d; next = j; test = subst (λ k. StoredExpression nodes d k j e) (after-node i) a }
+test-at : {nodes : List ℕ} {d i j : ℕ} {e : Expression} → StoredExpression nodes d (suc i) j e → TestAt nodes i e
+test-at {nodes} {d} {i} {j} {e} a = record { depth = d; next = j; test = subst (λ k. StoredExpression nodes d k j e) (after-node i) a }
 
-loop-effect : {C : List Item} {E : Environment} {S : Store} {L : List ℕ} {n : ℕ} {r : Rule} {p : ℕ} {e : Expression} {c : Command} {X : List Entry} {f : Effect} →
-    Table C E S L n r (command (Loop p e c)) X f → goes (state (expression e ∷ mark loop-mark ∷ C) (node (Loop p e c) ∷ X) E S L n) ≡ f
-loop-effect Rules.loop = refl
+loop-test : {nodes : List ℕ} {d i j p : ℕ} {e : Expression} {c : Command} → StoredCommand nodes d i j (Loop p e c) → TestAt nodes i e
+loop-test (loop h a b) = test-at a
 
-pub loop-steps : (words : List ℕ) (m : Machine) (i : ℕ) (r : Stepped) (after : List ℕ) → Enters words m i ((i + 1) ∷ mark-word loop-mark ∷ []) r after →
-    (e : Expression) (c : Command) → Steps words m i (command (Loop i e c)) r after
-loop-steps words m i r after enters e c C X E S L n rule f ready =
-    let t = command-top (regions words m) i (Loop i e c) (ready .models) in
-    let u = t .rest in
-    subst (λ g. StepAnswer (judge false g) r words after) (loop-effect (ready .applies))
-    (enters (expression e ∷ mark loop-mark ∷ C) X E S L n (node (Loop i e c)) (running (t .blocks)) u (expression-on (loop-at (t .stored) .test) (loop-on refl (t .control-as)))
-    (λ label. node-on (t .stored) (u .values-as)))
+conditional-test : {nodes : List ℕ} {d i j p : ℕ} {e : Expression} {c₁ c₂ : Command} → StoredCommand nodes d i j (Cond p e c₁ c₂) → TestAt nodes i e
+conditional-test (conditional h a b c) = test-at a
+
+-- What the rule of a node of either kind comes to.
+abbrev Tests : (k : Mark) (c : Command) (e : Expression) → Type 0
+Tests k c e =
+    (C : List Item) (E : Environment) (S : Store) (L : List ℕ) (n : ℕ) (r : Rule) (X : List Entry) (f : Effect) →
+    Table C E S L n r (command c) X f → goes (state (expression e ∷ mark k ∷ C) (node c ∷ X) E S L n) ≡ f
+
+loop-effect : {p : ℕ} {e : Expression} {c : Command} → Tests loop-mark (Loop p e c) e
+loop-effect C E S L n r X f Rules.loop = refl
+
+conditional-effect : {p : ℕ} {e : Expression} {c₁ c₂ : Command} → Tests conditional-mark (Cond p e c₁ c₂) e
+conditional-effect C E S L n r X f Rules.conditional = refl
+
+module _ (words : List ℕ) (m : Machine) (i : ℕ) (r : Stepped) (after : List ℕ) where
+  test-steps : (k : Mark) → Enters words m i ((i + 1) ∷ mark-word k ∷ []) r after → (c : Command) (e : Expression) →
+      ((nodes : List ℕ) (d j : ℕ) → StoredCommand nodes d i j c → TestAt nodes i e) → Tests k c e →
+      ((nodes ms ws : List ℕ) (C : List Item) → ControlAs nodes (running ms) ws C → ControlAs nodes (running ms) (mark-word k ∷ ws) (mark k ∷ C)) →
+      Steps words m i (command c) r after
+  test-steps k enters c e test effect on C X E S L n rule f ready =
+      let t = command-top (regions words m) i c (ready .models) in
+      let u = t .rest in
+      subst (λ g. StepAnswer (judge false g) r words after) (effect C E S L n rule X f (ready .applies))
+      (enters (expression e ∷ mark k ∷ C) X E S L n (node c) (running (t .blocks)) u (expression-on (test _ _ _ (t .stored) .test) (on _ _ _ C (t .control-as)))
+      (λ label. node-on (t .stored) (u .values-as)))
+
+  pub loop-steps : Enters words m i ((i + 1) ∷ mark-word loop-mark ∷ []) r after → (e : Expression) (c : Command) → Steps words m i (command (Loop i e c)) r after
+  loop-steps enters e c = test-steps loop-mark enters (Loop i e c) e (λ nodes d j. loop-test) loop-effect (λ nodes ms ws C. loop-on refl)
+
+  pub conditional-steps : Enters words m i ((i + 1) ∷ mark-word conditional-mark ∷ []) r after → (e : Expression) (c₁ c₂ : Command) → Steps words m i (command (Cond i e c₁ c₂)) r after
+  conditional-steps enters e c₁ c₂ = test-steps conditional-mark enters (Cond i e c₁ c₂) e (λ nodes d j. conditional-test) conditional-effect (λ nodes ms ws C. conditional-on refl)
 
 -- ---- CSeq.
 

@@ -3,12 +3,12 @@ use Prim.Native.Nat.{ℕ}
 use mathlib.Core.Path.{_≡_, sym, _∙_, subst}
 use mathlib.Core.List.{List}
 use lib.ListN.{getD}
-use Rattle.rules.specs.paper.Tree.{Expression, Command, Assign, Loop, CSeq, block, Call, Blk, Declaration, Bind, DSeq, Bound}
+use Rattle.rules.specs.paper.Tree.{Expression, Command, Assign, Loop, CSeq, block, Call, Cond, Blk, Declaration, Bind, DSeq, Bound}
 use Rattle.rules.specs.paper.States.{Item, command, declaration}
 use Rattle.reader.specs.Pack.{packed-kind}
-use Rattle.reader.specs.KindNumbers.{assign-number, loop-number, cseq-number, blk-number, bind-number}
+use Rattle.reader.specs.KindNumbers.{assign-number, loop-number, cseq-number, blk-number, conditional-number, bind-number}
 use Rattle.reader.specs.StandingLaws.{command-root, declaration-root}
-use Rattle.reader.specs.KindTrees.{CommandOf, command-of, is-assign, is-loop, is-sequence, is-block, is-call, DeclarationOf, declaration-of, is-bind, is-declaration-sequence}
+use Rattle.reader.specs.KindTrees.{CommandOf, command-of, is-assign, is-loop, is-sequence, is-block, is-call, is-conditional, DeclarationOf, declaration-of, is-bind, is-declaration-sequence}
 use Rattle.machine.specs.Regions.{regions}
 use Rattle.machine.specs.Steps.{Applicable, Steps}
 use Rattle.machine.specs.declared.Machine.{Machine}
@@ -47,7 +47,10 @@ module _ (words : List ℕ) (m : Machine) (i kind : ℕ) (known : kind ≡ packe
   pub block-there : kind ≡ blk-number → (d : Declaration) × (b : Command) × (c ≡ block (Blk i d b))
   block-there = is-block standing-command
 
-  pub call-there : (kind ≡ assign-number → ⊥) → (kind ≡ loop-number → ⊥) → (kind ≡ cseq-number → ⊥) → (kind ≡ blk-number → ⊥) → (x : ℕ) × (es : List Expression) × (c ≡ Call i x es)
+  pub conditional-there : kind ≡ conditional-number → (e : Expression) × (both : Command × Command) × (c ≡ Cond i e (both .0) (both .1))
+  conditional-there q = let s = is-conditional standing-command q in (s .0, (s .1, s .2), s .3)
+
+  pub call-there : (kind ≡ assign-number → ⊥) → (kind ≡ loop-number → ⊥) → (kind ≡ cseq-number → ⊥) → (kind ≡ blk-number → ⊥) → (kind ≡ conditional-number → ⊥) → (x : ℕ) × (es : List Expression) × (c ≡ Call i x es)
   call-there = is-call standing-command
 
 -- ---- Declarations.

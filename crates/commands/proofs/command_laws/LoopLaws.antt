@@ -11,11 +11,10 @@ use Rattle.rules.specs.paper.States.{truth, Environment, Store, Entry, node, va
 use Rattle.rules.specs.paper.Rules.{Rule, Effect, goes, Table, loop-true, loop-false}
 use Rattle.rules.specs.paper.Run.{judge}
 use Rattle.rules.specs.paper.Limits.{most-nodes}
-use Rattle.machine.specs.Layout.{top-payload, second-payload}
 use Rattle.reader.specs.Pack.{packed-end}
 use Rattle.reader.specs.Stored.{end-is, StoredCommand, loop}
-use Rattle.machine.specs.Regions.{Slot, Regions, regions, Fits, with-control, with-values}
-use Rattle.machine.specs.Represents.{Mode, ControlAs, command-on, loop-on, ValuesAs, Models}
+use Rattle.machine.specs.Regions.{Regions, regions, Fits, with-control}
+use Rattle.machine.specs.Represents.{Mode, ControlAs, command-on, loop-on, Models}
 use Rattle.machine.specs.Steps.{StepAnswer, Applicable, Steps, Puts}
 use Rattle.machine.specs.declared.Machine.{Machine}
 use Rattle.machine.specs.declared.Stepped.{Stepped}
@@ -23,8 +22,9 @@ use Rattle.machine.specs.declared.Stepped.the-variants.{Made}
 use Rattle.reader.specs.StandingLaws.{Rooted, expression-root}
 use Rattle.machine.proofs.state_laws.NodeLaws.{node-word}
 use Rattle.machine.proofs.state_laws.ModelLaws.{beside, step-made, fits-still}
-use Rattle.machine.proofs.state_laws.TopLaws.{at-height, two-on-top, bindable-top, node-top}
-use Rattle.machine.proofs.state_laws.MarkTopLaws.{loop-taken, truth-word-of, value-of}
+use Rattle.machine.proofs.state_laws.TopLaws.{at-height}
+use Rattle.machine.proofs.state_laws.MarkTopLaws.{loop-taken}
+use Rattle.commands.proofs.command_laws.TestLaws.{truth-there, node-there, Tested, tested, popped-state}
 
 -- ---- The Loop's parts.
 
@@ -44,12 +44,6 @@ again : {nodes : List ℕ} {m : Mode} {w : ℕ} {ws : List ℕ} {C : List Item} 
 again (loop-on q h) s t = command-on t (command-on s h)
 
 module _ (words : List ℕ) (m : Machine) where
-  abbrev truth-there : ℕ
-  truth-there = getD words (top-payload + m .values) 0
-
-  abbrev node-there : ℕ
-  node-there = getD words (second-payload + m .values) 0
-
   -- What the step comes to, by the test.
   abbrev Comes : Bool → List Item → Command → Command → List Entry → Environment → Store → List ℕ → ℕ → Effect
   Comes true C c a Y E S L n = goes (state (command c ∷ command a ∷ C) Y E S L n)
@@ -59,41 +53,15 @@ module _ (words : List ℕ) (m : Machine) where
   record Looping {C : List Item} {X : List Entry} {E : Environment} {S : Store} {L : List ℕ} {n : ℕ} (μ : Models (regions words m) C X E S L n) (e : Effect) : Type 0 where
     pub test : Bool
     pub place : ℕ
-    pub tested : Expression
+    pub tests : Expression
     pub repeated : Command
     pub rest : List Entry
-    pub under : List Slot
-    pub depth : ℕ
-    pub next : ℕ
-    pub some-values : 2 ≤ m .values
-    pub truth-is : truth-there ≡ truth-word test
-    pub stored : StoredCommand (regions words m .nodes) depth node-there next (Loop place tested repeated)
-    pub popped : regions words (at-height (m .values - 2) m) ≡ with-values under (regions words m)
-    pub below : ValuesAs (regions words m .nodes) (regions words m .rows) (regions words m .base) (regions words m .declared) (regions words m .environment) E (μ .mode) under rest
-    pub effect : e ≡ Comes test C repeated (Loop place tested repeated) rest E S L n
+    pub found : Tested words m μ test (Loop place tests repeated) rest
+    pub effect : e ≡ Comes test C repeated (Loop place tests repeated) rest E S L n
 
   by-truth : (t : Bool) {p : ℕ} {x : Expression} {c : Command} {Y : List Entry} {C : List Item} {E : Environment} {S : Store} {L : List ℕ} {n : ℕ} →
       (μ : Models (regions words m) C (val (truth t) ∷ node (Loop p x c) ∷ Y) E S L n) → Looping μ (Comes t C c (Loop p x c) Y E S L n)
-  by-truth t {p} {x} {c} {Y} μ =
-      let top = bindable-top (μ .values-as) in
-      let lower = node-top (top .below) in
-      let two = two-on-top words m (top .top) (lower .top) (lower .rest) (top .are ∙ ap {B = List Slot} (λ ws. top .top ∷ ws) (lower .are)) in
-      record {
-        test = t;
-        place = p;
-        tested = x;
-        repeated = c;
-        rest = Y;
-        under = lower .rest;
-        depth = lower .depth;
-        next = lower .next;
-        some-values = two .some-values;
-        truth-is = two .payload-word ∙ truth-word-of (value-of (top .as-bindable));
-        stored = subst (λ i. StoredCommand (regions words m .nodes) (lower .depth) i (lower .next) (Loop p x c)) (sym (two .second-payload-word)) (lower .stored);
-        popped = two .popped;
-        below = lower .below;
-        effect = refl;
-      }
+  by-truth t {p} {x} {c} {Y} μ = record { test = t; place = p; tests = x; repeated = c; rest = Y; found = tested words m μ; effect = refl }
 
   looping : {C : List Item} {X : List Entry} {E : Environment} {S : Store} {L : List ℕ} {n : ℕ} {r : Rule} {e : Effect} →
       Table C E S L n r (mark loop-mark) X e → (μ : Models (regions words m) C X E S L n) → Looping μ e
@@ -106,42 +74,38 @@ module _ (words : List ℕ) (m : Machine) where
     loops = looping (a .ready .applies) (loop-taken (a .ready .models))
 
     pub two-there : 2 ≤ m .values
-    two-there = loops .some-values
+    two-there = loops .found .some-values
 
-    pub node-low : node-there < most-nodes
-    node-low = parts (loops .stored) .low
-
-  abbrev popped-state : {C : List Item} {X : List Entry} {E : Environment} {S : Store} {L : List ℕ} {n : ℕ} {e : Effect} (μ : Models (regions words m) C X E S L n) (h : Looping μ e) → Models (with-values (h .under) (regions words m)) C (h .rest) E S L n
-  popped-state μ h =
-      record { mode = μ .mode; control-as = μ .control-as; values-as = h .below; environment-as = μ .environment-as; store-as = μ .store-as; locations-as = μ .locations-as; bindings-as = μ .bindings-as }
+    pub node-low : node-there words m < most-nodes
+    node-low = parts (loops .found .stored) .low
 
   -- ---- The step.
 
-  pub loop-ends : (w : ℕ) → Fits words m → truth-there ≡ 0 → Steps words m w (mark loop-mark) (Made (at-height (m .values - 2) m)) words
+  pub loop-ends : (w : ℕ) → Fits words m → truth-there words m ≡ 0 → Steps words m w (mark loop-mark) (Made (at-height (m .values - 2) m)) words
   loop-ends w f zero-there C X E S L n r e ready = by (loop-taken (ready .models)) (looping (ready .applies) (loop-taken (ready .models)))
     where
       by : (μ : Models (regions words m) C X E S L n) → Looping μ e → StepAnswer (judge false e) (Made (at-height (m .values - 2) m)) words words
-      by μ h = subst (λ k. StepAnswer (judge false k) (Made (at-height (m .values - 2) m)) words words) (sym (h .effect)) (by-test (h .test) (h .truth-is))
+      by μ h = subst (λ k. StepAnswer (judge false k) (Made (at-height (m .values - 2) m)) words words) (sym (h .effect)) (by-test (h .test) (h .found .truth-is))
         where
-          by-test : (t : Bool) → truth-there ≡ truth-word t → StepAnswer (judge false (Comes t C (h .repeated) (Loop (h .place) (h .tested) (h .repeated)) (h .rest) E S L n)) (Made (at-height (m .values - 2) m)) words words
+          by-test : (t : Bool) → truth-there words m ≡ truth-word t → StepAnswer (judge false (Comes t C (h .repeated) (Loop (h .place) (h .tests) (h .repeated)) (h .rest) E S L n)) (Made (at-height (m .values - 2) m)) words words
           by-test true q = absurd (omega (arith, q, zero-there))
           by-test false q =
               step-made words words m (at-height (m .values - 2) m) _ C (h .rest) E S L n refl
-              (fits-still words words m (at-height (m .values - 2) m) f (ap (λ κ. κ .size) (h .popped)) (f .few-control) (omega (arith, f .few-values)) (f .few-bindings) (f .few-cells))
-              (subst (λ κ. Models κ C (h .rest) E S L n) (sym (h .popped)) (popped-state μ h))
-              (ap (λ κ. κ .nodes) (h .popped)) (ap (λ κ. κ .beyond) (h .popped)) (ap (λ κ. κ .size) (h .popped))
+              (fits-still words words m (at-height (m .values - 2) m) f (ap (λ κ. κ .size) (h .found .popped)) (f .few-control) (omega (arith, f .few-values)) (f .few-bindings) (f .few-cells))
+              (subst (λ κ. Models κ C (h .rest) E S L n) (sym (h .found .popped)) (popped-state words m μ (h .found)))
+              (ap (λ κ. κ .nodes) (h .found .popped)) (ap (λ κ. κ .beyond) (h .found .popped)) (ap (λ κ. κ .size) (h .found .popped))
 
-  pub loop-repeats : (w body : ℕ) (after : List ℕ) (answer : Stepped) → (truth-there ≡ 0 → ⊥) → body ≡ packed-end (getD words (node-there + 1) 0) →
-      Puts words (at-height (m .values - 2) m) (body ∷ node-there ∷ []) answer after → Steps words m w (mark loop-mark) answer after
+  pub loop-repeats : (w body : ℕ) (after : List ℕ) (answer : Stepped) → (truth-there words m ≡ 0 → ⊥) → body ≡ packed-end (getD words (node-there words m + 1) 0) →
+      Puts words (at-height (m .values - 2) m) (body ∷ node-there words m ∷ []) answer after → Steps words m w (mark loop-mark) answer after
   loop-repeats w body after answer not-zero ends puts C X E S L n r e ready = by (ready .models) (looping (ready .applies) (loop-taken (ready .models)))
     where
       by : (μ : Models (with-control w (regions words m)) (mark loop-mark ∷ C) X E S L n) → Looping (loop-taken μ) e → StepAnswer (judge false e) answer words after
-      by μ h = subst (λ k. StepAnswer (judge false k) answer words after) (sym (h .effect)) (by-test (h .test) (h .truth-is))
+      by μ h = subst (λ k. StepAnswer (judge false k) answer words after) (sym (h .effect)) (by-test (h .test) (h .found .truth-is))
         where
-          the-parts : Parts (regions words m .nodes) node-there (h .repeated)
-          the-parts = parts (h .stored)
+          the-parts : Parts (regions words m .nodes) (node-there words m) (h .repeated)
+          the-parts = parts (h .found .stored)
 
-          place-of : node-there + 1 ≡ suc node-there
+          place-of : node-there words m + 1 ≡ suc (node-there words m)
           place-of = omega arith
 
           body-is : the-parts .body ≡ body
@@ -152,13 +116,13 @@ module _ (words : List ℕ) (m : Machine) where
           Both : Regions → Type 0
           Both κ =
               (ν : Models κ C (h .rest) E S L n) ×
-              ControlAs (κ .nodes) (ν .mode) (body ∷ node-there ∷ κ .control) (command (h .repeated) ∷ command (Loop (h .place) (h .tested) (h .repeated)) ∷ C)
+              ControlAs (κ .nodes) (ν .mode) (body ∷ node-there words m ∷ κ .control) (command (h .repeated) ∷ command (Loop (h .place) (h .tests) (h .repeated)) ∷ C)
 
           both : Both (regions words (at-height (m .values - 2) m))
           both =
-              subst Both (sym (h .popped))
-              (popped-state (loop-taken μ) h, again (μ .control-as) (h .stored) (subst (λ j. StoredCommand (regions words m .nodes) (the-parts .depth) j (the-parts .next) (h .repeated)) body-is (the-parts .stored)))
+              subst Both (sym (h .found .popped))
+              (popped-state words m (loop-taken μ) (h .found), again (μ .control-as) (h .found .stored) (subst (λ j. StoredCommand (regions words m .nodes) (the-parts .depth) j (the-parts .next) (h .repeated)) body-is (the-parts .stored)))
 
-          by-test : (t : Bool) → truth-there ≡ truth-word t → StepAnswer (judge false (Comes t C (h .repeated) (Loop (h .place) (h .tested) (h .repeated)) (h .rest) E S L n)) answer words after
-          by-test true q = puts (command (h .repeated) ∷ command (Loop (h .place) (h .tested) (h .repeated)) ∷ C) (h .rest) E S L n (both .0 .mode) (beside (both .0)) (both .1)
+          by-test : (t : Bool) → truth-there words m ≡ truth-word t → StepAnswer (judge false (Comes t C (h .repeated) (Loop (h .place) (h .tests) (h .repeated)) (h .rest) E S L n)) answer words after
+          by-test true q = puts (command (h .repeated) ∷ command (Loop (h .place) (h .tests) (h .repeated)) ∷ C) (h .rest) E S L n (both .0 .mode) (beside (both .0)) (both .1)
           by-test false q = absurd (not-zero q)

@@ -8,11 +8,11 @@ use lib.IntN.{ℤ}
 use lib.ListN.{getD}
 use Rattle.rules.specs.paper.Tree.{Operator}
 use Rattle.rules.specs.claims.Listing.{truth-word}
-use Rattle.rules.specs.paper.States.{Value, integer, truth, location, value, Environment, Store, Entry, val, Item, mark, operator-mark, not-mark, assign-mark, loop-mark, ref-mark}
+use Rattle.rules.specs.paper.States.{Value, integer, truth, location, value, Environment, Store, Entry, val, Item, mark, operator-mark, not-mark, assign-mark, loop-mark, conditional-mark, ref-mark}
 use Rattle.machine.specs.Layout.{top-payload, second-payload, top-label, second-label}
 use Rattle.integers.specs.Words.{integer-of}
 use Rattle.machine.specs.Regions.{Slot, Regions, regions, Fits, with-control, with-values}
-use Rattle.machine.specs.Represents.{ValueAs, integer-as, truth-as, location-as, BindableAs, value-as, Mode, ControlAs, operator-on, not-on, assign-on, loop-on, ref-on, ValuesAs, Models}
+use Rattle.machine.specs.Represents.{ValueAs, integer-as, truth-as, location-as, BindableAs, value-as, Mode, ControlAs, operator-on, not-on, assign-on, loop-on, conditional-on, ref-on, ValuesAs, Models}
 use Rattle.machine.specs.declared.Machine.{Machine}
 use Rattle.machine.proofs.state_laws.TopLaws.{at-height, one-on-top, two-on-top, bindable-top}
 
@@ -30,6 +30,9 @@ module _ {nodes : List ℕ} {w : ℕ} {ws : List ℕ} {C : List Item} where
 
   pub loop-below : {m : Mode} → ControlAs nodes m (w ∷ ws) (mark loop-mark ∷ C) → ControlAs nodes m ws C
   loop-below (loop-on q h) = h
+
+  pub conditional-below : {m : Mode} → ControlAs nodes m (w ∷ ws) (mark conditional-mark ∷ C) → ControlAs nodes m ws C
+  conditional-below (conditional-on q h) = h
 
   ref-below : {m : Mode} → ControlAs nodes m (w ∷ ws) (mark ref-mark ∷ C) → ControlAs nodes m ws C
   ref-below (ref-on q h) = h
@@ -50,6 +53,9 @@ module _ {κ : Regions} {w : ℕ} {C : List Item} {X : List Entry} {E : Environm
 
   abbrev pub loop-taken : Models (with-control w κ) (mark loop-mark ∷ C) X E S L n → Models κ C X E S L n
   loop-taken μ = without μ (loop-below (μ .control-as))
+
+  abbrev pub conditional-taken : Models (with-control w κ) (mark conditional-mark ∷ C) X E S L n → Models κ C X E S L n
+  conditional-taken μ = without μ (conditional-below (μ .control-as))
 
   pub ref-taken : Models (with-control w κ) (mark ref-mark ∷ C) X E S L n → Models κ C X E S L n
   ref-taken μ = without μ (ref-below (μ .control-as))

@@ -13,7 +13,7 @@ use Rattle.rules.specs.paper.Limits.{most-cells, most-bindings, most-value-entr
 use Rattle.machine.specs.Layout.{control-from, value-payloads, value-labels, row-labels, row-payloads, cell-payloads, cell-labels}
 use Rattle.machine.specs.Room.{full-stack}
 use Rattle.machine.specs.Regions.{stack, Slot, slots, Regions, regions, Fits}
-use Rattle.machine.specs.Represents.{StoreAs, no-cell, one-cell, Mode, ControlAs, nothing-left, expression-on, command-on, declaration-on, reference-on, abstraction-on, operator-on, not-on, assign-on, loop-on, ref-on, bind-on, dseq-extend-on, dseq-join-on, extend-on, leave-on, call-on, ValuesAs, nothing-on, bindable-on, name-on, node-on, declared-on, saved-on, opened-on, frame-on, Beside, Models}
+use Rattle.machine.specs.Represents.{StoreAs, no-cell, one-cell, Mode, ControlAs, nothing-left, expression-on, command-on, declaration-on, reference-on, abstraction-on, operator-on, not-on, assign-on, loop-on, conditional-on, ref-on, bind-on, dseq-extend-on, dseq-join-on, extend-on, leave-on, call-on, ValuesAs, nothing-on, bindable-on, name-on, node-on, declared-on, saved-on, opened-on, frame-on, Beside, Models}
 use Rattle.machine.specs.Steps.{Stands, Untouched, IsMade, IsWithheld, StepAnswer}
 use Rattle.machine.specs.declared.Machine.{Machine}
 use Rattle.machine.specs.declared.Stepped.{Stepped}
@@ -34,6 +34,7 @@ control-size (operator-on q h) = ap suc (control-size h)
 control-size (not-on q h) = ap suc (control-size h)
 control-size (assign-on q h) = ap suc (control-size h)
 control-size (loop-on q h) = ap suc (control-size h)
+control-size (conditional-on q h) = ap suc (control-size h)
 control-size (ref-on q h) = ap suc (control-size h)
 control-size (bind-on q h) = ap suc (control-size h)
 control-size (dseq-extend-on q h) = ap suc (control-size h)

@@ -4,7 +4,7 @@ use mathlib.Core.Path.{_≡_, refl, sym, ap, _∙_, subst}
 use mathlib.Core.List.{List, [], _∷_}
 use native.Mathlib.Omega.{arith}
 use lib.ListN.{length, getD}
-use Rattle.rules.specs.paper.Tree.{Expression, Command, Loop}
+use Rattle.rules.specs.paper.Tree.{Command}
 use Rattle.rules.specs.paper.Limits.{names}
 use Rattle.rules.specs.paper.States.{Bindable, Environment, Entry, bindable, name, node, environment, locations}
 use Rattle.machine.specs.Layout.{value-payloads, value-labels, top-payload, second-payload, top-label, second-label}
@@ -132,14 +132,14 @@ pub record NameTop (nodes : List ℕ) (rows : List Slot) (base d p : ℕ) (E : E
 pub name-top : {nodes : List ℕ} {rows : List Slot} {base d p : ℕ} {E : Environment} {m : Mode} {all : List Slot} {X : List Entry} {x : ℕ} → ValuesAs nodes rows base d p E m all (name x ∷ X) → NameTop nodes rows base d p E m all X x
 name-top (name-on {s = s} {ws = ws} q l h) = record { top = s; rest = ws; are = refl; payload-is = q; low = l; below = h }
 
-pub record NodeTop (nodes : List ℕ) (rows : List Slot) (base d p : ℕ) (E : Environment) (m : Mode) (all : List Slot) (X : List Entry) (q : ℕ) (e : Expression) (c : Command) : Type 0 where
+pub record NodeTop (nodes : List ℕ) (rows : List Slot) (base d p : ℕ) (E : Environment) (m : Mode) (all : List Slot) (X : List Entry) (c : Command) : Type 0 where
   pub top : Slot
   pub rest : List Slot
   pub are : all ≡ top ∷ rest
   pub depth : ℕ
   pub next : ℕ
-  pub stored : StoredCommand nodes depth (top .payload) next (Loop q e c)
+  pub stored : StoredCommand nodes depth (top .payload) next c
   pub below : ValuesAs nodes rows base d p E m rest X
 
-pub node-top : {nodes : List ℕ} {rows : List Slot} {base d p : ℕ} {E : Environment} {m : Mode} {all : List Slot} {X : List Entry} {q : ℕ} {e : Expression} {c : Command} → ValuesAs nodes rows base d p E m all (node (Loop q e c) ∷ X) → NodeTop nodes rows base d p E m all X q e c
+pub node-top : {nodes : List ℕ} {rows : List Slot} {base d p : ℕ} {E : Environment} {m : Mode} {all : List Slot} {X : List Entry} {c : Command} → ValuesAs nodes rows base d p E m all (node c ∷ X) → NodeTop nodes rows base d p E m all X c
 node-top (node-on {s = s} {ws = ws} {depth = depth} {j = j} h v) = record { top = s; rest = ws; are = refl; depth = depth; next = j; stored = h; below = v }

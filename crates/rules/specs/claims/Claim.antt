@@ -13,7 +13,7 @@ use Rattle.rules.specs.paper.Refusals.{Reason, Steps, ZeroDivisor, OutOf
 use Rattle.rules.specs.paper.Limits.{most-cells, most-bindings, most-value-entries, most-control-entries, most-budget}
 use Rattle.rules.specs.paper.Integers.{in-range}
 use Rattle.rules.specs.paper.Checker.{Passed}
-use Rattle.rules.specs.paper.States.{Value, integer, truth, location, Bindable, value, closure, Environment, lookup, Store, find, Entry, bindable, name, node, environment, locations, Mark, operator-mark, not-mark, assign-mark, loop-mark, ref-mark, bind-mark, dseq-extend-mark, dseq-join-mark, extend-mark, leave-mark, call-mark, Item, expression, command, declaration, reference, abstraction, mark, State, state, control-of, values-of, environment-of, store-of, locations-of, bindings-of, live-cells}
+use Rattle.rules.specs.paper.States.{Value, integer, truth, location, Bindable, value, closure, Environment, lookup, Store, find, Entry, bindable, name, node, environment, locations, Mark, operator-mark, not-mark, assign-mark, loop-mark, conditional-mark, ref-mark, bind-mark, dseq-extend-mark, dseq-join-mark, extend-mark, leave-mark, call-mark, Item, expression, command, declaration, reference, abstraction, mark, State, state, control-of, values-of, environment-of, store-of, locations-of, bindings-of, live-cells}
 use Rattle.rules.specs.paper.Rules.{Rule, Effect, goes, fails, Applies}
 use Rattle.rules.specs.paper.Run.{judge, made, withheld}
 use Rattle.rules.specs.paper.Engine.{check-image, passed, start}
@@ -67,6 +67,7 @@ mark-cells (operator-mark o) X E = []
 mark-cells not-mark X E = []
 mark-cells assign-mark X E = assigned-cell E (assigned-name X)
 mark-cells loop-mark X E = []
+mark-cells conditional-mark X E = []
 mark-cells ref-mark X E = []
 mark-cells bind-mark X E = []
 mark-cells dseq-extend-mark X E = []

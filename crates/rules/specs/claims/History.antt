@@ -6,8 +6,8 @@ use mathlib.Core.Bool.{Bool, true, false, cond, _&&_, not}
 use mathlib.Core.List.{List, [], _∷_}
 use mathlib.Core.Option.{Option, none, some, Option·map}
 use lib.Dec.{eqb}
-use Rattle.rules.specs.paper.Tree.{Command, Assign, Loop, CSeq, block, Call, Block, Blk}
-use Rattle.rules.specs.paper.States.{Value, integer, truth, location, Store, Mark, operator-mark, not-mark, assign-mark, loop-mark, ref-mark, bind-mark, dseq-extend-mark, dseq-join-mark, extend-mark, leave-mark, call-mark, Item, expression, command, declaration, reference, abstraction, mark, State, state, store-of}
+use Rattle.rules.specs.paper.Tree.{Command, Assign, Loop, CSeq, block, Call, Cond, Block, Blk}
+use Rattle.rules.specs.paper.States.{Value, integer, truth, location, Store, Mark, operator-mark, not-mark, assign-mark, loop-mark, conditional-mark, ref-mark, bind-mark, dseq-extend-mark, dseq-join-mark, extend-mark, leave-mark, call-mark, Item, expression, command, declaration, reference, abstraction, mark, State, state, store-of}
 use Rattle.rules.specs.paper.Rules.{Rule, goes, Applies}
 use Rattle.rules.specs.paper.Run.{made, judge}
 
@@ -64,6 +64,7 @@ command-place (Loop p e c) = none
 command-place (CSeq p c d) = none
 command-place (block (Blk p d c)) = some p
 command-place (Call p x es) = some p
+command-place (Cond p e c₁ c₂) = none
 
 abbrev pub item-place : Item → Option ℕ
 item-place (expression e) = none
@@ -103,6 +104,7 @@ left-by-mark (operator-mark o) = none
 left-by-mark not-mark = none
 left-by-mark assign-mark = none
 left-by-mark loop-mark = none
+left-by-mark conditional-mark = none
 left-by-mark ref-mark = none
 left-by-mark bind-mark = none
 left-by-mark dseq-extend-mark = none

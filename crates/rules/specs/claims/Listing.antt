@@ -3,9 +3,9 @@ use Prim.Native.Nat.{ℕ, zero, suc, _+_, _*_}
 use mathlib.Core.Bool.{Bool, true, false}
 use mathlib.Core.List.{List, [], _∷_, _++_}
 use lib.ListN.{length}
-use Rattle.rules.specs.paper.Tree.{Expression, Num, Boo, Id, DeRef, ValRef, Binary, Not, Formal, Command, Assign, Loop, CSeq, block, Call, Block, Blk, Declaration, Bind, DSeq, Bound, plain, Ref, Abs, Root, expression, command, absent}
+use Rattle.rules.specs.paper.Tree.{Expression, Num, Boo, Id, DeRef, ValRef, Binary, Not, Formal, Command, Assign, Loop, CSeq, block, Call, Cond, Block, Blk, Declaration, Bind, DSeq, Bound, plain, Ref, Abs, Root, expression, command, absent}
 use Rattle.rules.specs.paper.Limits.{names}
-use Rattle.rules.specs.paper.Kinds.{Kind, num, boo, id, deref, valref, binary, negation, assign, loop, cseq, blk, call, bind, dseq, expression-kind, command-kind, declaration-kind, ref, abs, formal, kind-number}
+use Rattle.rules.specs.paper.Kinds.{Kind, num, boo, id, deref, valref, binary, negation, assign, loop, cseq, blk, call, conditional, bind, dseq, expression-kind, command-kind, declaration-kind, ref, abs, formal, kind-number}
 use Rattle.rules.specs.paper.Reader.{Node}
 
 abbrev pub a-node : (kind operand : ℕ) → Node
@@ -43,6 +43,7 @@ unfoldable mutual
   command-nodes (CSeq p c₁ c₂) = node-of (command-kind cseq) 0 ∷ command-nodes c₁ ++ command-nodes c₂
   command-nodes (block b) = block-nodes b
   command-nodes (Call p x es) = node-of (command-kind call) (x + names * length es) ∷ all-nodes expression-nodes es
+  command-nodes (Cond p e c₁ c₂) = node-of (command-kind conditional) 0 ∷ expression-nodes e ++ (command-nodes c₁ ++ command-nodes c₂)
 
   pub block-nodes : Block → List Node
   block-nodes (Blk p d c) = node-of (command-kind blk) 0 ∷ declaration-nodes d ++ command-nodes c

@@ -6,7 +6,7 @@ use mathlib.Core.Path.{_≡_}
 use mathlib.Core.Bool.{Bool}
 use mathlib.Core.List.{List, [], _∷_}
 use lib.ListN.{length}
-use Rattle.rules.specs.paper.Tree.{Operator, Expression, Num, Boo, Id, DeRef, ValRef, Binary, Not, Formal, Command, Assign, Loop, CSeq, block, Call, Block, Blk, Declaration, Bind, DSeq, Bound, plain, Ref, Abs, Root, expression, command, absent}
+use Rattle.rules.specs.paper.Tree.{Operator, Expression, Num, Boo, Id, DeRef, ValRef, Binary, Not, Formal, Command, Assign, Loop, CSeq, block, Call, Cond, Block, Blk, Declaration, Bind, DSeq, Bound, plain, Ref, Abs, Root, expression, command, absent}
 use Rattle.rules.specs.paper.Limits.{words, names, codes, most-parameters}
 
 pub data ShapedExpression : (depth place next : ℕ) → Expression → Type 0 where
@@ -35,6 +35,8 @@ mutual
     block-of : {d i j : ℕ} {b : Block} → ShapedBlock d i j b → ShapedCommand d i j (block b)
     call : {d i j x : ℕ} {es : List Expression} → x < names → length es ≤ most-parameters →
         Many Expression (ShapedExpression d) (suc i) j es → ShapedCommand (suc d) i j (Call i x es)
+    conditional : {d i j k l : ℕ} {e : Expression} {c₁ c₂ : Command} →
+        ShapedExpression d (suc i) j e → ShapedCommand d j k c₁ → ShapedCommand d k l c₂ → ShapedCommand (suc d) i l (Cond i e c₁ c₂)
 
   pub data ShapedBlock : (depth place next : ℕ) → Block → Type 0 where
     blk : {d i j k : ℕ} {dec : Declaration} {c : Command} → ShapedDeclaration d (suc i) j dec → ShapedCommand d j k c → ShapedBlock (suc d) i k (Blk i dec c)

@@ -5,7 +5,7 @@ use mathlib.Core.Path.{_≡_}
 use mathlib.Core.Bool.{Bool}
 use mathlib.Core.List.{List, [], _∷_, _++_}
 use mathlib.Core.Option.{Option, none, some}
-use Rattle.rules.specs.paper.Tree.{Arithmetic, Order, Logic, Operator, arithmetic, Eq, order, logic, Expression, Num, Boo, Id, DeRef, ValRef, Binary, Not, Formal, Command, Assign, Loop, CSeq, block, Call, Block, Blk, Declaration, Bind, DSeq, Bound, plain, Ref, Abs, Root, expression, command, absent}
+use Rattle.rules.specs.paper.Tree.{Arithmetic, Order, Logic, Operator, arithmetic, Eq, order, logic, Expression, Num, Boo, Id, DeRef, ValRef, Binary, Not, Formal, Command, Assign, Loop, CSeq, block, Call, Cond, Block, Blk, Declaration, Bind, DSeq, Bound, plain, Ref, Abs, Root, expression, command, absent}
 use Rattle.rules.specs.paper.Limits.{plain-codes}
 use Rattle.rules.specs.paper.Checker.{Meaning, code, function, Named, Scope, meaning-of, with-formals, Passed, expression-of-code, a-command}
 
@@ -59,6 +59,9 @@ mutual
     -- Call: name bound, a function with that count, codes equal to the Formals'.
     call : {Γ : Scope} {p x : ℕ} {es : List Expression} {fs : List Formal} →
         ActualsFit Γ es fs → meaning-of x Γ ≡ some (function fs) → CommandOk Γ (Call p x es)
+    -- Cond: its test is 1, and both commands are checked, taken or not.
+    conditional : {Γ : Scope} {p : ℕ} {e : Expression} {c₁ c₂ : Command} →
+        HasCode Γ e 1 → CommandOk Γ c₁ → CommandOk Γ c₂ → CommandOk Γ (Cond p e c₁ c₂)
 
   pub data BlockOk : Scope → Block → Type 0 where
     blk : {Γ Δ : Scope} {p : ℕ} {d : Declaration} {c : Command} → Gives Γ d Δ → CommandOk (Δ ++ Γ) c → BlockOk Γ (Blk p d c)

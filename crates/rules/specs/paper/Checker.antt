@@ -6,7 +6,7 @@ use mathlib.Core.Bool.{Bool, true, false, cond, _||_}
 use mathlib.Core.List.{List, [], _∷_, _++_}
 use mathlib.Core.Option.{Option, none, some}
 use lib.Dec.{eqb, ltb}
-use Rattle.rules.specs.paper.Tree.{Operator, arithmetic, Eq, order, logic, Expression, Num, Boo, Id, DeRef, ValRef, Binary, Not, Formal, Command, Assign, Loop, CSeq, block, Call, Block, Blk, Declaration, Bind, DSeq, Bound, plain, Ref, Abs, Root, expression, command, absent}
+use Rattle.rules.specs.paper.Tree.{Operator, arithmetic, Eq, order, logic, Expression, Num, Boo, Id, DeRef, ValRef, Binary, Not, Formal, Command, Assign, Loop, CSeq, block, Call, Cond, Block, Blk, Declaration, Bind, DSeq, Bound, plain, Ref, Abs, Root, expression, command, absent}
 use Rattle.rules.specs.paper.Limits.{plain-codes}
 use Rattle.rules.specs.paper.Refusals.{Refusal, Unbound, Mistyped, Repeated, NotAssignable, BadCall}
 
@@ -94,7 +94,7 @@ operator-code Eq p a b = equals-give p a b
 operator-code (order o) p a b = integers-give 1 p a b
 operator-code (logic o) p a b = truths-give p a b
 
--- Not: a 1 gives 1. Loop: its test is 1.
+-- Not: a 1 gives 1. Loop and Cond: the test is 1.
 abbrev pub truth-only : {A : Type 0} → (place : ℕ) → A → ℕ → Judged A
 truth-only p a zero = fault Mistyped p
 truth-only p a (suc zero) = fine a
@@ -195,6 +195,9 @@ unfoldable mutual
       called p m >>= λ fs.
       same-count p fs cs >>= λ done.
       same-codes p fs cs
+  -- Cond: both commands are checked, taken or not; its test is judged after all three children.
+  command-ok Γ (Cond p e c₁ c₂) =
+      expression-code Γ e >>= λ t. command-ok Γ c₁ >>= λ first. command-ok Γ c₂ >>= λ second. truth-only p ok t
 
   pub block-ok : Scope → Block → Judged Fine
   block-ok Γ (Blk p d c) = declaration-gives Γ d >>= λ Δ. command-ok (Δ ++ Γ) c

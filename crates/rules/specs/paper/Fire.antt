@@ -6,10 +6,10 @@ use mathlib.Core.List.{List, [], _∷_}
 use mathlib.Core.Option.{Option, none, some}
 use lib.IntN.{ℤ, pos}
 use lib.ListN.{length}
-use Rattle.rules.specs.paper.Tree.{Operator, arithmetic, Eq, order, logic, Expression, Num, Boo, Id, DeRef, ValRef, Binary, Not, Formal, Command, Assign, Loop, CSeq, block, Call, Block, Blk, Declaration, Bind, DSeq}
+use Rattle.rules.specs.paper.Tree.{Operator, arithmetic, Eq, order, logic, Expression, Num, Boo, Id, DeRef, ValRef, Binary, Not, Formal, Command, Assign, Loop, CSeq, block, Call, Cond, Block, Blk, Declaration, Bind, DSeq}
 use Rattle.rules.specs.paper.Integers.{compute, compare, equal-integers, equal-truths, combine}
-use Rattle.rules.specs.paper.States.{Value, integer, truth, location, Bindable, value, closure, Environment, empty, bound, lookup, join, Store, find, store-at, remove, Entry, bindable, name, node, environment, locations, val, Mark, operator-mark, not-mark, assign-mark, loop-mark, ref-mark, bind-mark, dseq-extend-mark, dseq-join-mark, extend-mark, leave-mark, call-mark, Item, expression, command, declaration, reference, abstraction, mark, bound-item, State, state}
-use Rattle.rules.specs.paper.Rules.{Rule, rule-Num, rule-Boo, rule-Id, rule-DeRef, rule-ValRef, rule-Binary, rule-Not, rule-Assign, rule-Loop, rule-CSeq, rule-Blk, rule-Call, rule-Bind, rule-DSeq, rule-Ref, rule-Abs, mark-arithmetic, mark-Eq, mark-order, mark-logic, mark-Not, mark-Assign, mark-Loop, mark-Ref, mark-Bind, mark-DSeq-extend, mark-DSeq-join, mark-extend, mark-leave, mark-Call, Effect, goes, pushed, equal-values, put-actuals, Matched, match-formals}
+use Rattle.rules.specs.paper.States.{Value, integer, truth, location, Bindable, value, closure, Environment, empty, bound, lookup, join, Store, find, store-at, remove, Entry, bindable, name, node, environment, locations, val, Mark, operator-mark, not-mark, assign-mark, loop-mark, conditional-mark, ref-mark, bind-mark, dseq-extend-mark, dseq-join-mark, extend-mark, leave-mark, call-mark, Item, expression, command, declaration, reference, abstraction, mark, bound-item, State, state}
+use Rattle.rules.specs.paper.Rules.{Rule, rule-Num, rule-Boo, rule-Id, rule-DeRef, rule-ValRef, rule-Binary, rule-Not, rule-Assign, rule-Loop, rule-CSeq, rule-Blk, rule-Call, rule-Cond, rule-Bind, rule-DSeq, rule-Ref, rule-Abs, mark-arithmetic, mark-Eq, mark-order, mark-logic, mark-Not, mark-Assign, mark-Loop, mark-Cond, mark-Ref, mark-Bind, mark-DSeq-extend, mark-DSeq-join, mark-extend, mark-leave, mark-Call, Effect, goes, pushed, equal-values, put-actuals, Matched, match-formals}
 
 pub data Firing : Type 0 where
   stuck : Firing
@@ -84,8 +84,31 @@ as-loop (node (Loop p e c)) = some (record { place = p; test = e; body = c })
 as-loop (node (CSeq p c d)) = none
 as-loop (node (block b)) = none
 as-loop (node (Call p x es)) = none
+as-loop (node (Cond p e c₁ c₂)) = none
 as-loop (environment E) = none
 as-loop (locations L) = none
+
+-- A Cond: its place, test and commands.
+pub record CondNode : Type 0 where
+  pub place : ℕ
+  pub test : Expression
+  pub first : Command
+  pub second : Command
+
+abbrev pub cond-node : CondNode → Command
+cond-node c = Cond (c .place) (c .test) (c .first) (c .second)
+
+abbrev pub as-cond : Entry → Option CondNode
+as-cond (bindable b) = none
+as-cond (name x) = none
+as-cond (node (Assign p x e)) = none
+as-cond (node (Loop p e c)) = none
+as-cond (node (CSeq p c d)) = none
+as-cond (node (block b)) = none
+as-cond (node (Call p x es)) = none
+as-cond (node (Cond p e c₁ c₂)) = some (record { place = p; test = e; first = c₁; second = c₂ })
+as-cond (environment E) = none
+as-cond (locations L) = none
 
 abbrev pub as-environment : Entry → Option Environment
 as-environment (bindable b) = none
@@ -135,6 +158,11 @@ abbrev pub after-test : Bool → LoopNode → List Item → List Item
 after-test true l C = command (l .body) ∷ command (loop-node l) ∷ C
 after-test false l C = C
 
+-- The command that a Cond takes where its test gave this truth.
+abbrev pub chosen : Bool → CondNode → Command
+chosen true c = c .first
+chosen false c = c .second
+
 unfoldable pub fire-expression : Expression → List Item → List Entry → Environment → Store → List ℕ → ℕ → Firing
 fire-expression (Num p k) C X E S L n = fires rule-Num (goes (state C (val (integer (pos k)) ∷ X) E S L n))
 fire-expression (Boo p b) C X E S L n = fires rule-Boo (goes (state C (val (truth b) ∷ X) E S L n))
@@ -162,6 +190,8 @@ fire-command (block (Blk p d c)) C X E S L n =
     fires rule-Blk (goes (state (declaration d ∷ mark extend-mark ∷ command c ∷ mark (leave-mark p n) ∷ C) (locations L ∷ X) E S [] n))
 fire-command (Call p x es) C X E S L n =
     fires rule-Call (goes (state (put-actuals es (mark (call-mark p x (length es)) ∷ C)) X E S L n))
+fire-command (Cond p e c₁ c₂) C X E S L n =
+    fires rule-Cond (goes (state (expression e ∷ mark conditional-mark ∷ C) (node (Cond p e c₁ c₂) ∷ X) E S L n))
 
 abbrev pub fire-declaration : Declaration → List Item → List Entry → Environment → Store → List ℕ → ℕ → Firing
 fire-declaration (Bind p x b) C X E S L n =
@@ -191,6 +221,8 @@ fire-mark assign-mark C X E S L n =
     fires mark-Assign (goes (state C Z E (store-at l v S) L n)))))))
 fire-mark loop-mark C X E S L n =
     take as-truth X (λ t Y. take as-loop Y (λ l Z. fires mark-Loop (goes (state (after-test t l C) Z E S L n))))
+fire-mark conditional-mark C X E S L n =
+    take as-truth X (λ t Y. take as-cond Y (λ c Z. fires mark-Cond (goes (state (command (chosen t c) ∷ C) Z E S L n))))
 fire-mark ref-mark C X E S L n =
     take as-value X (λ v Y.
     fires mark-Ref (goes (state C (val (location (length S)) ∷ Y) E (record { where-at = length S; contents = v } ∷ S) (length S ∷ L) n)))

@@ -15,12 +15,12 @@ pub data ExpressionKind : Type 0 where
   negation : ExpressionKind
 
 pub data CommandKind : Type 0 where
-  assign loop cseq blk call : CommandKind
+  assign loop cseq blk call conditional : CommandKind
 
 pub data DeclarationKind : Type 0 where
   bind dseq : DeclarationKind
 
--- A kind with its sort: kinds 1 to 17 are expressions, 20 to 24 commands, 30 and 31 declarations.
+-- A kind with its sort: kinds 1 to 17 are expressions, 20 to 25 commands, 30 and 31 declarations.
 pub data Kind : Type 0 where
   expression-kind : ExpressionKind → Kind
   command-kind : CommandKind → Kind
@@ -76,6 +76,7 @@ row-of (command-kind loop) = row 21 1 (these (an-expression ∷ a-command ∷ []
 row-of (command-kind cseq) = row 22 1 (these (a-command ∷ a-command ∷ []))
 row-of (command-kind blk) = row 23 1 (these (a-declaration ∷ a-command ∷ []))
 row-of (command-kind call) = row 24 (names * suc most-parameters) (counted upper-part an-expression [])
+row-of (command-kind conditional) = row 25 1 (these (an-expression ∷ a-command ∷ a-command ∷ []))
 row-of (declaration-kind bind) = row 30 names (these (a-bound ∷ []))
 row-of (declaration-kind dseq) = row 31 1 (these (a-declaration ∷ a-declaration ∷ []))
 row-of ref = row 40 1 (these (an-expression ∷ []))
@@ -138,6 +139,7 @@ is-of a-block (command-kind loop) = false
 is-of a-block (command-kind cseq) = false
 is-of a-block (command-kind blk) = true
 is-of a-block (command-kind call) = false
+is-of a-block (command-kind conditional) = false
 is-of a-block (declaration-kind k) = false
 is-of a-block ref = false
 is-of a-block abs = false
@@ -159,7 +161,7 @@ every-kind =
     expression-kind (binary (order Gt)) ∷ expression-kind (binary (order Ge)) ∷
     expression-kind (binary (logic And)) ∷ expression-kind (binary (logic Or)) ∷
     expression-kind negation ∷ expression-kind deref ∷ expression-kind valref ∷
-    command-kind assign ∷ command-kind loop ∷ command-kind cseq ∷ command-kind blk ∷ command-kind call ∷
+    command-kind assign ∷ command-kind loop ∷ command-kind cseq ∷ command-kind blk ∷ command-kind call ∷ command-kind conditional ∷
     declaration-kind bind ∷ declaration-kind dseq ∷
     ref ∷ abs ∷ formal ∷
     []

@@ -7,11 +7,11 @@ use mathlib.Core.List.{List, [], _∷_}
 use mathlib.Core.Option.{Option, none, some}
 use lib.Dec.{eqb, leb}
 use lib.ListN.{length, take, drop}
-use Rattle.rules.specs.paper.Tree.{Expression, Num, Boo, Id, DeRef, ValRef, Binary, Not, Formal, Command, Assign, Loop, CSeq, block, Call, Block, Blk, Declaration, Bind, DSeq, Bound, plain, Ref, Abs, Root, expression, command, absent}
+use Rattle.rules.specs.paper.Tree.{Expression, Num, Boo, Id, DeRef, ValRef, Binary, Not, Formal, Command, Assign, Loop, CSeq, block, Call, Cond, Block, Blk, Declaration, Bind, DSeq, Bound, plain, Ref, Abs, Root, expression, command, absent}
 use Rattle.rules.specs.paper.Refusals.{Refusal}
 use Rattle.rules.specs.paper.Refusals as Refusals
 use Rattle.rules.specs.paper.Limits.{names, most-nodes, most-registers, most-depth}
-use Rattle.rules.specs.paper.Kinds.{Kind, ExpressionKind, CommandKind, DeclarationKind, num, boo, id, deref, valref, binary, negation, assign, loop, cseq, blk, call, bind, dseq, expression-kind, command-kind, declaration-kind, ref, abs, formal, upper-part, kind-of, operand-fits}
+use Rattle.rules.specs.paper.Kinds.{Kind, ExpressionKind, CommandKind, DeclarationKind, num, boo, id, deref, valref, binary, negation, assign, loop, cseq, blk, call, conditional, bind, dseq, expression-kind, command-kind, declaration-kind, ref, abs, formal, upper-part, kind-of, operand-fits}
 
 -- A node as it stands in the image: the words of the two parallel arrays.
 pub record Node : Type 0 where
@@ -82,6 +82,7 @@ wants-blk (command-kind loop) = none
 wants-blk (command-kind cseq) = none
 wants-blk (command-kind blk) = some blk-kind
 wants-blk (command-kind call) = none
+wants-blk (command-kind conditional) = none
 wants-blk (declaration-kind k) = none
 wants-blk ref = none
 wants-blk abs = none
@@ -178,6 +179,7 @@ command-by loop p w e c d = e >>= λ a. c >>= λ b. give (Loop p a b)
 command-by cseq p w e c d = c >>= λ a. c >>= λ b. give (CSeq p a b)
 command-by blk p w e c d = d >>= λ a. c >>= λ b. give (block (Blk p a b))
 command-by call p w e c d = read-many (upper-part w) e >>= λ actuals. give (Call p (name-part w) actuals)
+command-by conditional p w e c d = e >>= λ a. c >>= λ b₁. c >>= λ b₂. give (Cond p a b₁ b₂)
 
 abbrev pub command-of : Header CommandKind → Read Expression → Read Command → Read Declaration → Read Command
 command-of h e c d = command-by (h .kind) (h .place) (h .operand) e c d

@@ -10,18 +10,18 @@ use mathlib.Core.List.{List, [], _∷_}
 use mathlib.Core.Option.{Option, none, some}
 use lib.IntN.{ℤ, pos}
 use lib.ListN.{length}
-use Rattle.rules.specs.paper.Tree.{Arithmetic, Order, Logic, Operator, arithmetic, Eq, order, logic, Expression, Num, Boo, Id, DeRef, ValRef, Binary, Not, Formal, Command, Assign, Loop, CSeq, block, Call, Block, Blk, Declaration, Bind, DSeq, Bound}
+use Rattle.rules.specs.paper.Tree.{Arithmetic, Order, Logic, Operator, arithmetic, Eq, order, logic, Expression, Num, Boo, Id, DeRef, ValRef, Binary, Not, Formal, Command, Assign, Loop, CSeq, block, Call, Cond, Block, Blk, Declaration, Bind, DSeq, Bound}
 use Rattle.rules.specs.paper.Refusals.{Reason}
 use Rattle.rules.specs.paper.Integers.{Result, number, failed, compute, compare, equal-integers, equal-truths, combine}
-use Rattle.rules.specs.paper.States.{Value, integer, truth, location, Bindable, value, closure, Environment, empty, bound, lookup, join, Store, find, store-at, remove, Entry, bindable, name, node, environment, locations, val, Mark, operator-mark, not-mark, assign-mark, loop-mark, ref-mark, bind-mark, dseq-extend-mark, dseq-join-mark, extend-mark, leave-mark, call-mark, Item, expression, command, declaration, reference, abstraction, mark, bound-item, State, state}
+use Rattle.rules.specs.paper.States.{Value, integer, truth, location, Bindable, value, closure, Environment, empty, bound, lookup, join, Store, find, store-at, remove, Entry, bindable, name, node, environment, locations, val, Mark, operator-mark, not-mark, assign-mark, loop-mark, conditional-mark, ref-mark, bind-mark, dseq-extend-mark, dseq-join-mark, extend-mark, leave-mark, call-mark, Item, expression, command, declaration, reference, abstraction, mark, bound-item, State, state}
 
 -- A rule for each kind of node, and one for each mark.
 pub data Rule : Type 0 where
   rule-Num rule-Boo rule-Id rule-DeRef rule-ValRef rule-Binary rule-Not : Rule
-  rule-Assign rule-Loop rule-CSeq rule-Blk rule-Call : Rule
+  rule-Assign rule-Loop rule-CSeq rule-Blk rule-Call rule-Cond : Rule
   rule-Bind rule-DSeq rule-Ref rule-Abs : Rule
   mark-arithmetic mark-Eq mark-order mark-logic mark-Not : Rule
-  mark-Assign mark-Loop mark-Ref mark-Bind mark-DSeq-extend mark-DSeq-join mark-extend mark-leave mark-Call : Rule
+  mark-Assign mark-Loop mark-Cond mark-Ref mark-Bind mark-DSeq-extend mark-DSeq-join mark-extend mark-leave mark-Call : Rule
 
 -- What a step comes to: the state after it, or 31 or 32, which leave none.
 pub data Effect : Type 0 where
@@ -117,6 +117,13 @@ pub data Table (C : List Item) (E : Environment) (S : Store) (L : List ℕ) (n :
       Table C E S L n mark-Loop (mark loop-mark) (val (truth true) ∷ node (Loop p e c) ∷ X) (goes (state (command c ∷ command (Loop p e c) ∷ C) X E S L n))
   loop-false : {p : ℕ} {e : Expression} {c : Command} {X : List Entry} →
       Table C E S L n mark-Loop (mark loop-mark) (val (truth false) ∷ node (Loop p e c) ∷ X) (goes (state C X E S L n))
+  -- Cond: one step pushes the Cond and runs the test; the mark pops both and puts the first command on control if true, else the second.
+  conditional : {p : ℕ} {e : Expression} {c₁ c₂ : Command} {X : List Entry} →
+      Table C E S L n rule-Cond (command (Cond p e c₁ c₂)) X (goes (state (expression e ∷ mark conditional-mark ∷ C) (node (Cond p e c₁ c₂) ∷ X) E S L n))
+  conditional-true : {p : ℕ} {e : Expression} {c₁ c₂ : Command} {X : List Entry} →
+      Table C E S L n mark-Cond (mark conditional-mark) (val (truth true) ∷ node (Cond p e c₁ c₂) ∷ X) (goes (state (command c₁ ∷ C) X E S L n))
+  conditional-false : {p : ℕ} {e : Expression} {c₁ c₂ : Command} {X : List Entry} →
+      Table C E S L n mark-Cond (mark conditional-mark) (val (truth false) ∷ node (Cond p e c₁ c₂) ∷ X) (goes (state (command c₂ ∷ C) X E S L n))
   -- CSeq: one step (002, rule 23).
   cseq : {p : ℕ} {c₁ c₂ : Command} {X : List Entry} →
       Table C E S L n rule-CSeq (command (CSeq p c₁ c₂)) X (goes (state (command c₁ ∷ command c₂ ∷ C) X E S L n))

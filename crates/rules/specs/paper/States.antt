@@ -67,7 +67,7 @@ remove L (c ∷ S) = cond (in-set (c .where-at) L) (remove L S) (c ∷ remove L 
 pub data Entry : Type 0 where
   bindable : Bindable → Entry  -- a value or a closure
   name : ℕ → Entry
-  node : Command → Entry  -- a Loop
+  node : Command → Entry  -- a Loop or a Cond
   environment : Environment → Entry
   locations : List ℕ → Entry  -- a location set
 
@@ -77,7 +77,7 @@ val v = bindable (value v)
 -- The marks: what stands on control after the children of its node.
 pub data Mark : Type 0 where
   operator-mark : Operator → Mark
-  not-mark assign-mark loop-mark ref-mark bind-mark : Mark
+  not-mark assign-mark loop-mark conditional-mark ref-mark bind-mark : Mark
   dseq-extend-mark dseq-join-mark : Mark  -- a DSeq's two, after its first declaration and after its second
   extend-mark : Mark  -- a block's, after its declaration
   leave-mark : (place bindings : ℕ) → Mark  -- where the Blk or Call at this place is left, with the live bindings to go back to

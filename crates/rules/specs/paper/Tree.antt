@@ -37,13 +37,14 @@ pub record Formal : Type 0 where
   pub code : ℕ
 
 mutual
-  -- Kinds 20 to 24.
+  -- Kinds 20 to 25.
   pub data Command : Type 0 where
     Assign : (place name : ℕ) → Expression → Command
     Loop : (place : ℕ) → Expression → Command → Command
     CSeq : (place : ℕ) → Command → Command → Command
     block : Block → Command
     Call : (place name : ℕ) → List Expression → Command
+    Cond : (place : ℕ) → Expression → (first second : Command) → Command
 
   -- Kind 23.
   pub data Block : Type 0 where

@@ -1,7 +1,7 @@
 -- command_rule: the rule by the kind.
-use Rattle.rules.specs.paper.Tree.{Assign, Loop, CSeq, block, Blk, Call}
+use Rattle.rules.specs.paper.Tree.{Assign, Loop, CSeq, block, Blk, Call, Cond}
 use Rattle.rules.specs.paper.States.{command}
-use Rattle.commands.proofs.command_laws.KindLaws.{asked, arm, assign-there, loop-there, sequence-there, block-there, call-there}
+use Rattle.commands.proofs.command_laws.KindLaws.{asked, arm, assign-there, loop-there, sequence-there, block-there, conditional-there, call-there}
 use borrow.Author.Needs.{needs}
 use Rattle.commands.proofs.nodes.command_rule.Statement.{statement}
 use Rattle.commands.proofs.nodes.command_rule.Tie as tie
@@ -9,6 +9,7 @@ use Rattle.commands.proofs.nodes.command_rule.Reads as reads
 use Rattle.commands.proofs.nodes.command_rule.Lts as lts
 use Rattle.commands.proofs.nodes.assign.Reads as assign-reads
 use Rattle.commands.proofs.nodes.call.Reads as call-reads
+use Rattle.commands.proofs.nodes.conditional.Reads as conditional-reads
 use Rattle.commands.proofs.nodes.enter_block.Reads as enter-block-reads
 use Rattle.commands.proofs.nodes.repeat.Reads as repeat-reads
 use Rattle.commands.proofs.nodes.sequence.Reads as sequence-reads
@@ -25,11 +26,17 @@ sequence-requires c κs = let start = c .before .before .before in asked command
 enter-block-requires : tie.Need-enter-block-requires
 enter-block-requires c κs = let start = c .before .before .before in asked command _ _ _ (λ d b. block (Blk _ d b)) (λ d a. block-there _ _ _ _ (start .pre .0) d a (c .before .match .keys4)) (start .pre .1)
 
+conditional-requires : tie.Need-conditional-requires
+conditional-requires c κs =
+    let start = c .before .before .before in
+    let given = asked command _ _ _ (λ e both. Cond _ e (both .0) (both .1)) (λ d a. conditional-there _ _ _ _ (start .pre .0) d a (c .before .match .keys5)) (start .pre .1) in
+    (given .0, given .1 .0, given .1 .1, given .2)
+
 call-requires : tie.Need-call-requires
 call-requires c κs =
     let start = c .before .before .before in
     let none = c .before .match .rest in
-    asked command _ _ _ (Call _) (λ d a. call-there _ _ _ _ (start .pre .0) d a (none .0 .0 .0 .1) (none .0 .0 .1) (none .0 .1) (none .1)) (start .pre .1)
+    asked command _ _ _ (Call _) (λ d a. call-there _ _ _ _ (start .pre .0) d a (none .0 .0 .0 .0 .1) (none .0 .0 .0 .1) (none .0 .0 .1) (none .0 .1) (none .1)) (start .pre .1)
 
 same-length : tie.Need-same-length
 same-length c = search needs
@@ -61,8 +68,17 @@ same-length-5 c = search needs
 returns-5 : tie.Need-returns-5
 returns-5 c =
     let start = c .before .before .before .before .before .before in
+    let steps = c .before .before .conditional .ensures in
+    arm command _ _ _ (λ e both. Cond _ e (both .0) (both .1)) (λ d a. conditional-there _ _ _ _ (start .pre .0) d a (c .before .before .before .before .match .keys5)) _ _ (λ e both. steps e (both .0) (both .1))
+
+same-length-6 : tie.Need-same-length-6
+same-length-6 c = search needs
+
+returns-6 : tie.Need-returns-6
+returns-6 c =
+    let start = c .before .before .before .before .before .before in
     let none = c .before .before .before .before .match .rest in
-    arm command _ _ _ (Call _) (λ d a. call-there _ _ _ _ (start .pre .0) d a (none .0 .0 .0 .1) (none .0 .0 .1) (none .0 .1) (none .1)) _ _ (c .before .before .call .ensures)
+    arm command _ _ _ (Call _) (λ d a. call-there _ _ _ _ (start .pre .0) d a (none .0 .0 .0 .0 .1) (none .0 .0 .0 .1) (none .0 .0 .1) (none .0 .1) (none .1)) _ _ (c .before .before .call .ensures)
 
 pub command-rule-spec : {M : Type 1} → statement M
 command-rule-spec =
@@ -72,6 +88,7 @@ command-rule-spec =
     repeat-requires
     sequence-requires
     enter-block-requires
+    conditional-requires
     call-requires
     same-length
     returns
@@ -82,4 +99,6 @@ command-rule-spec =
     same-length-4
     returns-4
     same-length-5
-    returns-5)
+    returns-5
+    same-length-6
+    returns-6)

@@ -108,6 +108,7 @@ mutual
   command-fine (Typing.block-of h) = block-fine h
   command-fine (Typing.call {Γ = Γ} {p = p} {es = es} {fs = fs} h q) =
       rw (actuals-fine Γ es fs h, q, count-fine p fs) (codes-fine p fs)
+  command-fine (Typing.conditional {Γ = Γ} {e = e} h k₁ k₂) = rw (expression-fine Γ e 1 h, command-fine k₁, command-fine k₂)
 
   pub block-fine : {Γ : Scope} {b : Block} → BlockOk Γ b → block-ok Γ b ≡ fine ok
   block-fine (Typing.blk h k) = rw (declaration-fine h) (command-fine k)

@@ -7,7 +7,7 @@ use mathlib.Core.Option.{Option, none, some}
 use native.Mathlib.Omega.{arith}
 use lib.Dec.{T, eqb, ltb, eqb→eq, eqb-refl, ltb→lt}
 use Rattle.rules.specs.proofs.Basics.{failed-test, or-left, or-right, passed-test}
-use Rattle.rules.specs.paper.Tree.{Operator, arithmetic, Eq, order, logic, Expression, Num, Boo, Id, DeRef, ValRef, Binary, Not, Formal, Command, Assign, Loop, CSeq, block, Call, Block, Blk, Declaration, Bind, DSeq, Bound, plain, Ref, Abs}
+use Rattle.rules.specs.paper.Tree.{Operator, arithmetic, Eq, order, logic, Expression, Num, Boo, Id, DeRef, ValRef, Binary, Not, Formal, Command, Assign, Loop, CSeq, block, Call, Cond, Block, Blk, Declaration, Bind, DSeq, Bound, plain, Ref, Abs}
 use Rattle.rules.specs.paper.Limits.{plain-codes}
 use Rattle.rules.specs.paper.Checker.{Meaning, code, function, Named, Scope, meaning-of, Judged, fault, fine, _>>=_, bound-name, id-code, deref-code, valref-code, operator-code, truth-only, expression-code, assignable, Fine, ok, same-code, expression-codes, called, same-count, same-codes, has-name, shares-name, distinct, with-formals, ref-code, command-ok, block-ok, declaration-gives, bound-means}
 use Rattle.rules.specs.claims.Typing.{HasCode, ActualsFit, no-actuals, actual, Declares, here, there, Distinct, CommandOk, BlockOk, Gives, Means}
@@ -217,6 +217,11 @@ mutual
       bind-satisfies (HaveCodes Γ es) _ (expression-codes Γ es) _ (expressions-satisfy Γ es) (λ cs h.
       bind-satisfies (λ m. meaning-of x Γ ≡ some m) _ (bound-name p (meaning-of x Γ)) _ (bound-satisfies p (meaning-of x Γ)) (λ m q.
       call-satisfies Γ p x es cs m h q))
+  command-satisfies (Cond p e c₁ c₂) Γ =
+      bind-satisfies (HasCode Γ e) _ (expression-code Γ e) _ (expression-satisfies Γ e) (λ t h.
+      bind-satisfies (λ done. CommandOk Γ c₁) _ (command-ok Γ c₁) _ (command-satisfies c₁ Γ) (λ first k₁.
+      bind-satisfies (λ done. CommandOk Γ c₂) _ (command-ok Γ c₂) _ (command-satisfies c₂ Γ) (λ second k₂.
+      truth-satisfies Γ (λ done. CommandOk Γ (Cond p e c₁ c₂)) p ok e t (λ h₁. Typing.conditional h₁ k₁ k₂) h)))
 
   pub block-satisfies : (b : Block) (Γ : Scope) → Satisfies (λ done. BlockOk Γ b) (block-ok Γ b)
   block-satisfies (Blk p d c) Γ =

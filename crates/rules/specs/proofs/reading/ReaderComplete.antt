@@ -10,7 +10,7 @@ use lib.ListN.{length}
 use Rattle.rules.specs.proofs.Basics.{append-assoc, append-nothing, true-test}
 use Rattle.rules.specs.paper.Tree.{Operator, arithmetic, Eq, order, logic, Sum, Sub, Mul, Div, Lt, Le, Gt, Ge, And, Or, Expression, Boo, Formal, Command, block, Block, Declaration, Bound, plain, Root, expression, command}
 use Rattle.rules.specs.paper.Limits.{words, names, codes, most-parameters, most-depth}
-use Rattle.rules.specs.paper.Kinds.{Kind, ExpressionKind, CommandKind, DeclarationKind, num, boo, id, deref, valref, binary, negation, assign, loop, cseq, blk, call, bind, dseq, expression-kind, command-kind, declaration-kind, ref, abs, formal, kind-of, operand-fits, operator-number, upper-part, kind-number}
+use Rattle.rules.specs.paper.Kinds.{Kind, ExpressionKind, CommandKind, DeclarationKind, num, boo, id, deref, valref, binary, negation, assign, loop, cseq, blk, call, conditional, bind, dseq, expression-kind, command-kind, declaration-kind, ref, abs, formal, kind-of, operand-fits, operator-number, upper-part, kind-number}
 use Rattle.rules.specs.paper.Reader.{Node, Got, refused, got, Read, then, _>>=_, give, Header, node, wants-expression, wants-command, wants-declaration, wants-blk, wants-bound, wants-formal, wants-root, read-expression, read-many, read-formal, read-command, read-block, read-declaration, read-bound, read-root, read-routine, name-part, expression-by, command-by, blk-kind, plain-kind, root-expression, root-command}
 use Rattle.rules.specs.claims.Listing.{a-node, truth-word, expression-nodes, formal-nodes, all-nodes, command-nodes, block-nodes, declaration-nodes, bound-nodes, root-nodes}
 use Rattle.rules.specs.claims.Shape.{ShapedExpression, ShapedFormal, Many, none-left, one-more, ShapedCommand, ShapedBlock, ShapedDeclaration, ShapedBound, ShapedRoot}
@@ -45,6 +45,7 @@ kind-known (command-kind loop) = refl
 kind-known (command-kind cseq) = refl
 kind-known (command-kind blk) = refl
 kind-known (command-kind call) = refl
+kind-known (command-kind conditional) = refl
 kind-known (declaration-kind bind) = refl
 kind-known (declaration-kind dseq) = refl
 kind-known ref = refl
@@ -168,6 +169,10 @@ blk-fits : T (operand-fits (command-kind blk) 0)
 unfolding operand-fits
 blk-fits = tt
 
+conditional-fits : T (operand-fits (command-kind conditional) 0)
+unfolding operand-fits
+conditional-fits = tt
+
 dseq-fits : T (operand-fits (declaration-kind dseq) 0)
 unfolding operand-fits
 dseq-fits = tt
@@ -256,6 +261,25 @@ mutual
               name-back x (length es) h,
               upper-back x (length es) h,
               many-read (ShapedExpression d) (read-expression d) expression-nodes (λ k l e more s. expression-read s more) (suc i) j es rest m,
+            );
+      }
+  opened-command (Shape.conditional {d = d} {j = j} {k = k} {l = l} {e = e} {c₁ = c₁} {c₂ = c₂} h g f) rest =
+      record {
+        levels = d;
+        deep = refl;
+        kind = conditional;
+        operand = 0;
+        children = expression-nodes e ++ (command-nodes c₁ ++ (command-nodes c₂ ++ rest));
+        listed =
+            ap {B = List Node} (λ r. a-node 25 0 ∷ r)
+            (append-assoc (expression-nodes e) (command-nodes c₁ ++ command-nodes c₂) rest
+            ∙ ap (λ r. expression-nodes e ++ r) (append-assoc (command-nodes c₁) (command-nodes c₂) rest));
+        fits = conditional-fits;
+        reads =
+            rw (
+              expression-read h (command-nodes c₁ ++ (command-nodes c₂ ++ rest)),
+              opened-command-read d j k c₁ (command-nodes c₁) (command-nodes c₂ ++ rest) (opened-command g (command-nodes c₂ ++ rest)),
+              opened-command-read d k l c₂ (command-nodes c₂) rest (opened-command f rest),
             );
       }
 

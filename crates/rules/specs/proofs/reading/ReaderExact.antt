@@ -60,6 +60,9 @@ mutual
   command-counted (Shape.block-of h) = block-counted h
   command-counted (Shape.call {d = d} {i = i} {j = j} {es = es} h g m) =
       omega (arith, many-counted (ShapedExpression d) expression-nodes (expression-counted d) (suc i) j es m)
+  command-counted (Shape.conditional {d = d} {i = i} {j = j} {k = k} {l = l} {e = e} {c₁ = c₁} {c₂ = c₂} h g f) =
+      counted-two i j l (expression-nodes e) (command-nodes c₁ ++ command-nodes c₂) (expression-counted d (suc i) j e h)
+      (omega (arith, length-append (command-nodes c₁) (command-nodes c₂), command-counted g, command-counted f))
 
   block-counted : {d i j : ℕ} {b : Block} → ShapedBlock d i j b → j ≡ i + length (block-nodes b)
   block-counted (Shape.blk {i = i} {j = j} {k = k} {dec = d} {c = c} h g) =

@@ -7,7 +7,7 @@ use mathlib.Core.Option.{Option, none, some, Option·some-injective}
 use lib.Dec.{T, eqb, eqb→eq}
 use Rattle.rules.specs.proofs.Basics.{missing, passed-test}
 use Rattle.rules.specs.paper.Refusals.{Refusal}
-use Rattle.rules.specs.paper.Kinds.{Kind, ExpressionKind, CommandKind, DeclarationKind, assign, loop, cseq, blk, call, expression-kind, command-kind, declaration-kind, ref, abs, formal, kind-number, every-kind, kind-in, kind-of, operand-fits}
+use Rattle.rules.specs.paper.Kinds.{Kind, ExpressionKind, CommandKind, DeclarationKind, assign, loop, cseq, blk, call, conditional, expression-kind, command-kind, declaration-kind, ref, abs, formal, kind-number, every-kind, kind-in, kind-of, operand-fits}
 use Rattle.rules.specs.paper.Reader.{Node, Got, refused, got, Read, then, Header, node, wants-expression, wants-command, wants-declaration, BlkKind, wants-blk, BoundKind, plain-kind, ref-kind, abs-kind, wants-bound, FormalKind, wants-formal, RootKind, root-expression, root-command, wants-root, or-refuse}
 use Rattle.rules.specs.claims.Listing.{a-node}
 
@@ -92,6 +92,7 @@ is-blk (command-kind loop) s q = missing q
 is-blk (command-kind cseq) s q = missing q
 is-blk (command-kind blk) s q = refl
 is-blk (command-kind call) s q = missing q
+is-blk (command-kind conditional) s q = missing q
 is-blk (declaration-kind d) s q = missing q
 is-blk ref s q = missing q
 is-blk abs s q = missing q

@@ -8,7 +8,7 @@ use lib.ListN.{length}
 use Rattle.rules.specs.proofs.Basics.{append-assoc}
 use Rattle.rules.specs.paper.Tree.{Expression, Formal, Command, Block, Blk, Declaration, Bound, Root}
 use Rattle.rules.specs.paper.Limits.{words, names, codes, most-parameters, most-depth}
-use Rattle.rules.specs.paper.Kinds.{ExpressionKind, CommandKind, DeclarationKind, num, boo, id, deref, valref, binary, negation, assign, loop, cseq, blk, call, bind, dseq, expression-kind, command-kind, declaration-kind, ref, abs, formal, operand-fits, operator-number, kind-number, upper-part}
+use Rattle.rules.specs.paper.Kinds.{ExpressionKind, CommandKind, DeclarationKind, num, boo, id, deref, valref, binary, negation, assign, loop, cseq, blk, call, conditional, bind, dseq, expression-kind, command-kind, declaration-kind, ref, abs, formal, operand-fits, operator-number, kind-number, upper-part}
 use Rattle.rules.specs.paper.Reader.{Node, Read, then, _>>=_, give, node, wants-expression, wants-command, wants-declaration, wants-blk, BoundKind, plain-kind, ref-kind, abs-kind, wants-bound, wants-formal, RootKind, root-expression, root-command, wants-root, name-part, expression-by, command-by, declaration-by, bound-by, root-by, read-expression, read-many, read-formal, read-command, read-block, read-declaration, read-bound, read-root, read-routine}
 use Rattle.rules.specs.claims.Listing.{a-node, truth-word, expression-nodes, formal-nodes, all-nodes, command-nodes, block-nodes, declaration-nodes, bound-nodes, root-nodes}
 use Rattle.rules.specs.claims.Shape.{ShapedExpression, ShapedFormal, Many, none-left, one-more, ShapedCommand, ShapedBlock, ShapedDeclaration, ShapedBound, ShapedRoot}
@@ -17,13 +17,16 @@ use Rattle.rules.specs.proofs.reading.ReaderNodes.{Answers, then-answers
 
 -- ---- What was read, as a listing.
 
+-- two, one after the other
+both-listed : (A B ns r s : List Node) → ns ≡ A ++ r → r ≡ B ++ s → ns ≡ (A ++ B) ++ s
+both-listed A B ns r s a b = a ∙ ap (λ x. A ++ x) b ∙ sym (append-assoc A B s)
+
 -- a node with operand 0 and one child; and with two
 listed-one : (k w : ℕ) (ns rest A r : List Node) → ns ≡ a-node k w ∷ rest → w ≡ 0 → rest ≡ A ++ r → ns ≡ a-node k 0 ∷ A ++ r
 listed-one k w ns rest A r q z a = q ∙ ap {B = List Node} (λ x. a-node k x ∷ rest) z ∙ ap {B = List Node} (λ x. a-node k 0 ∷ x) a
 
 listed-two : (k w : ℕ) (ns rest A B r s : List Node) → ns ≡ a-node k w ∷ rest → w ≡ 0 → rest ≡ A ++ r → r ≡ B ++ s → ns ≡ (a-node k 0 ∷ A ++ B) ++ s
-listed-two k w ns rest A B r s q z a b =
-    listed-one k w ns rest A r q z a ∙ ap {B = List Node} (λ x. a-node k 0 ∷ x) (ap (λ x. A ++ x) b ∙ sym (append-assoc A B s))
+listed-two k w ns rest A B r s q z a b = listed-one k w ns rest (A ++ B) s q z (both-listed A B rest r s a b)
 
 zero-word : (w : ℕ) → T (ltb w 1) → w ≡ 0
 zero-word w t = omega (arith, ltb→lt w 1 t)
@@ -94,7 +97,7 @@ many-answers Shaped nodes one each zero i ns = (refl, none-left, refl)
 many-answers Shaped nodes one each (suc n) i ns =
     then-answers (λ a j rest. Shaped i j a × (ns ≡ nodes a ++ rest)) _ (one i ns) _ (each i ns) (λ a j r h.
     then-answers (ManyRead Shaped nodes n j r) _ (read-many n one j r) _ (many-answers Shaped nodes one each n j r) (λ more k s g.
-    (ap suc (g .0), one-more (h .0) (g .1), h .1 ∙ ap (λ x. nodes a ++ x) (g .2) ∙ sym (append-assoc (nodes a) (all-nodes nodes more) s))))
+    (ap suc (g .0), one-more (h .0) (g .1), both-listed (nodes a) (all-nodes nodes more) ns r s (h .1) (g .2))))
 
 abbrev CommandRead : (d i : ℕ) → List Node → Command → ℕ → List Node → Type 0
 CommandRead d i ns c j rest = ShapedCommand d i j c × (ns ≡ command-nodes c ++ rest)
@@ -149,6 +152,14 @@ module _ (d : ℕ)
         q ∙ ap {B = List Node} (λ x. a-node 24 x ∷ rest) (parts w ∙ ap (λ k. name-part w + names * k) (sym (h .0)))
             ∙ ap {B = List Node} (λ x. a-node 24 (name-part w + names * length es) ∷ x) (h .2),
       ))
+  command-by-answers i ns conditional w rest t q =
+      then-answers (ExpressionRead d (suc i) rest) _ (read-expression d (suc i) rest) _ (expression-answers d (suc i) rest) (λ e j r h.
+      then-answers (CommandRead d j r) _ (read-command d j r) _ (commands j r) (λ c₁ k s g.
+      then-answers (CommandRead d k s) _ (read-command d k s) _ (commands k s) (λ c₂ l u f. (
+        Shape.conditional (h .0) (g .0) (f .0),
+        listed-two 25 w ns rest (expression-nodes e) (command-nodes c₁ ++ command-nodes c₂) r u q (zero-word w t) (h .1)
+            (both-listed (command-nodes c₁) (command-nodes c₂) r s u (g .1) (f .1)),
+      ))))
 
   block-by-answers : (i : ℕ) (ns : List Node) (w : ℕ) (rest : List Node) →
       T (operand-fits (command-kind blk) w) → ns ≡ a-node 23 w ∷ rest →
@@ -191,7 +202,7 @@ bound-by-answers d blocks i ns abs-kind w rest t q =
     then-answers (BlockRead d j r) _ (read-block d j r) _ (blocks j r) (λ b k s g. (
       Shape.abs (subst (λ c. c ≤ most-parameters) (sym (h .0)) (few w t)) (h .1) (g .0),
       q ∙ ap {B = List Node} (λ x. a-node 41 x ∷ rest) (sym (h .0))
-          ∙ ap {B = List Node} (λ x. a-node 41 (length fs) ∷ x) (h .2 ∙ ap (λ x. all-nodes formal-nodes fs ++ x) (g .1) ∙ sym (append-assoc (all-nodes formal-nodes fs) (block-nodes b) s)),
+          ∙ ap {B = List Node} (λ x. a-node 41 (length fs) ∷ x) (both-listed (all-nodes formal-nodes fs) (block-nodes b) rest r s (h .2) (g .1)),
     )))
 
 mutual

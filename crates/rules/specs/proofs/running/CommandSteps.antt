@@ -14,7 +14,7 @@ use Rattle.rules.specs.paper.Rules as Rules
 use Rattle.rules.specs.claims.History.{History}
 use Rattle.rules.specs.proofs.running.World.{World, SmallExpression, SmallActuals, SmallCommand, SmallBlock, SmallDeclaration, SmallBound, EnvironmentTyped, closure-typed}
 use Rattle.rules.specs.proofs.running.Stores.{StoreTyped, world-made, same}
-use Rattle.rules.specs.proofs.running.Continuation.{StackShape, value-of, name-of, declared, calling, opened, actuals, Declaring, in-block, past-name, past-saved, ControlTyped, expression-typed, command-typed, declaration-typed, reference-typed, abstraction-typed, assign-mark-typed, loop-mark-typed, ref-mark-typed, bind-mark-typed, dseq-extend-mark-typed, dseq-join-mark-typed, extend-mark-typed, leave-mark-typed, call-mark-typed, ValuesTyped, value-on, name-on, loop-on, calling-on, opened-on, open-states}
+use Rattle.rules.specs.proofs.running.Continuation.{StackShape, value-of, name-of, declared, calling, opened, actuals, Declaring, in-block, past-name, past-saved, ControlTyped, expression-typed, command-typed, declaration-typed, reference-typed, abstraction-typed, assign-mark-typed, loop-mark-typed, conditional-mark-typed, ref-mark-typed, bind-mark-typed, dseq-extend-mark-typed, dseq-join-mark-typed, extend-mark-typed, leave-mark-typed, call-mark-typed, ValuesTyped, value-on, name-on, testing-on, calling-on, opened-on, open-states}
 use Rattle.rules.specs.proofs.running.Progress.{Progress, same-store, opening-step}
 
 -- The actuals, put on control last on top.
@@ -46,7 +46,7 @@ module _ (a : Passed) (r : ℕ) (C : List Item) (X : List Entry) (E : Environmen
       same-store Rules.rule-Assign refl refl Rules.assign names cells types pending (expression-typed g s (assign-mark-typed l q k)) (name-on values) (λ M m. tt)
   command-step c (Typing.loop g d) s k =
       same-store Rules.rule-Loop refl refl Rules.loop names cells types pending
-      (expression-typed g (s .0) (loop-mark-typed g (s .0) d (s .1) k)) (loop-on values) (λ M m. tt)
+      (expression-typed g (s .0) (loop-mark-typed g (s .0) d (s .1) k)) (testing-on values) (λ M m. tt)
   command-step c (Typing.cseq d₁ d₂) s k =
       same-store Rules.rule-CSeq refl refl Rules.cseq names cells types pending (command-typed d₁ (s .0) (command-typed d₂ (s .1) k)) values (λ M m. tt)
   command-step c (Typing.block-of {b = b} d) s k = block-step b d s k
@@ -54,6 +54,9 @@ module _ (a : Passed) (r : ℕ) (C : List Item) (X : List Entry) (E : Environmen
       opening-step p Rules.rule-Call refl refl Rules.call names cells types pending
       (put-actuals-typed g s (call-mark-typed q (same-count g) refl k))
       (λ entered. calling-on entered values) (λ M. tt)
+  command-step c (Typing.conditional g d₁ d₂) s k =
+      same-store Rules.rule-Cond refl refl Rules.conditional names cells types pending
+      (expression-typed g (s .0) (conditional-mark-typed d₁ (s .1) d₂ (s .2) k)) (testing-on values) (λ M m. tt)
 
   -- What a Bind binds goes on control, and leaves a value or closure of its meaning.
   bound-control : (b : Bound) (m : Meaning) {Φ : StackShape} → Means Γ b m → SmallBound b → Declaring Φ → (D : List Item) → ControlTyped a D Γ (value-of m Φ) → ControlTyped a (bound-item b ∷ D) Γ Φ

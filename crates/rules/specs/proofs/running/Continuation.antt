@@ -6,10 +6,10 @@ use mathlib.Core.Bool.{Bool, true, false, cond, _&&_, not}
 use mathlib.Core.List.{List, [], _∷_, _++_}
 use mathlib.Core.Option.{Option, none, some}
 use lib.ListN.{length}
-use Rattle.rules.specs.paper.Tree.{Operator, Arithmetic, Order, Logic, arithmetic, Eq, order, logic, Expression, Formal, Command, Loop, Block, Declaration}
+use Rattle.rules.specs.paper.Tree.{Operator, Arithmetic, Order, Logic, arithmetic, Eq, order, logic, Expression, Formal, Command, Loop, Cond, Block, Declaration}
 use Rattle.rules.specs.paper.Checker.{Meaning, code, function, Scope, meaning-of, with-formals, Passed, expression-of-code, a-command}
 use Rattle.rules.specs.claims.Typing.{HasCode, CommandOk, BlockOk, Gives}
-use Rattle.rules.specs.paper.States.{Bindable, Environment, Entry, bindable, name, node, environment, locations, operator-mark, not-mark, assign-mark, loop-mark, ref-mark, bind-mark, dseq-extend-mark, dseq-join-mark, extend-mark, leave-mark, call-mark, Item, expression, command, declaration, reference, abstraction, mark, State, control-of, values-of, environment-of, store-of, locations-of, live-cells}
+use Rattle.rules.specs.paper.States.{Bindable, Environment, Entry, bindable, name, node, environment, locations, operator-mark, not-mark, assign-mark, loop-mark, conditional-mark, ref-mark, bind-mark, dseq-extend-mark, dseq-join-mark, extend-mark, leave-mark, call-mark, Item, expression, command, declaration, reference, abstraction, mark, State, control-of, values-of, environment-of, store-of, locations-of, live-cells}
 use Rattle.rules.specs.claims.History.{Earlier, History, node-on-top}
 use Rattle.rules.specs.proofs.running.World.{World, SmallExpression, SmallCommand, SmallBlock, SmallDeclaration, EnvironmentTyped, BindableTyped}
 use Rattle.rules.specs.proofs.running.Stores.{StoreTyped, Grown, world-cells, world-made}
@@ -19,7 +19,7 @@ pub data StackShape : Type 0 where
   end : StackShape
   value-of : Meaning → StackShape → StackShape  -- a value or closure of this meaning
   name-of : ℕ → StackShape → StackShape  -- this name
-  loop-of : (place : ℕ) → Expression → Command → StackShape → StackShape
+  testing : Command → StackShape → StackShape  -- this Loop or Cond, whose test runs
   declared : Scope → StackShape → StackShape  -- the environment of a finished declaration
   saved : (first outer : Scope) → StackShape → StackShape  -- the first environment of a DSeq on E as it was, while its second declaration runs
   calling : (place : ℕ) → StackShape → StackShape  -- no entry: the actuals of this Call run
@@ -68,7 +68,10 @@ pub data ControlTyped (a : Passed) : List Item → Scope → StackShape → Type
   assign-mark-typed : {x c : ℕ} {C : List Item} {Γ : Scope} {Θ : StackShape} →
       c < 2 → meaning-of x Γ ≡ some (code (suc (suc c))) → ControlTyped a C Γ Θ → ControlTyped a (mark assign-mark ∷ C) Γ (value-of (code c) (name-of x Θ))
   loop-mark-typed : {p : ℕ} {e : Expression} {c : Command} {C : List Item} {Γ : Scope} {Θ : StackShape} →
-      HasCode Γ e 1 → SmallExpression e → CommandOk Γ c → SmallCommand c → ControlTyped a C Γ Θ → ControlTyped a (mark loop-mark ∷ C) Γ (value-of (code 1) (loop-of p e c Θ))
+      HasCode Γ e 1 → SmallExpression e → CommandOk Γ c → SmallCommand c → ControlTyped a C Γ Θ → ControlTyped a (mark loop-mark ∷ C) Γ (value-of (code 1) (testing (Loop p e c) Θ))
+  conditional-mark-typed : {p : ℕ} {e : Expression} {c₁ c₂ : Command} {C : List Item} {Γ : Scope} {Θ : StackShape} →
+      CommandOk Γ c₁ → SmallCommand c₁ → CommandOk Γ c₂ → SmallCommand c₂ → ControlTyped a C Γ Θ →
+      ControlTyped a (mark conditional-mark ∷ C) Γ (value-of (code 1) (testing (Cond p e c₁ c₂) Θ))
   ref-mark-typed : {c : ℕ} {C : List Item} {Γ : Scope} {Θ : StackShape} →
       Declaring Θ → ControlTyped a C Γ (value-of (code (suc (suc c))) Θ) → ControlTyped a (mark ref-mark ∷ C) Γ (value-of (code c) Θ)
   bind-mark-typed : {x : ℕ} {m : Meaning} {C : List Item} {Γ : Scope} {Θ : StackShape} →
@@ -104,8 +107,8 @@ pub data ValuesTyped (r : ℕ) : Environment → World → List ℕ → List Ent
       BindableTyped W b m → ValuesTyped r E W L X Θ P → ValuesTyped r E W L (bindable b ∷ X) (value-of m Θ) P
   name-on : {E : Environment} {W : World} {L : List ℕ} {X : List Entry} {Θ : StackShape} {P : List State} {x : ℕ} →
       ValuesTyped r E W L X Θ P → ValuesTyped r E W L (name x ∷ X) (name-of x Θ) P
-  loop-on : {E : Environment} {W : World} {L : List ℕ} {X : List Entry} {Θ : StackShape} {P : List State} {p : ℕ} {e : Expression} {c : Command} →
-      ValuesTyped r E W L X Θ P → ValuesTyped r E W L (node (Loop p e c) ∷ X) (loop-of p e c Θ) P
+  testing-on : {E : Environment} {W : World} {L : List ℕ} {X : List Entry} {Θ : StackShape} {P : List State} {c : Command} →
+      ValuesTyped r E W L X Θ P → ValuesTyped r E W L (node c ∷ X) (testing c Θ) P
   declared-on : {E D : Environment} {W : World} {L : List ℕ} {X : List Entry} {Θ : StackShape} {P : List State} {Δ : Scope} →
       EnvironmentTyped W D Δ → ValuesTyped r E W L X Θ P → ValuesTyped r E W L (environment D ∷ X) (declared Δ Θ) P
   saved-on : {E D F : Environment} {W : World} {L : List ℕ} {X : List Entry} {Θ : StackShape} {P : List State} {Δ Γ : Scope} →

@@ -8,12 +8,12 @@ use mathlib.Core.Option.{Option, none, some, Option·none-ne-some, Option·some-
 use lib.IntN.{ℤ, pos}
 use lib.ListN.{length}
 use Rattle.rules.specs.proofs.Basics.{missing}
-use Rattle.rules.specs.paper.Tree.{Operator, arithmetic, Eq, order, logic, Expression, Num, Boo, Id, DeRef, ValRef, Binary, Not, Formal, Command, Assign, Loop, CSeq, block, Call, Block, Blk, Declaration, Bind, DSeq}
+use Rattle.rules.specs.paper.Tree.{Operator, arithmetic, Eq, order, logic, Expression, Num, Boo, Id, DeRef, ValRef, Binary, Not, Formal, Command, Assign, Loop, CSeq, block, Call, Cond, Block, Blk, Declaration, Bind, DSeq}
 use Rattle.rules.specs.paper.Integers.{compute, compare, combine}
-use Rattle.rules.specs.paper.States.{Value, integer, truth, location, Bindable, value, closure, Environment, lookup, Store, find, Entry, bindable, name, node, environment, locations, val, Mark, operator-mark, not-mark, assign-mark, loop-mark, ref-mark, bind-mark, dseq-extend-mark, dseq-join-mark, extend-mark, leave-mark, call-mark, Item, expression, command, declaration, reference, abstraction, mark, State, state}
+use Rattle.rules.specs.paper.States.{Value, integer, truth, location, Bindable, value, closure, Environment, lookup, Store, find, Entry, bindable, name, node, environment, locations, val, Mark, operator-mark, not-mark, assign-mark, loop-mark, conditional-mark, ref-mark, bind-mark, dseq-extend-mark, dseq-join-mark, extend-mark, leave-mark, call-mark, Item, expression, command, declaration, reference, abstraction, mark, State, state}
 use Rattle.rules.specs.paper.Rules.{Rule, Effect, goes, pushed, equal-values, Matched, match-formals, Table, Applies}
 use Rattle.rules.specs.paper.Rules as Rules
-use Rattle.rules.specs.paper.Fire.{Firing, stuck, fires, given, take, as-bindable, as-value, as-integer, as-truth, as-name, LoopNode, loop-node, as-loop, as-environment, as-locations, bound-value, as-location, bound-location, Closure, bound-closure, id-value, after-test, fire-expression, fire-command, fire-declaration, fire-operator, fire-mark, fire-item, fire}
+use Rattle.rules.specs.paper.Fire.{Firing, stuck, fires, given, take, as-bindable, as-value, as-integer, as-truth, as-name, LoopNode, loop-node, as-loop, CondNode, cond-node, as-cond, as-environment, as-locations, bound-value, as-location, bound-location, Closure, bound-closure, id-value, after-test, chosen, fire-expression, fire-command, fire-declaration, fire-operator, fire-mark, fire-item, fire}
 
 -- ---- Each entry that a rule takes is of the form that its sort says.
 
@@ -67,8 +67,21 @@ is-loop (node (Loop p e c)) l q = ap (λ k. node (loop-node k)) (Option·some-in
 is-loop (node (CSeq p c d)) l q = missing q
 is-loop (node (block b)) l q = missing q
 is-loop (node (Call p x es)) l q = missing q
+is-loop (node (Cond p e c₁ c₂)) l q = missing q
 is-loop (environment E) l q = missing q
 is-loop (locations L) l q = missing q
+
+is-cond : (e : Entry) (c : CondNode) → as-cond e ≡ some c → e ≡ node (cond-node c)
+is-cond (bindable b) c q = missing q
+is-cond (name x) c q = missing q
+is-cond (node (Assign p x e)) c q = missing q
+is-cond (node (Loop p e d)) c q = missing q
+is-cond (node (CSeq p d₁ d₂)) c q = missing q
+is-cond (node (block b)) c q = missing q
+is-cond (node (Call p x es)) c q = missing q
+is-cond (node (Cond p e d₁ d₂)) c q = ap (λ k. node (cond-node k)) (Option·some-injective (record { place = p; test = e; first = d₁; second = d₂ }) c q)
+is-cond (environment E) c q = missing q
+is-cond (locations L) c q = missing q
 
 is-environment : (e : Entry) (E : Environment) → as-environment e ≡ some E → e ≡ environment E
 is-environment (bindable b) E q = missing q
@@ -185,6 +198,7 @@ module _ (C : List Item) (E : Environment) (S : Store) (L : List ℕ) (n : ℕ) 
   command-sound (CSeq p c₁ c₂) X = Rules.cseq
   command-sound (block (Blk p d c)) X = Rules.blk
   command-sound (Call p x es) X = Rules.call
+  command-sound (Cond p e c₁ c₂) X = Rules.conditional
 
   declaration-sound : (d : Declaration) (X : List Entry) → At (declaration d) X (fire-declaration d C X E S L n)
   declaration-sound (Bind p x b) X = Rules.bind
@@ -210,6 +224,11 @@ module _ (C : List Item) (E : Environment) (S : Store) (L : List ℕ) (n : ℕ) 
   loop-sound true l X = Rules.loop-true
   loop-sound false l X = Rules.loop-false
 
+  conditional-sound : (t : Bool) (c : CondNode) (X : List Entry) →
+      Table C E S L n Rules.mark-Cond (mark conditional-mark) (val (truth t) ∷ node (cond-node c) ∷ X) (goes (state (command (chosen t c) ∷ C) X E S L n))
+  conditional-sound true c X = Rules.conditional-true
+  conditional-sound false c X = Rules.conditional-false
+
   mark-sound : (m : Mark) (X : List Entry) → At (mark m) X (fire-mark m C X E S L n)
   unfolding fire-mark
   mark-sound (operator-mark o) X = operator-sound o X
@@ -222,6 +241,8 @@ module _ (C : List Item) (E : Environment) (S : Store) (L : List ℕ) (n : ℕ) 
       Rules.assign-at (located x l b q r) t))))
   mark-sound loop-mark X =
       takes-two as-truth _ is-truth as-loop _ is-loop (At (mark loop-mark)) (λ Y. tt) X _ (λ t l Y. loop-sound t l Y)
+  mark-sound conditional-mark X =
+      takes-two as-truth _ is-truth as-cond _ is-cond (At (mark conditional-mark)) (λ Y. tt) X _ (λ t c Y. conditional-sound t c Y)
   mark-sound ref-mark X = take-sound as-value _ is-value (At (mark ref-mark)) (λ Y. tt) X _ (λ v Y. Rules.ref-at)
   mark-sound bind-mark X =
       takes-two as-bindable _ is-bindable as-name _ is-name (At (mark bind-mark)) (λ Y. tt) X _ (λ b x Y. Rules.bind-at)
@@ -277,6 +298,9 @@ module _ (C : List Item) (E : Environment) (S : Store) (L : List ℕ) (n : ℕ) 
   line-fires r i X e Rules.loop = refl
   line-fires r i X e Rules.loop-true = refl
   line-fires r i X e Rules.loop-false = refl
+  line-fires r i X e Rules.conditional = refl
+  line-fires r i X e Rules.conditional-true = refl
+  line-fires r i X e Rules.conditional-false = refl
   line-fires r i X e Rules.cseq = refl
   line-fires r i X e Rules.ref = refl
   line-fires r i X e Rules.ref-at = refl

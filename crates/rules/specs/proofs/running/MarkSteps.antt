@@ -10,19 +10,19 @@ use lib.IntN.{ℤ, pos, negsuc, _+ℤ_, _-ℤ_, _*ℤ_}
 use lib.ListN.{length}
 use lib.Signed.{quotZ}
 use Rattle.rules.specs.proofs.Basics.{passed-test}
-use Rattle.rules.specs.paper.Tree.{Arithmetic, Sum, Sub, Mul, Div, Operator, arithmetic, Eq, order, logic, Expression, Command}
+use Rattle.rules.specs.paper.Tree.{Arithmetic, Sum, Sub, Mul, Div, Operator, arithmetic, Eq, order, logic, Expression, Command, Loop, Cond}
 use Rattle.rules.specs.paper.Refusals.{OutOfRange}
 use Rattle.rules.specs.paper.Integers.{in-range, Result, number, failed, ranged, divide, compute, compare, equal-integers, equal-truths, combine}
 use Rattle.rules.specs.paper.Checker.{Meaning, code, Scope, meaning-of, Passed}
 use Rattle.rules.specs.claims.Typing.{HasCode, CommandOk}
-use Rattle.rules.specs.paper.States.{Value, integer, truth, location, Bindable, value, Environment, lookup, Store, store-at, find, Entry, val, name, Item, mark, operator-mark, not-mark, assign-mark, loop-mark, ref-mark, bind-mark, dseq-extend-mark, dseq-join-mark, State, state}
+use Rattle.rules.specs.paper.States.{Value, integer, truth, location, Bindable, value, Environment, lookup, Store, store-at, find, Entry, val, name, Item, mark, operator-mark, not-mark, assign-mark, loop-mark, conditional-mark, ref-mark, bind-mark, dseq-extend-mark, dseq-join-mark, State, state}
 use Rattle.rules.specs.paper.Rules.{goes, pushed, Table}
 use Rattle.rules.specs.paper.Rules as Rules
 use Rattle.rules.specs.claims.History.{Made, History, remake}
 use Rattle.rules.specs.claims.Claim.{HoldsItsType, AllHoldTheirTypes}
 use Rattle.rules.specs.proofs.running.World.{World, code-at, code-newest, SmallExpression, SmallCommand, ValueTyped, integer-typed, truth-typed, location-typed, EnvironmentTyped, no-names, one-name, environment-older, BindableTyped, value-typed, join-typed}
 use Rattle.rules.specs.proofs.running.Stores.{StoreTyped, one-cell, store-length, store-at-typed, find-typed, Grown, grown, world-made, remade-new, cell-holds}
-use Rattle.rules.specs.proofs.running.Continuation.{StackShape, value-of, name-of, loop-of, declared, saved, Declaring, in-block, past-name, past-saved, OperatorTyped, arithmetic-typed, equal-typed, order-typed, logic-typed, ControlTyped, expression-typed, command-typed, loop-mark-typed, ValuesTyped, value-on, name-on, loop-on, declared-on, saved-on, opened-on, open-states}
+use Rattle.rules.specs.proofs.running.Continuation.{StackShape, value-of, name-of, testing, declared, saved, Declaring, in-block, past-name, past-saved, OperatorTyped, arithmetic-typed, equal-typed, order-typed, logic-typed, ControlTyped, expression-typed, command-typed, loop-mark-typed, ValuesTyped, value-on, name-on, testing-on, declared-on, saved-on, opened-on, open-states}
 use Rattle.rules.specs.proofs.running.Progress.{Progress, Advance, Next, ArithmeticFault, zero-divisor, out-of-range, same-store, quiet-invariant, kept}
 use Rattle.rules.specs.proofs.running.ExpressionSteps.{Bound-cell, bound-cell-typed}
 
@@ -121,11 +121,18 @@ module _ (a : Passed) (r : ℕ) (C : List Item) (E : Environment) (S : Store) (L
       same-store Rules.mark-Not refl refl Rules.not-at names cells types pending k (value-on (value-typed truth-typed) values) (λ M m. tt)
 
   pub loop-step : (p : ℕ) (e : Expression) (c : Command) (X : List Entry) (Θ : StackShape) → HasCode Γ e 1 → SmallExpression e → CommandOk Γ c → SmallCommand c →
-      ControlTyped a C Γ Θ → ValuesTyped r E W L X (value-of (code 1) (loop-of p e c Θ)) P → Here (mark loop-mark) X
-  loop-step p e c X Θ g s d t k (value-on (value-typed (truth-typed {b = true})) (loop-on values)) =
+      ControlTyped a C Γ Θ → ValuesTyped r E W L X (value-of (code 1) (testing (Loop p e c) Θ)) P → Here (mark loop-mark) X
+  loop-step p e c X Θ g s d t k (value-on (value-typed (truth-typed {b = true})) (testing-on values)) =
       same-store Rules.mark-Loop refl refl Rules.loop-true names cells types pending (command-typed d t (command-typed (Rattle.rules.specs.claims.Typing.loop g d) (s, t) k)) values (λ M m. tt)
-  loop-step p e c X Θ g s d t k (value-on (value-typed (truth-typed {b = false})) (loop-on values)) =
+  loop-step p e c X Θ g s d t k (value-on (value-typed (truth-typed {b = false})) (testing-on values)) =
       same-store Rules.mark-Loop refl refl Rules.loop-false names cells types pending k values (λ M m. tt)
+
+  pub conditional-step : (p : ℕ) (e : Expression) (c₁ c₂ : Command) (X : List Entry) (Θ : StackShape) → CommandOk Γ c₁ → SmallCommand c₁ → CommandOk Γ c₂ → SmallCommand c₂ →
+      ControlTyped a C Γ Θ → ValuesTyped r E W L X (value-of (code 1) (testing (Cond p e c₁ c₂) Θ)) P → Here (mark conditional-mark) X
+  conditional-step p e c₁ c₂ X Θ d₁ t₁ d₂ t₂ k (value-on (value-typed (truth-typed {b = true})) (testing-on values)) =
+      same-store Rules.mark-Cond refl refl Rules.conditional-true names cells types pending (command-typed d₁ t₁ k) values (λ M m. tt)
+  conditional-step p e c₁ c₂ X Θ d₁ t₁ d₂ t₂ k (value-on (value-typed (truth-typed {b = false})) (testing-on values)) =
+      same-store Rules.mark-Cond refl refl Rules.conditional-false names cells types pending (command-typed d₂ t₂ k) values (λ M m. tt)
 
   pub bind-step : (x : ℕ) (m : Meaning) (X : List Entry) (Θ : StackShape) → ControlTyped a C Γ (declared (record { name = x; meaning = m } ∷ []) Θ) →
       ValuesTyped r E W L X (value-of m (name-of x Θ)) P → Here (mark bind-mark) X

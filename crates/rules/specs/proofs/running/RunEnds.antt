@@ -28,7 +28,7 @@ use Rattle.rules.specs.claims.Claim.{ReasonHolds, budget-used, cells-ful
 use Rattle.rules.specs.claims.Ends.{FinalValues, EndsWell, normally, withheld-for, RangedValue, RangedBindable, RangedEnvironment, RangedEntry, RangedValues, RangedStore, RegisterHolds, StateFacts, RunEndsWell, EveryStateFacts}
 use Rattle.rules.specs.proofs.running.World.{World, code-at, code-older, code-newest, ValueTyped, integer-typed, truth-typed, location-typed, EnvironmentTyped, no-names, one-name, BindableTyped, value-typed, closure-typed}
 use Rattle.rules.specs.proofs.running.Stores.{StoreTyped, no-cells, one-cell, store-length, Held, find-typed, grown-keeps, world-made, type-is}
-use Rattle.rules.specs.proofs.running.Continuation.{StackShape, end, value-of, Final, final-command, final-value, ControlTyped, done, register-world, ValuesTyped, nothing-left, value-on, name-on, loop-on, declared-on, saved-on, calling-on, opened-on, frame-on, open-states, Invariant}
+use Rattle.rules.specs.proofs.running.Continuation.{StackShape, end, value-of, Final, final-command, final-value, ControlTyped, done, register-world, ValuesTyped, nothing-left, value-on, name-on, testing-on, declared-on, saved-on, calling-on, opened-on, frame-on, open-states, Invariant}
 use Rattle.rules.specs.proofs.running.Judging.{Judgement, no-reason, for-reason, judged, reason→holds}
 use Rattle.rules.specs.proofs.running.WholeRun.{start-invariant, reach-invariant, claim, world-length}
 
@@ -56,7 +56,7 @@ ranged-values : {r : ℕ} {E : Environment} {W : World} {L : List ℕ} {X : List
 ranged-values (nothing-left q l) = tt
 ranged-values (value-on b v) = (ranged-bindable b, ranged-values v)
 ranged-values (name-on v) = (tt, ranged-values v)
-ranged-values (loop-on v) = (tt, ranged-values v)
+ranged-values (testing-on v) = (tt, ranged-values v)
 ranged-values (declared-on e v) = (ranged-environment e, ranged-values v)
 ranged-values (saved-on e f v) = (ranged-environment e, (ranged-environment f, ranged-values v))
 ranged-values (calling-on e v) = ranged-values v
@@ -85,7 +85,7 @@ world-keeps : {r : ℕ} {E : Environment} {W : World} {L : List ℕ} {X : List E
 world-keeps {r} (nothing-left q l) i h = subst (λ W. code-at i W ≡ some 0) (sym q) (registers-oldest r i h)
 world-keeps (value-on b v) i h = world-keeps v i h
 world-keeps (name-on v) i h = world-keeps v i h
-world-keeps (loop-on v) i h = world-keeps v i h
+world-keeps (testing-on v) i h = world-keeps v i h
 world-keeps (declared-on e v) i h = world-keeps v i h
 world-keeps (saved-on e f v) i h = world-keeps v i h
 world-keeps (calling-on e v) i h = world-keeps v i h

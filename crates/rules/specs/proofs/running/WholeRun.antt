@@ -27,11 +27,11 @@ use Rattle.rules.specs.claims.History.{Made, made-registers, History, fi
 use Rattle.rules.specs.claims.Claim.{StepOutcome, step-is-made, step-is-withheld, StateClaim, AllInRange, WholeRunClaim}
 use Rattle.rules.specs.proofs.running.World.{World, code-newest, SmallExpression, SmallActuals, SmallCommand, SmallBlock, SmallDeclaration, SmallBound, integer-typed, location-typed, EnvironmentTyped, no-names, one-name, environment-older, value-typed}
 use Rattle.rules.specs.proofs.running.Stores.{StoreTyped, no-cells, one-cell, world-made}
-use Rattle.rules.specs.proofs.running.Continuation.{StackShape, end, ControlTyped, done, expression-typed, command-typed, declaration-typed, reference-typed, abstraction-typed, operator-mark-typed, not-mark-typed, assign-mark-typed, loop-mark-typed, ref-mark-typed, bind-mark-typed, dseq-extend-mark-typed, dseq-join-mark-typed, extend-mark-typed, leave-mark-typed, call-mark-typed, final-command, final-value, register-world, ValuesTyped, nothing-left, open-states, Invariant}
+use Rattle.rules.specs.proofs.running.Continuation.{StackShape, end, ControlTyped, done, expression-typed, command-typed, declaration-typed, reference-typed, abstraction-typed, operator-mark-typed, not-mark-typed, assign-mark-typed, loop-mark-typed, conditional-mark-typed, ref-mark-typed, bind-mark-typed, dseq-extend-mark-typed, dseq-join-mark-typed, extend-mark-typed, leave-mark-typed, call-mark-typed, final-command, final-value, register-world, ValuesTyped, nothing-left, open-states, Invariant}
 use Rattle.rules.specs.proofs.running.Progress.{ArithmeticFault, zero-divisor, out-of-range, Advance, Next, Progress}
 use Rattle.rules.specs.proofs.running.ExpressionSteps.{expression-step}
 use Rattle.rules.specs.proofs.running.CommandSteps.{command-step, declaration-step, reference-step, abstraction-step}
-use Rattle.rules.specs.proofs.running.MarkSteps.{operator-step, not-step, assign-step, loop-step, ref-step, bind-step, dseq-extend-step, dseq-join-step}
+use Rattle.rules.specs.proofs.running.MarkSteps.{operator-step, not-step, assign-step, loop-step, conditional-step, ref-step, bind-step, dseq-extend-step, dseq-join-step}
 use Rattle.rules.specs.proofs.running.FrameSteps.{extend-mark-step, leave-mark-step, call-step}
 use Rattle.rules.specs.proofs.running.Judging.{Judgement, no-reason, for-reason, judged, holds→reason, reason→holds}
 
@@ -49,6 +49,7 @@ step-of a r i C X E S L n h Γ Θ W P p t e s v (operator-mark-typed {o = o} {c�
 step-of a r i C X E S L n h Γ Θ W P p t e s v (not-mark-typed {Θ = Φ} k) = not-step a r C E S L n h Γ W P e s t p X Φ k v
 step-of a r i C X E S L n h Γ Θ W P p t e s v (assign-mark-typed {x = x} {c = c} {Θ = Φ} l q k) = assign-step a r C E S L n h Γ W P e s t p x c X Φ l q k v
 step-of a r i C X E S L n h Γ Θ W P p t e s v (loop-mark-typed {p = q} {e = x} {c = c} {Θ = Φ} g u d w k) = loop-step a r C E S L n h Γ W P e s t p q x c X Φ g u d w k v
+step-of a r i C X E S L n h Γ Θ W P p t e s v (conditional-mark-typed {p = q} {e = x} {c₁ = c₁} {c₂ = c₂} {Θ = Φ} d₁ u₁ d₂ u₂ k) = conditional-step a r C E S L n h Γ W P e s t p q x c₁ c₂ X Φ d₁ u₁ d₂ u₂ k v
 step-of a r i C X E S L n h Γ Θ W P p t e s v (ref-mark-typed {c = c} {Θ = Φ} d k) = ref-step a r C E S L n h Γ W P e s t p c X Φ d k v
 step-of a r i C X E S L n h Γ Θ W P p t e s v (bind-mark-typed {x = x} {m = m} {Θ = Φ} k) = bind-step a r C E S L n h Γ W P e s t p x m X Φ k v
 step-of a r i C X E S L n h Γ Θ W P p t e s v (dseq-extend-mark-typed {Δ₁ = Δ₁} {Θ = Φ} k) = dseq-extend-step a r C E S L n h Γ W P e s t p Δ₁ X Φ k v
@@ -85,6 +86,7 @@ mutual
   small-command (Shape.cseq h g) = (small-command h, small-command g)
   small-command (Shape.block-of h) = small-block h
   small-command (Shape.call x l h) = small-actuals h
+  small-command (Shape.conditional h g f) = (small-expression h, small-command g, small-command f)
 
   small-block : {d i j : ℕ} {b : Block} → ShapedBlock d i j b → SmallBlock b
   small-block (Shape.blk h g) = (small-declaration h, small-command g)

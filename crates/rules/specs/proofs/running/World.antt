@@ -11,7 +11,7 @@ use lib.Dec.{T, eqb, eqb→eq, eqb-refl}
 use lib.IntN.{ℤ}
 use lib.ListN.{length}
 use Rattle.rules.specs.proofs.Basics.{missing, passed-test, true-test, false-test}
-use Rattle.rules.specs.paper.Tree.{Expression, Num, Boo, Id, DeRef, ValRef, Binary, Not, Formal, Command, Assign, Loop, CSeq, block, Call, Block, Blk, Declaration, Bind, DSeq, Bound, plain, Ref, Abs}
+use Rattle.rules.specs.paper.Tree.{Expression, Num, Boo, Id, DeRef, ValRef, Binary, Not, Formal, Command, Assign, Loop, CSeq, block, Call, Cond, Block, Blk, Declaration, Bind, DSeq, Bound, plain, Ref, Abs}
 use Rattle.rules.specs.paper.Limits.{words}
 use Rattle.rules.specs.paper.Checker.{Meaning, code, function, Named, Scope, meaning-of, with-formals}
 use Rattle.rules.specs.claims.Typing.{BlockOk}
@@ -40,6 +40,7 @@ abbrev mutual
   SmallCommand (CSeq p c d) = SmallCommand c × SmallCommand d
   SmallCommand (block b) = SmallBlock b
   SmallCommand (Call p x es) = SmallActuals es
+  SmallCommand (Cond p e c d) = SmallExpression e × SmallCommand c × SmallCommand d
 
   pub SmallBlock : Block → Type 0
   SmallBlock (Blk p d c) = SmallDeclaration d × SmallCommand c

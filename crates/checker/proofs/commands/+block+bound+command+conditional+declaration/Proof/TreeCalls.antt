@@ -1,22 +1,25 @@
--- The measures of the cycle {block, bound, command, declaration} of the checker, what each of the four is given at a measure and asks of
+-- The measures of the cycle {block, bound, command, conditional, declaration} of the checker, what each of the five is given at a measure and asks of
 -- the others below it. The measure is twice the number of nodes from this one on, and one more for a command, which may be the block
--- that stands there.
+-- or the Cond that stands there.
 use Prim.Native.Nat.{_+_, _-_, _*_, ℕ, _<_}
 use borrow.Fn.Kinds.{In}
 use borrow.Fn.PlainCycle.{Measures, is, falls, and}
 use Rattle.rules.specs.paper.Limits.{most-nodes}
 use Rattle.checker.proofs.commands.block.Reads as block
 use Rattle.checker.proofs.commands.block.Kinds as block-kinds
-use Rattle.checker.proofs.commands.+block+bound+command+declaration.Lts-block as block-lts
+use Rattle.checker.proofs.commands.+block+bound+command+conditional+declaration.Lts-block as block-lts
 use Rattle.checker.proofs.commands.bound.Reads as bound
 use Rattle.checker.proofs.commands.bound.Kinds as bound-kinds
-use Rattle.checker.proofs.commands.+block+bound+command+declaration.Lts-bound as bound-lts
+use Rattle.checker.proofs.commands.+block+bound+command+conditional+declaration.Lts-bound as bound-lts
 use Rattle.checker.proofs.commands.command.Reads as command
 use Rattle.checker.proofs.commands.command.Kinds as command-kinds
-use Rattle.checker.proofs.commands.+block+bound+command+declaration.Lts-command as command-lts
+use Rattle.checker.proofs.commands.+block+bound+command+conditional+declaration.Lts-command as command-lts
+use Rattle.checker.proofs.commands.conditional.Reads as conditional
+use Rattle.checker.proofs.commands.conditional.Kinds as conditional-kinds
+use Rattle.checker.proofs.commands.+block+bound+command+conditional+declaration.Lts-conditional as conditional-lts
 use Rattle.checker.proofs.commands.declaration.Reads as declaration
 use Rattle.checker.proofs.commands.declaration.Kinds as declaration-kinds
-use Rattle.checker.proofs.commands.+block+bound+command+declaration.Lts-declaration as declaration-lts
+use Rattle.checker.proofs.commands.+block+bound+command+conditional+declaration.Lts-declaration as declaration-lts
 use Rattle.typing.proofs.codes.anew.Reads as anew-reads
 use Rattle.checker.proofs.commands.assignment.Reads as assignment-reads
 use Rattle.checker.proofs.commands.call.Reads as call-reads
@@ -39,6 +42,9 @@ abbrev pub μ-bound : Measures 1 bound-kinds.ps ℕ
 abbrev pub μ-command : Measures 1 command-kinds.ps ℕ
 μ-command κs a = 2 * (most-nodes - (a .1 .1 .1 .0)) + 1
 
+abbrev pub μ-conditional : Measures 1 conditional-kinds.ps ℕ
+μ-conditional κs a = 2 * (most-nodes - (a .1 .1 .1 .0))
+
 abbrev pub μ-declaration : Measures 1 declaration-kinds.ps ℕ
 μ-declaration κs a = 2 * (most-nodes - (a .1 .1 .1 .0))
 
@@ -60,6 +66,12 @@ command-at t = and 1 command-kinds.ps (is 1 command-kinds.ps μ-command t) comma
 abbrev pub command-below : ℕ → In 1 command-kinds.ps
 command-below t = and 1 command-kinds.ps (falls 1 command-kinds.ps _<_ μ-command t) command.Pre
 
+abbrev pub conditional-at : ℕ → In 1 conditional-kinds.ps
+conditional-at t = and 1 conditional-kinds.ps (is 1 conditional-kinds.ps μ-conditional t) conditional.Pre
+
+abbrev pub conditional-below : ℕ → In 1 conditional-kinds.ps
+conditional-below t = and 1 conditional-kinds.ps (falls 1 conditional-kinds.ps _<_ μ-conditional t) conditional.Pre
+
 abbrev pub declaration-at : ℕ → In 1 declaration-kinds.ps
 declaration-at t =
     and 1 declaration-kinds.ps (is 1 declaration-kinds.ps μ-declaration t) declaration.Pre
@@ -79,7 +91,11 @@ bound-calls t =
 
 abbrev pub command-calls : ℕ → command-lts.Claims
 command-calls t =
-    (kind-reads.Asked, kind-reads.Learnt, assignment-reads.Asked, assignment-reads.Learnt, block-below t, block.Post, anew-reads.Asked, anew-reads.Learnt, call-reads.Asked, call-reads.Learnt, expression-reads.Asked, expression-reads.Learnt, end-reads.Asked, end-reads.Learnt, command-below t, command.Post, truth-reads.Asked, truth-reads.Learnt)
+    (kind-reads.Asked, kind-reads.Learnt, assignment-reads.Asked, assignment-reads.Learnt, block-below t, block.Post, anew-reads.Asked, anew-reads.Learnt, call-reads.Asked, call-reads.Learnt, expression-reads.Asked, expression-reads.Learnt, end-reads.Asked, end-reads.Learnt, command-below t, command.Post, truth-reads.Asked, truth-reads.Learnt, conditional-below t, conditional.Post)
+
+abbrev pub conditional-calls : ℕ → conditional-lts.Claims
+conditional-calls t =
+    (expression-reads.Asked, expression-reads.Learnt, end-reads.Asked, end-reads.Learnt, command-below t, command.Post, truth-reads.Asked, truth-reads.Learnt)
 
 abbrev pub declaration-calls : ℕ → declaration-lts.Claims
 declaration-calls t =

@@ -7,8 +7,8 @@ use borrow.Author.Needs.{needs}
 use Rattle.checker.proofs.laws.commands.BlockLaws.{block-parts, block-first-low, block-fault, block-inside, block-fine}
 use Rattle.checker.proofs.laws.commands.KeptLaws.{kept-then, kept-lower}
 use Rattle.checker.proofs.commands.block.Reads as block
-use Rattle.checker.proofs.commands.+block+bound+command+declaration.Lts-block as block-lts
-use Rattle.checker.proofs.commands.+block+bound+command+declaration.Proof.TreeCalls.{block-at, block-calls}
+use Rattle.checker.proofs.commands.+block+bound+command+conditional+declaration.Lts-block as block-lts
+use Rattle.checker.proofs.commands.+block+bound+command+conditional+declaration.Proof.TreeCalls.{block-at, block-calls}
 
 pub block-add-declaration : (t : ℕ) → block-lts.Need-add-declaration (block-calls t) (block-at t) block.Post
 block-add-declaration t c =

@@ -10,8 +10,8 @@ use Rattle.typing.specs.Rows.{no-rows}
 use Rattle.checker.proofs.laws.commands.KeptLaws.{kept-nothing, kept-lower}
 use Rattle.checker.proofs.laws.declarations.BoundLaws.{bound-low, ref-child, ref-fault, ref-fine, plain-there, plain-means, abs-there, abs-formals-fault, inner-low, inner-scope, inner-block, abs-body-fault, abs-body-fine, abs-kept}
 use Rattle.checker.proofs.commands.bound.Reads as bound
-use Rattle.checker.proofs.commands.+block+bound+command+declaration.Lts-bound as bound-lts
-use Rattle.checker.proofs.commands.+block+bound+command+declaration.Proof.TreeCalls.{bound-at, bound-calls}
+use Rattle.checker.proofs.commands.+block+bound+command+conditional+declaration.Lts-bound as bound-lts
+use Rattle.checker.proofs.commands.+block+bound+command+conditional+declaration.Proof.TreeCalls.{bound-at, bound-calls}
 
 pub bound-kind-requires : (t : ℕ) → bound-lts.Need-kind-requires (bound-calls t) (bound-at t) bound.Post
 bound-kind-requires t c κs =

@@ -9,8 +9,8 @@ use lib.ListN.{length-set}
 use Rattle.checker.proofs.laws.commands.KeptLaws.{kept-lower}
 use Rattle.checker.proofs.laws.declarations.DeclarationLaws.{declaration-low, first-declaration, first-declaration-low, sequence-first-fault, second-scope, second-declaration, second-after, second-scope-low, sequence-second-fault, sequence-kept, first-rows, second-rows, sequence-repeated, sequence-fine, bind-child, bind-low, bind-name, bind-fault, bind-number, bind-kept, bind-fine}
 use Rattle.checker.proofs.commands.declaration.Reads as declaration
-use Rattle.checker.proofs.commands.+block+bound+command+declaration.Lts-declaration as declaration-lts
-use Rattle.checker.proofs.commands.+block+bound+command+declaration.Proof.TreeCalls.{declaration-at, declaration-calls}
+use Rattle.checker.proofs.commands.+block+bound+command+conditional+declaration.Lts-declaration as declaration-lts
+use Rattle.checker.proofs.commands.+block+bound+command+conditional+declaration.Proof.TreeCalls.{declaration-at, declaration-calls}
 
 pub declaration-kind-requires : (t : ℕ) → declaration-lts.Need-kind-requires (declaration-calls t) (declaration-at t) declaration.Post
 declaration-kind-requires t c κs =
