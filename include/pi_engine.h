@@ -91,10 +91,10 @@ extern "C" {
  * The version of this header and of the library it was delivered with. What the three numbers mean,
  * and what changed in which version, is in CHANGELOG.md. PI_VERSION_NUMBER is for #if.
  */
-#define PI_VERSION_MAJOR 4
+#define PI_VERSION_MAJOR 5
 #define PI_VERSION_MINOR 0
 #define PI_VERSION_PATCH 0
-#define PI_VERSION "4.0.0"
+#define PI_VERSION "5.0.0"
 #define PI_VERSION_NUMBER (PI_VERSION_MAJOR * 10000 + PI_VERSION_MINOR * 100 + PI_VERSION_PATCH)
 
 /* The work words of 64 bits that a call needs. */
@@ -166,6 +166,7 @@ typedef enum PiKind {
     PI_KIND_CSEQ = 22,   /* two commands */
     PI_KIND_BLK = 23,    /* declaration, command */
     PI_KIND_CALL = 24,   /* count expressions; PI_OPERAND(name, count) */
+    PI_KIND_COND = 25,   /* expression, two commands: the first runs if it is true, else the second */
     /* Declarations. */
     PI_KIND_BIND = 30,   /* expression, Ref or Abs; name */
     PI_KIND_DSEQ = 31,   /* two declarations, the second of which sees the names of the first */

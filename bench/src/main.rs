@@ -24,7 +24,7 @@ The tables:
   check    nanoseconds a node, for four images
   calls    nanoseconds a call: checks of the smallest images, with one node and with
            none, the run of a slot with no routine; and to clear the work words
-  run      nanoseconds a step, for six routines
+  run      nanoseconds a step, for seven routines
 
 Each has the engine's time and the second interpreter's, and the first and the last say
 how many times longer the second takes. A time is the median of 501 repetitions.

@@ -33,6 +33,7 @@ pub fn timed() -> Vec<Routine> {
         // With z 0 nothing leaves the integers.
         Routine::new("arithmetic: the factorial loop", image(2, factorial()), &[0, 2_400]),
         Routine::new("nested loops", image(4, nested_loops()), &[0, 14, 0, 0]),
+        Routine::new("choices: a Cond in a loop", image(3, choices()), &[0, 2_000, 0]),
         Routine::new("nested blocks and names", image(2, blocks()), &[0, 40]),
         Routine::new("calls with 8 Formals", image(2, calls()), &[0, 900]),
         Routine::new("locations: ValRef", image(2, locations()), &[0, 1_500]),
@@ -56,6 +57,13 @@ fn nested_loops() -> Command {
     const ROUNDS: u32 = 14;
     let again = |counter, command| cseq(assign(counter, num(ROUNDS)), rounds(counter, command));
     rounds(1, again(2, again(3, assign(0, sum(id(0), num(1))))))
+}
+
+/// In each round a Cond whose test is false and true in turn: register 2 counts on, and
+/// in the next round register 0 after it.
+fn choices() -> Command {
+    let count = |register| assign(register, sum(id(register), num(1)));
+    rounds(1, cond(lt(id(0), id(2)), count(0), count(2)))
 }
 
 /// In each round blocks within blocks, twenty names each, some of them read from

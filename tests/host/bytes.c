@@ -201,15 +201,16 @@ static ByteCall byte_call(const Call *call, size_t offset)
     return bytes;
 }
 
-static void test_paper_in_bytes(void)
+/* So many calls of words in bytes, wherever they stand. */
+static void test_calls_in_bytes(const char *name, size_t count, Call (*call_of)(size_t, uint32_t *))
 {
     size_t index, offset;
     Call call;
     ByteCall bytes;
 
-    test_begin("the paper's cases in bytes");
-    for (index = 0; index < paper_calls(); index += 1) {
-        call = paper_call(index, words);
+    test_begin(name);
+    for (index = 0; index < count; index += 1) {
+        call = call_of(index, words);
         for (offset = 0; offset < 8; offset += 1) {
             bytes = byte_call(&call, offset);
             compare(&bytes);
@@ -346,7 +347,8 @@ static void test_bytes_by_chance(size_t count, uint64_t seed)
 
 void test_bytes(size_t count, uint64_t seed)
 {
-    test_paper_in_bytes();
+    test_calls_in_bytes("the paper's cases in bytes", paper_calls(), paper_call);
+    test_calls_in_bytes("Conds in bytes", choice_calls(), choice_call);
     test_byte_lengths();
     test_no_routine_in_bytes();
     test_bytes_by_chance(count, seed);

@@ -16,8 +16,8 @@ static const uint32_t kinds[] = {
     PI_KIND_NUM, PI_KIND_BOO, PI_KIND_ID, PI_KIND_SUM, PI_KIND_SUB, PI_KIND_MUL, PI_KIND_DIV,
     PI_KIND_EQ, PI_KIND_LT, PI_KIND_LE, PI_KIND_GT, PI_KIND_GE, PI_KIND_AND, PI_KIND_OR,
     PI_KIND_NOT, PI_KIND_DEREF, PI_KIND_VALREF, PI_KIND_ASSIGN, PI_KIND_LOOP, PI_KIND_CSEQ,
-    PI_KIND_BLK, PI_KIND_CALL, PI_KIND_BIND, PI_KIND_DSEQ, PI_KIND_REF, PI_KIND_ABS,
-    PI_KIND_FORMAL,
+    PI_KIND_BLK, PI_KIND_CALL, PI_KIND_COND, PI_KIND_BIND, PI_KIND_DSEQ, PI_KIND_REF,
+    PI_KIND_ABS, PI_KIND_FORMAL,
 };
 
 static uint32_t image[IMAGE_ROOM];
@@ -73,7 +73,8 @@ static size_t passing(Random *random)
 static size_t sound_image(Random *random)
 {
     static const Tower towers[] = {
-        {1, 15, 17, 1, 0}, {1, 30, 17, 0, 0}, {15, 15, 1, 0, 0}, {10, 1, 1, 0, 48}, {3, 2, 2, 1, 2},
+        {1, 15, 17, 1, 0, 0}, {1, 30, 17, 0, 0, 0}, {15, 15, 1, 0, 0, 0}, {10, 1, 1, 0, 48, 0},
+        {10, 1, 1, 0, 48, 1}, {3, 2, 2, 1, 2, 1},
     };
     size_t choice = random_below(random, 20);
 

@@ -44,6 +44,7 @@ int main(int count, char **arguments)
     test_paper();
     test_refusals();
     test_no_routine();
+    test_choice();
     test_names();
     test_chance((size_t)images, seed);
     test_bytes((size_t)images, seed);

@@ -4,7 +4,7 @@
  */
 #include "tests.h"
 
-#include "calls.h"
+#include "cases.h"
 #include "report.h"
 
 #include <inttypes.h>
@@ -39,14 +39,9 @@ static Call call_of(uint32_t registers)
 /* The reply of a run: refused with this, or where that is 0 none; in 0 steps, the registers kept. */
 static void expect(const Call *call, uint64_t refusal)
 {
-    Ran ran = call_all(call);
-    Ran expected;
+    const PiRunReply reply = REFUSED(refusal, 0, 0);
 
-    memset(&expected, 0, sizeof expected);
-    expected.reply.refusal = refusal;
-    expected.reply.outcome = PI_OUTCOME_NONE;
-    memcpy(expected.left, call->starts, call->registers_length * sizeof(int64_t));
-    same_run("no routine", &ran, &expected, call->registers_length);
+    expect_run(call, &reply, call->starts);
 }
 
 static void expect_check(const Call *call, uint64_t refusal)

@@ -1,11 +1,8 @@
 /* The paper's cases A to L, at their budgets, with all their figures. */
 #include "tests.h"
 
-#include "calls.h"
+#include "cases.h"
 #include "report.h"
-#include "trees.h"
-
-#include <inttypes.h>
 
 #define COUNT(list) (sizeof(list) / sizeof(list)[0])
 
@@ -68,25 +65,6 @@ static const Node later[] = {
     {PI_KIND_ASSIGN, 1}, {PI_KIND_NUM, 0},
 };
 
-typedef struct Case {
-    const char *name;
-    const Node *nodes;
-    size_t count;
-    uint32_t registers;
-    int64_t starts[2];
-    uint64_t budget;
-    uint64_t code; /* the check's value, where it passes */
-    PiRunReply reply;
-    int64_t left[2];
-} Case;
-
-#define MOST PI_MOST_BUDGET
-#define NUMBER(value, steps) {0, PI_OUTCOME_NUMBER, value, 0, steps}
-#define NONE(steps) {0, PI_OUTCOME_NONE, 0, 0, steps}
-#define REFUSED(number, place, steps) {number, PI_OUTCOME_NONE, 0, place, steps}
-#define TREE(nodes) nodes, COUNT(nodes)
-#define COMMAND PI_CODE_COMMAND
-
 static const Case cases[] = {
     {"A 5 x (3 + 2)", TREE(calculator), 0, {0}, MOST, 0, NUMBER(25, 7), {0}},
     {"B budget 6", TREE(calculator), 0, {0}, 6, 0, REFUSED(30, 0, 6), {0}},
@@ -109,22 +87,6 @@ static const Case cases[] = {
     {"L budget 18", TREE(later), 0, {0}, 18, COMMAND, REFUSED(30, 0, 18), {0}},
 };
 
-/* The image of a case. */
-static Call call_of(const Case *the_case, uint32_t *image)
-{
-    static Tree tree;
-    Call call;
-
-    tree_list(&tree, the_case->registers, the_case->nodes, the_case->count);
-    call.image = image;
-    call.image_length = tree_image(&tree, image);
-    call.starts = the_case->starts;
-    call.registers_length = the_case->registers;
-    call.budget = the_case->budget;
-    call.work_length = PI_WORK_WORDS;
-    return call;
-}
-
 size_t paper_calls(void)
 {
     return COUNT(cases);
@@ -132,27 +94,7 @@ size_t paper_calls(void)
 
 Call paper_call(size_t index, uint32_t *image)
 {
-    return call_of(&cases[index], image);
-}
-
-static void one_case(const Case *the_case)
-{
-    static uint32_t image[IMAGE_ROOM];
-    Call call = call_of(the_case, image);
-    PiCheckReply checked = call_check(&call);
-    Ran ran = call_all(&call);
-    Ran expected;
-    size_t index;
-    int passes = the_case->reply.refusal == 0 || !before_the_run(the_case->reply.refusal);
-
-    expected.reply = the_case->reply;
-    for (index = 0; index < the_case->registers; index += 1)
-        expected.left[index] = the_case->left[index];
-    same_run("the paper's reply", &ran, &expected, the_case->registers);
-    if (checked.refusal != (passes ? PI_REFUSAL_NONE : the_case->reply.refusal) ||
-        checked.value != the_case->code || checked.place != the_case->reply.place)
-        test_fault("check answers refusal %" PRIu64 ", value %" PRIu64 ", place %" PRIu64,
-                   checked.refusal, checked.value, checked.place);
+    return case_call(&cases[index], image);
 }
 
 /* The words that the paper writes out are those of case A. */
@@ -160,7 +102,7 @@ static void written_out(void)
 {
     static const uint32_t words[] = {5, 0, 6, 1, 4, 1, 1, 0, 5, 0, 3, 2};
     static uint32_t image[IMAGE_ROOM];
-    Call call = call_of(&cases[0], image);
+    Call call = case_call(&cases[0], image);
     size_t index;
 
     test_begin("the words of A");
@@ -175,12 +117,6 @@ static void written_out(void)
 
 void test_paper(void)
 {
-    size_t index;
-
     written_out();
-    for (index = 0; index < COUNT(cases); index += 1) {
-        test_begin(cases[index].name);
-        one_case(&cases[index]);
-        test_end();
-    }
+    test_cases(cases, COUNT(cases));
 }

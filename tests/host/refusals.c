@@ -4,9 +4,8 @@
  */
 #include "tests.h"
 
-#include "calls.h"
+#include "cases.h"
 #include "report.h"
-#include "trees.h"
 
 #include <inttypes.h>
 #include <string.h>
@@ -20,18 +19,10 @@ static const int64_t starts[MOST_STARTS] = {
 static uint32_t image[IMAGE_ROOM];
 static Tree tree;
 
-/* The call of the tree, with as many registers as it has and the greatest budget. */
+/* The call of the tree. */
 static Call call_of_tree(void)
 {
-    Call call;
-
-    call.image = image;
-    call.image_length = tree_image(&tree, image);
-    call.starts = starts;
-    call.registers_length = tree.registers;
-    call.budget = PI_MOST_BUDGET;
-    call.work_length = PI_WORK_WORDS;
-    return call;
+    return tree_call(&tree, starts, image);
 }
 
 static void expect(const Call *call, uint64_t refusal, uint64_t place, uint64_t steps)
@@ -265,17 +256,17 @@ static void test_limits(void)
         uint64_t refusal;
         uint64_t steps;
     } towers[] = {
-        {"256 cells", {1, 15, 17, 1, 0}, PI_REFUSAL_NONE, 2052},
-        {"a 257th cell", {1, 16, 16, 1, 0}, PI_REFUSAL_CELLS, 2021},
-        {"512 bindings", {1, 30, 17, 0, 0}, PI_REFUSAL_NONE, 3072},
-        {"a 513th binding", {2, 15, 17, 0, 0}, PI_REFUSAL_BINDINGS, 3026},
-        {"512 value entries", {15, 15, 1, 0, 0}, PI_REFUSAL_NONE, 1488},
-        {"a 513th value entry", {16, 14, 1, 0, 0}, PI_REFUSAL_VALUES, 1229},
-        {"512 control entries", {10, 1, 1, 0, 48}, PI_REFUSAL_NONE, 2073},
-        {"a 513th control entry", {11, 1, 1, 0, 44}, PI_REFUSAL_CONTROL, 610},
+        {"256 cells", {1, 15, 17, 1, 0, 0}, PI_REFUSAL_NONE, 2052},
+        {"a 257th cell", {1, 16, 16, 1, 0, 0}, PI_REFUSAL_CELLS, 2021},
+        {"512 bindings", {1, 30, 17, 0, 0, 0}, PI_REFUSAL_NONE, 3072},
+        {"a 513th binding", {2, 15, 17, 0, 0, 0}, PI_REFUSAL_BINDINGS, 3026},
+        {"512 value entries", {15, 15, 1, 0, 0, 0}, PI_REFUSAL_NONE, 1488},
+        {"a 513th value entry", {16, 14, 1, 0, 0, 0}, PI_REFUSAL_VALUES, 1229},
+        {"512 control entries", {10, 1, 1, 0, 48, 0}, PI_REFUSAL_NONE, 2073},
+        {"a 513th control entry", {11, 1, 1, 0, 44, 0}, PI_REFUSAL_CONTROL, 610},
         /* With two names a Blk has a DSeq. */
-        {"a 513th value entry in a second declaration", {15, 15, 2, 0, 0}, PI_REFUSAL_VALUES, 2576},
-        {"a 513th control entry at a DSeq", {13, 1, 2, 0, 39}, PI_REFUSAL_CONTROL, 692},
+        {"a 513th value entry in a second declaration", {15, 15, 2, 0, 0, 0}, PI_REFUSAL_VALUES, 2576},
+        {"a 513th control entry at a DSeq", {13, 1, 2, 0, 39, 0}, PI_REFUSAL_CONTROL, 692},
     };
     size_t index;
     Call call;

@@ -142,6 +142,17 @@ static void deep_functions(Tree *tree)
     }
 }
 
+/* Conds below Conds to depth 62, in the second command or in the first, and two levels below them. */
+static void deep_second_choices(Tree *tree)
+{
+    tree_of_choices(tree, PI_MOST_DEPTH - 2, 0);
+}
+
+static void deep_first_choices(Tree *tree)
+{
+    tree_of_choices(tree, PI_MOST_DEPTH - 2, 1);
+}
+
 /* DSeqs below DSeqs to depth 63, in the second declaration or in the first; each name is made of the
    one before it. */
 static void deep_second_declarations(Tree *tree)
@@ -193,8 +204,8 @@ static void fits(const char *what, size_t taken, size_t figure)
 void test_stack(void)
 {
     static void (*const shapes[])(Tree *) = {
-        deep_commands, deep_functions, deep_second_declarations, deep_first_declarations,
-        deep_expressions,
+        deep_commands, deep_functions, deep_second_choices, deep_first_choices,
+        deep_second_declarations, deep_first_declarations, deep_expressions,
     };
     static Tree tree;
     size_t taken[4] = {0, 0, 0, 0};

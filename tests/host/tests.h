@@ -18,6 +18,11 @@ void test_refusals(void);
 /* An image with no node, and images near it. */
 void test_no_routine(void);
 
+/* Conds, a choice between two commands; and their calls, for other tests. */
+void test_choice(void);
+size_t choice_calls(void);
+Call choice_call(size_t index, uint32_t *image);
+
 /* The header's list of refusals, all of which the calls before have met; and its version. */
 void test_names(void);
 

@@ -54,12 +54,34 @@ void tree_of_depth(Tree *tree, size_t depth)
     tree_add(tree, PI_KIND_BOO, 1);
 }
 
+/* An Assign of a number to register 0. */
+static void add_assign(Tree *tree, size_t number)
+{
+    tree_add(tree, PI_KIND_ASSIGN, 0);
+    tree_add(tree, PI_KIND_NUM, (uint32_t)number);
+}
+
+void tree_of_choices(Tree *tree, size_t levels, int truth)
+{
+    size_t level;
+
+    tree_clear(tree, 1);
+    for (level = 0; level < levels; level += 1) {
+        tree_add(tree, PI_KIND_COND, 0);
+        tree_add(tree, PI_KIND_BOO, truth ? 1 : 0);
+        if (!truth)
+            add_assign(tree, 8);
+    }
+    add_assign(tree, 7);
+    for (level = 0; truth && level < levels; level += 1)
+        add_assign(tree, 8);
+}
+
 /* Assigns under CSeqs that share them out evenly, so the tree stays shallow. */
 static void add_assigns(Tree *tree, size_t count)
 {
     if (count == 1) {
-        tree_add(tree, PI_KIND_ASSIGN, 0);
-        tree_add(tree, PI_KIND_NUM, (uint32_t)tree->count);
+        add_assign(tree, tree->count + 1);
         return;
     }
     tree_add(tree, PI_KIND_CSEQ, 0);
@@ -91,6 +113,17 @@ static void add_names(Tree *tree, size_t names, int cells)
     }
 }
 
+/* The innermost command, in a Cond if the tower has one. */
+static void add_innermost(Tree *tree, const Tower *tower)
+{
+    if (tower->choice) {
+        tree_add(tree, PI_KIND_COND, 0);
+        tree_add(tree, PI_KIND_BOO, 0);
+        add_assign(tree, 8);
+    }
+    add_assign(tree, 7);
+}
+
 static void add_tower_body(Tree *tree, const Tower *tower, size_t function)
 {
     size_t index;
@@ -101,16 +134,12 @@ static void add_tower_body(Tree *tree, const Tower *tower, size_t function)
     }
     for (index = 0; index < tower->sequences; index += 1)
         tree_add(tree, PI_KIND_CSEQ, 0);
-    if (function == 0) {
-        tree_add(tree, PI_KIND_ASSIGN, 0);
-        tree_add(tree, PI_KIND_NUM, 7);
-    } else {
+    if (function == 0)
+        add_innermost(tree, tower);
+    else
         tree_add(tree, PI_KIND_CALL, PI_OPERAND(function, 0));
-    }
-    for (index = 0; index < tower->sequences; index += 1) {
-        tree_add(tree, PI_KIND_ASSIGN, 0);
-        tree_add(tree, PI_KIND_NUM, 7);
-    }
+    for (index = 0; index < tower->sequences; index += 1)
+        add_assign(tree, 7);
 }
 
 void tree_of_tower(Tree *tree, const Tower *tower)
@@ -253,6 +282,15 @@ static void grow_sequence_of_function(Growth *growth, size_t levels)
     tree_add(growth->tree, PI_KIND_CALL, PI_OPERAND(function, 0));
 }
 
+/* A Cond of two commands. */
+static void grow_choice(Growth *growth, size_t levels)
+{
+    tree_add(growth->tree, PI_KIND_COND, 0);
+    grow_truth(growth, levels - 1);
+    grow_command(growth, levels - 1);
+    grow_command(growth, levels - 1);
+}
+
 /* A function of a number and a location, called with an expression and a register or cell. */
 static void grow_call(Growth *growth, size_t levels)
 {
@@ -281,7 +319,7 @@ static void grow_call(Growth *growth, size_t levels)
 static void grow_command(Growth *growth, size_t levels)
 {
     Tree *tree = growth->tree;
-    size_t choice = levels == 0 ? 0 : random_below(growth->random, 10);
+    size_t choice = levels == 0 ? 0 : random_below(growth->random, 11);
 
     if (choice <= 2) {
         tree_add(tree, PI_KIND_ASSIGN, any_name(growth));
@@ -300,6 +338,8 @@ static void grow_command(Growth *growth, size_t levels)
         grow_sequence(growth, levels);
     } else if (choice == 8) {
         grow_sequence_of_function(growth, levels);
+    } else if (choice == 9) {
+        grow_choice(growth, levels);
     } else {
         grow_call(growth, levels);
     }

@@ -34,6 +34,13 @@ size_t tree_image(const Tree *tree, uint32_t *image);
 /* Not of Not of ... of true, so many levels. */
 void tree_of_depth(Tree *tree, size_t depth);
 
+/*
+ * So many Conds, each a command of the one before it: the first, where all their tests are true, or the
+ * second, where they are false. One register, which the innermost command sets to 7 and every other
+ * one, not taken, to 8. Two levels are below the innermost Cond.
+ */
+void tree_of_choices(Tree *tree, size_t levels, int truth);
+
 /* Assigns under CSeqs, of so many nodes, which is 3 x any number + 2; the registers are 1. */
 void tree_of_nodes(Tree *tree, size_t nodes);
 
@@ -48,6 +55,7 @@ typedef struct Tower {
     size_t names;
     int cells; /* the names are bound to new cells, or to numbers */
     size_t sequences;
+    int choice; /* the innermost command is the second of a Cond whose test is false */
 } Tower;
 
 void tree_of_tower(Tree *tree, const Tower *tower);

@@ -166,7 +166,8 @@ pub(crate) fn command(work: &mut [u64], registers: usize, scope: usize, node: us
     anew(second)
 }
 
-// The Cond at a node: its test, then both commands, taken or not; that the test is a truth is judged last.
+// The Cond at a node: its test, then both commands, taken or not; that the test is a truth is judged last. Both commands' answers stand in
+// one local: this function becomes a part of `command`, whose frame each level of the tree has on the stack.
 fn conditional(work: &mut [u64], registers: usize, scope: usize, node: usize) -> Answer
     requires { ⌜ rows-end ≤ length (now work) ⌝ }
     requires { ⌜ scope ≤ node ⌝ }
@@ -180,14 +181,14 @@ fn conditional(work: &mut [u64], registers: usize, scope: usize, node: usize) ->
         return test;
     };
     let where_true = end(work, node + 1);
-    let first = command(work, registers, scope, where_true);
-    let Answer::Is(done) = first else {
-        return first;
+    let mut judged = command(work, registers, scope, where_true);
+    let Answer::Is(done) = judged else {
+        return judged;
     };
     let where_false = end(work, where_true);
-    let second = command(work, registers, scope, where_false);
-    let Answer::Is(done) = second else {
-        return second;
+    judged = command(work, registers, scope, where_false);
+    let Answer::Is(done) = judged else {
+        return judged;
     };
     truth(node, 0, code)
 }

@@ -38,6 +38,7 @@ int of_kind(PiKind kind)
     case PI_KIND_CSEQ:
     case PI_KIND_BLK:
     case PI_KIND_CALL:
+    case PI_KIND_COND:
         return 2;
     case PI_KIND_BIND:
     case PI_KIND_DSEQ:

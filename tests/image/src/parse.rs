@@ -87,6 +87,7 @@ pub fn fixed_children(kind: Kind) -> &'static [Wanted] {
         Kind::Binary(_) => &[Expression, Expression],
         Kind::Not | Kind::Assign | Kind::Ref => &[Expression],
         Kind::Loop => &[Expression, Command],
+        Kind::Cond => &[Expression, Command, Command],
         Kind::CSeq => &[Command, Command],
         Kind::Blk => &[Declaration, Command],
         Kind::Bind => &[Bound],
@@ -244,7 +245,7 @@ impl Parser {
                 Ok(name + NAMES * self.number("a type code", CODES - 1)?)
             }
             Kind::Binary(_) | Kind::Not | Kind::Loop | Kind::CSeq | Kind::Blk => Ok(0),
-            Kind::DSeq | Kind::Ref | Kind::Abs => Ok(0),
+            Kind::Cond | Kind::DSeq | Kind::Ref | Kind::Abs => Ok(0),
         }
     }
 
@@ -261,7 +262,8 @@ impl Parser {
         fault(position, format!("true or false must stand here, not {piece}{hint}"))
     }
 
-    /// A child that the node must have.
+    /// A child that the node must have. Where a command of a Cond is missing the fault
+    /// says what its two are for.
     fn child(
         &mut self,
         of: &Row,
@@ -270,10 +272,16 @@ impl Parser {
         depth: u32,
     ) -> Result<(), Fault> {
         match self.peek() {
-            (Piece::Close, position) => fault(
-                position,
-                format!("{} of the {} at {begun} is missing", wanted_name(wanted), of.name),
-            ),
+            (Piece::Close, position) => {
+                let hint = match (of.kind, wanted) {
+                    (Kind::Cond, Wanted::Command) => {
+                        "; the first of its two runs if the test is true, else the second"
+                    }
+                    _ => "",
+                };
+                let missing = format!("{} of the {} at {begun}", wanted_name(wanted), of.name);
+                fault(position, format!("{missing} is missing{hint}"))
+            }
             _ => self.node(wanted, depth + 1),
         }
     }

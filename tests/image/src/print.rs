@@ -59,7 +59,7 @@ fn head(node: Node) -> String {
         Kind::Call => format!(" {}", operand % NAMES),
         Kind::Formal => format!(" {} {}", operand % NAMES, operand / NAMES),
         Kind::Binary(_) | Kind::Not | Kind::Loop | Kind::CSeq | Kind::Blk => String::new(),
-        Kind::DSeq | Kind::Ref | Kind::Abs => String::new(),
+        Kind::Cond | Kind::DSeq | Kind::Ref | Kind::Abs => String::new(),
     };
     format!("({}{said}", by_kind(node.kind()).name)
 }

@@ -187,6 +187,6 @@ fn label(row: &Row, operand: Option<u32>) -> String {
         Kind::Abs => format!("{kind} of {operand} Formals"),
         Kind::Formal => format!("{kind} {} of code {}", operand % NAMES, operand / NAMES),
         Kind::Binary(_) | Kind::Not | Kind::Loop | Kind::CSeq => kind.to_string(),
-        Kind::Blk | Kind::DSeq | Kind::Ref => kind.to_string(),
+        Kind::Blk | Kind::Cond | Kind::DSeq | Kind::Ref => kind.to_string(),
     }
 }

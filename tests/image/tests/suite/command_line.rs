@@ -78,6 +78,9 @@ fn find_says_where_a_routine_is_refused() {
     let said = |text: &str| text_said(&["find", "-"], text.as_bytes());
     assert_eq!(said("registers 0\n(Id 5)"), "-:2:1: 10 unbound: the name has no binding\n");
     assert_eq!(said(DOUBLE), "-: passes as a command\n");
+    // In the command of a Cond that would not be taken.
+    let choice = "registers 1\n(Cond (Boo true)\n  (Assign 0 (Num 1))\n  (Assign 1 (Num 2)))";
+    assert_eq!(said(choice), "-:4:3: 10 unbound: the name has no binding\n");
     assert_eq!(said("registers 0 (Num 1)"), "-: passes with type code 0 (an integer)\n");
     assert_eq!(said("registers 0 (Boo true)"), "-: passes with type code 1 (a truth)\n");
     assert_eq!(

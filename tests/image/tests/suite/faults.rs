@@ -137,6 +137,57 @@ fn children() {
     );
 }
 
+/// A Cond has a test and two commands; where one of these is missing the fault says what
+/// the two are for.
+#[test]
+fn choices() {
+    let said = |tree: &str| fault(&format!("registers 1\n{tree}"));
+    let set = "(Assign 0 (Num 1))";
+    let missing = "a command of the Cond at 2:1 is missing; \
+                   the first of its two runs if the test is true, else the second";
+    assert_eq!(said(&format!("(Cond (Boo true) {set})")), format!("2:36: {missing}"));
+    assert_eq!(said("(Cond (Boo true))"), format!("2:17: {missing}"));
+    assert_eq!(said("(Cond)"), "2:6: an expression of the Cond at 2:1 is missing");
+    assert_eq!(
+        said("(Cond (Boo true"),
+        "2:16: `)` must close the Boo at 2:7, not the end of the text"
+    );
+    assert_eq!(
+        said(&format!("(Cond (Boo true) {set} {set} {set})")),
+        "2:56: the Cond at 2:1 has no further child"
+    );
+    assert_eq!(
+        said(&format!("(Cond {set} {set} {set})")),
+        "2:7: an expression must stand here, not Assign"
+    );
+    let command = "a command must stand here, not";
+    assert_eq!(said("(Cond (Boo true) (Num 1)"), format!("2:18: {command} Num"));
+    assert_eq!(
+        said(&format!("(Cond (Boo true) {set} (Boo true))")),
+        format!("2:37: {command} Boo")
+    );
+    assert_eq!(
+        said(&format!("(Cond (Boo true) {set} (Bind 1 (Num 1)))")),
+        format!("2:37: {command} Bind")
+    );
+    assert_eq!(
+        said(&format!("(Cond 0 (Boo true) {set} {set})")),
+        "2:7: an expression must stand here, not `0`"
+    );
+    let choice = format!("(Cond (Boo true) {set} {set})");
+    assert_eq!(said(&format!("(Not {choice})")), "2:6: an expression must stand here, not Cond");
+    assert_eq!(
+        said(&format!("(Blk {choice} {set})")),
+        "2:6: a declaration must stand here, not Cond"
+    );
+    assert_eq!(
+        said(&format!("(Blk (Bind 1 (Abs {choice})) (Call 1))")),
+        "2:19: a Blk must stand here, not Cond"
+    );
+    assert_eq!(said("(cond (Boo true))"), "2:2: `cond` is no kind of node; Cond is");
+    assert_eq!(said("(If (Boo true))"), "2:2: `If` is no kind of node");
+}
+
 #[test]
 fn parentheses() {
     let said = |tree: &str| fault(&format!("registers 1\n{tree}"));

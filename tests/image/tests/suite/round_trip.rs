@@ -90,14 +90,39 @@ fn each_form_is_read() {
         (Blk (DSeq (Bind 1 (Abs (Formal 2 0) (Formal 3 5) (Blk (Bind 4 (Ref (Boo true)))
                     (Loop (And (Id 4) (Boo false)) (Assign 4 (Not (Boo false)))))))
                (Bind 5 (DeRef 0)))
-          (CSeq (Call 1 (Num 4294967295) (DeRef 5)) (Assign 0 (ValRef 5))))";
+          (CSeq (Call 1 (Num 4294967295) (DeRef 5))
+            (Cond (Boo true) (Assign 0 (ValRef 5)) (Assign 0 (Num 1)))))";
     let body =
         block(bind_ref(4, boo(true)), repeat(and(id(4), boo(false)), assign(4, not(boo(false)))));
     let root = blk(
         dseq(bind_abs(1, &[(2, 0), (3, 5)], body), bind(5, deref(0))),
-        cseq(call(1, vec![num(u32::MAX), deref(5)]), assign(0, valref(5))),
+        cseq(
+            call(1, vec![num(u32::MAX), deref(5)]),
+            cond(boo(true), assign(0, valref(5)), assign(0, num(1))),
+        ),
     );
     assert_eq!(parse(text).unwrap().image(), image(1, root));
+}
+
+/// A Cond on one line where it fits, and else with its test and its commands each on a
+/// line of its own.
+#[test]
+fn a_choice_goes_to_text_and_back() {
+    let short = "registers 1\n(Cond (Boo false) (Assign 0 (Num 1)) (Assign 0 (Num 2)))\n";
+    let root = cond(boo(false), assign(0, num(1)), assign(0, num(2)));
+    assert_eq!(parse(short).unwrap().image(), image(1, root));
+    let long = "registers 2
+(Cond
+  (Lt (Id 0) (Num 0))
+  (Assign 1 (Sub (Num 0) (Num 1)))
+  (Cond (Eq (Id 0) (Num 0)) (Assign 1 (Num 0)) (Assign 1 (Num 1))))
+";
+    let else_if = cond(eq(id(0), num(0)), assign(1, num(0)), assign(1, num(1)));
+    let root = cond(lt(id(0), num(0)), assign(1, sub(num(0), num(1))), else_if);
+    assert_eq!(parse(long).unwrap().image(), image(2, root));
+    for text in [short, long] {
+        assert_eq!(print(&read(&parse(text).unwrap().image()).unwrap()), text);
+    }
 }
 
 #[test]

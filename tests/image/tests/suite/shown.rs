@@ -84,6 +84,19 @@ refused 11 at 4
         blk(bind(1, num(1)), assign(1, num(1))),
         "   3   Assign 1 <- 13 not assignable: the name cannot be set\n",
     );
+    // Both commands of a Cond are judged, whichever would be taken, and then its test.
+    ends(
+        cond(boo(false), assign(0, id(5)), assign(0, num(1))),
+        "   3     Id 5 <- 10 unbound: the name has no binding\n",
+    );
+    ends(
+        cond(num(1), assign(0, num(1)), assign(0, id(5))),
+        "   5     Id 5 <- 10 unbound: the name has no binding\n",
+    );
+    ends(
+        cond(num(1), assign(0, num(1)), assign(0, num(2))),
+        "   0 Cond <- 11 type: the node takes another type\n",
+    );
     ends(
         call(0, vec![]),
         "   0 Call 0 of 0 actuals <- 14 call: no function of this name with so many Formals\n",
@@ -222,6 +235,18 @@ refused 1 at 0
    1   Boo 1
 refused 2 at 0
 2 counts: n is above 2,000, or r is above 16
+"
+    );
+    assert_eq!(
+        said(&[4, 1, 25, 2, 20, 1, 1, 1, 0, 7]),
+        "nodes 4, registers 1
+   0 Cond <- 4 operand: the operand is 1
+   1   Boo 1
+   2   Assign 0
+   3     Num 7
+   -   missing <- 5 tree: a command must stand here
+refused 4 at 0
+4 operand: the kind does not take this operand
 "
     );
     assert!(said(&[1, 2, 3, 0, 0]).starts_with(

@@ -23,7 +23,7 @@ use Rattle.checker.proofs.commands.+block+bound+command+conditional+dec
 use Rattle.checker.proofs.commands.+block+bound+command+conditional+declaration.Proof.BlockNeeds.{block-add-declaration, block-declaration-requires, block-enum-known-declared, block-enum-told, block-same-length, block-returns, block-add-end, block-end-requires, block-command-requires, block-anew-requires, block-same-length-2, block-returns-2}
 use Rattle.checker.proofs.commands.+block+bound+command+conditional+declaration.Proof.BoundNeeds.{bound-kind-requires, bound-add-expression, bound-expression-requires, bound-enum-known-value, bound-enum-told, bound-same-length, bound-returns, bound-location-code-requires, bound-same-length-2, bound-returns-2, bound-operand-requires, bound-add-formals, bound-formals-requires, bound-enum-known-parameters, bound-enum-told-2, bound-same-length-3, bound-returns-3, bound-add-block, bound-add-block-2, bound-block-requires, bound-enum-known-body, bound-enum-told-3, bound-same-length-4, bound-returns-4, bound-same-length-5, bound-returns-5, bound-expression-requires-2, bound-anew-requires, bound-same-length-6, bound-returns-6}
 use Rattle.checker.proofs.commands.+block+bound+command+conditional+declaration.Proof.CommandNeeds.{command-kind-requires, command-assignment-requires, command-same-length, command-returns, command-block-requires, command-anew-requires, command-same-length-2, command-returns-2, command-call-requires, command-same-length-3, command-returns-3, command-add-expression, command-expression-requires, command-enum-known-test, command-enum-told, command-same-length-4, command-returns-4, command-add-end, command-end-requires, command-command-requires, command-enum-known-body, command-enum-told-2, command-same-length-5, command-returns-5, command-truth-requires, command-same-length-6, command-returns-6, command-conditional-requires, command-anew-requires-2, command-same-length-7, command-returns-7, command-add-command, command-command-requires-2, command-enum-known-first, command-enum-told-3, command-same-length-8, command-returns-8, command-add-end-2, command-end-requires-2, command-command-requires-3, command-anew-requires-3, command-same-length-9, command-returns-9}
-use Rattle.checker.proofs.commands.+block+bound+command+conditional+declaration.Proof.ConditionalNeeds.{conditional-add-expression, conditional-expression-requires, conditional-enum-known-test, conditional-enum-told, conditional-same-length, conditional-returns, conditional-add-end, conditional-end-requires, conditional-command-requires, conditional-enum-known-first, conditional-enum-told-2, conditional-same-length-2, conditional-returns-2, conditional-end-requires-2, conditional-command-requires-2, conditional-enum-known-second, conditional-enum-told-3, conditional-same-length-3, conditional-returns-3, conditional-truth-requires, conditional-same-length-4, conditional-returns-4}
+use Rattle.checker.proofs.commands.+block+bound+command+conditional+declaration.Proof.ConditionalNeeds.{conditional-add-expression, conditional-expression-requires, conditional-enum-known-test, conditional-enum-told, conditional-same-length, conditional-returns, conditional-add-end, conditional-end-requires, conditional-command-requires, conditional-enum-known-judged, conditional-enum-told-2, conditional-same-length-2, conditional-returns-2, conditional-end-requires-2, conditional-command-requires-2, conditional-enum-known-judged-2, conditional-enum-told-3, conditional-same-length-3, conditional-returns-3, conditional-truth-requires, conditional-same-length-4, conditional-returns-4}
 use Rattle.checker.proofs.commands.+block+bound+command+conditional+declaration.Proof.DeclarationNeeds.{declaration-kind-requires, declaration-add-declaration, declaration-declaration-requires, declaration-enum-known-first, declaration-enum-told, declaration-same-length, declaration-returns, declaration-add-end, declaration-end-requires, declaration-declaration-requires-2, declaration-enum-known-second, declaration-enum-told-2, declaration-same-length-2, declaration-returns-2, declaration-shares-name-requires, declaration-same-length-3, declaration-returns-3, declaration-same-length-4, declaration-returns-4, declaration-operand-requires, declaration-add-bound, declaration-bound-requires, declaration-enum-known-meant, declaration-enum-told-3, declaration-same-length-5, declaration-returns-5, declaration-row-word-requires, declaration-add-work, declaration-mul-work, declaration-slice-write-work, declaration-add-t32, declaration-same-length-6, declaration-returns-6}
 
 pub +block+bound+command+conditional+declaration-spec : {M : Type 1} → statement M
@@ -130,13 +130,13 @@ pub +block+bound+command+conditional+declaration-spec : {M : Type 1} → stateme
     (conditional-add-end t)
     (conditional-end-requires t)
     (conditional-command-requires t)
-    (conditional-enum-known-first t)
+    (conditional-enum-known-judged t)
     (conditional-enum-told-2 t)
     (conditional-same-length-2 t)
     (conditional-returns-2 t)
     (conditional-end-requires-2 t)
     (conditional-command-requires-2 t)
-    (conditional-enum-known-second t)
+    (conditional-enum-known-judged-2 t)
     (conditional-enum-told-3 t)
     (conditional-same-length-3 t)
     (conditional-returns-3 t)

@@ -64,8 +64,8 @@ conditional-command-requires t c κs =
       (start .pre .1 .0, (omega (arith, start .pre .1 .1 .0, parts .first-after, end), (start .pre .1 .1 .1 .0, (tree .1, subst (λ i. CommandAt (now (start .args .work)) i (tree .1)) (sym end) (parts .first))))),
     )
 
-pub conditional-enum-known-first : (t : ℕ) → conditional-lts.Need-enum-known-first (conditional-calls t) (conditional-at t) conditional.Post
-conditional-enum-known-first t c = search needs
+pub conditional-enum-known-judged : (t : ℕ) → conditional-lts.Need-enum-known-judged (conditional-calls t) (conditional-at t) conditional.Post
+conditional-enum-known-judged t c = search needs
 
 pub conditional-enum-told-2 : (t : ℕ) → conditional-lts.Need-enum-told-2 (conditional-calls t) (conditional-at t) conditional.Post
 conditional-enum-told-2 t c = search needs
@@ -114,8 +114,8 @@ conditional-command-requires-2 t c κs =
       ),
     )
 
-pub conditional-enum-known-second : (t : ℕ) → conditional-lts.Need-enum-known-second (conditional-calls t) (conditional-at t) conditional.Post
-conditional-enum-known-second t c = search needs
+pub conditional-enum-known-judged-2 : (t : ℕ) → conditional-lts.Need-enum-known-judged-2 (conditional-calls t) (conditional-at t) conditional.Post
+conditional-enum-known-judged-2 t c = search needs
 
 pub conditional-enum-told-3 : (t : ℕ) → conditional-lts.Need-enum-told-3 (conditional-calls t) (conditional-at t) conditional.Post
 conditional-enum-told-3 t c = search needs
@@ -132,7 +132,7 @@ conditional-returns-3 t c =
     let test = c .before .before .before .before .before .before .before .before .before .before .before .before .before .before .before .before .before .before .test .given .1 in
     let end = c .before .before .before .before .before .before .before .before .before .before .before .before .before .before .before .end .ensures in
     let call = c .before .before .before .before .before .before .before .before .before .before .before .before .before .command in
-    let first = c .before .before .before .before .before .before .before .before .before .first .given .1 in
+    let first = c .before .before .before .before .before .before .before .before .before .judged .given .1 in
     let later = second-found _ _ _ (call .ensures .1) end (command-low (parts .first .stored)) (c .before .before .before .before .before .before .end2 .ensures) in
     let last = c .before .before .before .before .command2 in
     let second = fine-before _ _ _ _ (call .ensures .1) (omega (arith, start .pre .1 .1 .0, parts .first-after, end)) (last .ensures .0) in (
@@ -155,10 +155,10 @@ conditional-returns-4 t c =
     let test = c .before .before .before .before .before .before .before .before .before .before .before .before .before .before .before .before .before .before .before .before .test .given .1 in
     let end = c .before .before .before .before .before .before .before .before .before .before .before .before .before .before .before .before .before .end .ensures in
     let call = c .before .before .before .before .before .before .before .before .before .before .before .before .before .before .before .command in
-    let first = c .before .before .before .before .before .before .before .before .before .before .before .first .given .1 in
+    let first = c .before .before .before .before .before .before .before .before .before .before .before .judged .given .1 in
     let later = second-found _ _ _ (call .ensures .1) end (command-low (parts .first .stored)) (c .before .before .before .before .before .before .before .before .end2 .ensures) in
     let last = c .before .before .before .before .before .before .command2 in
     let second = fine-before _ _ _ _ (call .ensures .1) (omega (arith, start .pre .1 .1 .0, parts .first-after, end)) (last .ensures .0) in (
-      conditional-fine _ _ _ _ _ judged _ _ _ test end (call .ensures .0) _ _ _ first later second _ _ (c .before .before .second .given .1) (c .truth .ensures),
+      conditional-fine _ _ _ _ _ judged _ _ _ test end (call .ensures .0) _ _ _ first later second _ _ (c .before .before .judged2 .given .1) (c .truth .ensures),
       kept-then (kept-lower (call .ensures .1) (omega (arith, parts .first-after, end))) (last .ensures .1) (omega (arith, parts .first-after, parts .second-after, later)),
     )
