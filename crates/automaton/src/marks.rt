@@ -1,8 +1,8 @@
 // Which rule a mark has.
 ghost use Rattle.rules.specs.paper.States.{Mark, mark};
 ghost use Rattle.machine.specs.Steps.{Applicable, Steps};
+use commands::choices::conditional_mark;
 use commands::marks::assign_mark;
-use commands::marks::conditional_mark;
 use commands::marks::loop_mark;
 use commands::marks::ref_mark;
 use expressions::marks::not_mark;

@@ -1,5 +1,5 @@
-// The rules of the marks of Assign, Loop, Cond and Ref.
-ghost use Rattle.rules.specs.paper.States.{assign-mark, loop-mark, conditional-mark, ref-mark, mark};
+// The rules of the marks of Assign, Loop and Ref.
+ghost use Rattle.rules.specs.paper.States.{assign-mark, loop-mark, ref-mark, mark};
 ghost use Rattle.machine.specs.Steps.{Applicable, Steps};
 use machine::Location;
 use machine::Machine;
@@ -11,7 +11,6 @@ use machine::layout::TOP_LABEL;
 use machine::layout::TOP_PAYLOAD;
 use machine::lookup::row_of;
 use machine::memory::put_cell;
-use machine::memory::put_control;
 use machine::memory::put_value;
 use machine::memory::set_cell;
 use machine::reasons;
@@ -48,23 +47,6 @@ pub fn loop_mark(work: &mut [u64], mut m: Machine, word: u64) -> Stepped
     }
     let body = end(work, node as usize + 1);
     put_two(work, m, node, body as u64)
-}
-
-// Cond's: the first command if the test is true, else the second. It takes the mark's own place on control.
-pub fn conditional_mark(work: &mut [u64], mut m: Machine, word: u64) -> Stepped
-    requires { ⌜ Applicable (now work) m word (mark conditional-mark) ⌝ }
-    ensures { λ r. ⌜ Steps (now (work .entry)) m word (mark conditional-mark) r (now (work .exit)) ⌝ }
-{
-    let height = m.values;
-    let truth = work[TOP_PAYLOAD + height];
-    let node = work[SECOND_PAYLOAD + height];
-    m.values = height - 2;
-    let first = end(work, node as usize + 1);
-    if truth == 0 {
-        let second = end(work, first);
-        return Stepped::Made(put_control(work, m, second as u64));
-    }
-    Stepped::Made(put_control(work, m, first as u64))
 }
 
 // Ref's: a cell with the value, its location in L and in the value's place.

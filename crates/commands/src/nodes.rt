@@ -3,16 +3,16 @@ ghost use mathlib.Core.Path.{_≡_};
 ghost use mathlib.Core.List.{List};
 ghost use Prim.Native.Nat.{ℕ};
 ghost use lib.ListN.{getD};
-ghost use Rattle.rules.specs.paper.Tree.{Expression, Command, Assign, Loop, CSeq, block, Call, Cond, Blk, Declaration};
+ghost use Rattle.rules.specs.paper.Tree.{Expression, Command, Assign, Loop, CSeq, block, Call, Blk, Declaration};
 ghost use Rattle.rules.specs.paper.States.{command};
 ghost use Rattle.reader.specs.Pack.{packed-kind};
 ghost use Rattle.machine.specs.Steps.{Applicable, Steps};
+use crate::choices::conditional;
 use machine::Machine;
 use machine::Stepped;
 use machine::layout::ASSIGN_MARK;
 use machine::layout::CALL_MARK;
 use machine::layout::CARRIED_UNIT;
-use machine::layout::COND_MARK;
 use machine::layout::EXTEND_MARK;
 use machine::layout::LEAVE_MARK;
 use machine::layout::LOOP_MARK;
@@ -43,14 +43,6 @@ fn repeat(work: &mut [u64], m: Machine, node: usize) -> Stepped
     ensures { λ r. ⌜ ((e : Expression) (c : Command) → Steps (now (work .entry)) m node (command (Loop node e c)) r (now (work .exit))) ⌝ }
 {
     enter(work, m, node as u64, LOOP_MARK, node as u64 + 1)
-}
-
-// Cond: itself, the test, the mark.
-fn conditional(work: &mut [u64], m: Machine, node: usize) -> Stepped
-    requires { ⌜ ((e : Expression) × (c₁ c₂ : Command) × Applicable (now work) m node (command (Cond node e c₁ c₂))) ⌝ }
-    ensures { λ r. ⌜ ((e : Expression) (c₁ c₂ : Command) → Steps (now (work .entry)) m node (command (Cond node e c₁ c₂)) r (now (work .exit))) ⌝ }
-{
-    enter(work, m, node as u64, COND_MARK, node as u64 + 1)
 }
 
 // CSeq: both commands.

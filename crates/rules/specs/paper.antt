@@ -12,3 +12,4 @@ pub mod Fire
 pub mod Run
 pub mod Engine
 pub mod Cases
+pub mod Choices

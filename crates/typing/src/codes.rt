@@ -121,7 +121,7 @@ pub fn operation(which: usize, node: usize, first: usize, second: usize) -> Answ
     truths(node, first, second)
 }
 
-// A truth value alone: Not gives 1 of it, and a Loop's test is one.
+// A truth value alone: Not gives 1 of it, and the test of a Loop or Cond is one.
 pub fn truth(node: usize, result: usize, code: usize) -> Answer
     ensures { λ r. ⌜ r ≡ code-answer (truth-only node result code) ⌝ }
 {

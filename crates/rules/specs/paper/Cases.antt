@@ -26,7 +26,7 @@ pub record Case : Type 0 where
   pub steps : ℕ
   pub left : List ℤ  -- the registers after
 
-abbrev case : List ℕ → List ℤ → ℕ → Answer → ℕ → List ℤ → Case
+abbrev pub case : List ℕ → List ℤ → ℕ → Answer → ℕ → List ℤ → Case
 case im zs b a k ys = record { image = im; registers = zs; budget = b; answer = a; steps = k; left = ys }
 
 -- 5 × (3 + 2)

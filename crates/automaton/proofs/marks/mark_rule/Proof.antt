@@ -14,7 +14,7 @@ use Rattle.frames.proofs.declarations.dseq_join_mark.Reads as dseq-join-mark-re
 use Rattle.frames.proofs.blocks.extend_mark.Reads as extend-mark-reads
 use Rattle.frames.proofs.blocks.leave_mark.Reads as leave-mark-reads
 use Rattle.commands.proofs.marks.assign_mark.Reads as assign-mark-reads
-use Rattle.commands.proofs.marks.conditional_mark.Reads as conditional-mark-reads
+use Rattle.commands.proofs.choices.conditional_mark.Reads as conditional-mark-reads
 use Rattle.commands.proofs.marks.loop_mark.Reads as loop-mark-reads
 use Rattle.commands.proofs.marks.ref_mark.Reads as ref-mark-reads
 use Rattle.expressions.proofs.marks.not_mark.Reads as not-mark-reads

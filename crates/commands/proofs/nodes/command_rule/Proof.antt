@@ -9,7 +9,7 @@ use Rattle.commands.proofs.nodes.command_rule.Reads as reads
 use Rattle.commands.proofs.nodes.command_rule.Lts as lts
 use Rattle.commands.proofs.nodes.assign.Reads as assign-reads
 use Rattle.commands.proofs.nodes.call.Reads as call-reads
-use Rattle.commands.proofs.nodes.conditional.Reads as conditional-reads
+use Rattle.commands.proofs.choices.conditional.Reads as conditional-reads
 use Rattle.commands.proofs.nodes.enter_block.Reads as enter-block-reads
 use Rattle.commands.proofs.nodes.repeat.Reads as repeat-reads
 use Rattle.commands.proofs.nodes.sequence.Reads as sequence-reads

@@ -2,10 +2,10 @@
 use native.Mathlib.Omega.{arith}
 use Rattle.commands.proofs.command_laws.CommandLaws.{command-low, conditional-steps}
 use borrow.Author.Needs.{needs}
-use Rattle.commands.proofs.nodes.conditional.Statement.{statement}
-use Rattle.commands.proofs.nodes.conditional.Tie as tie
-use Rattle.commands.proofs.nodes.conditional.Reads as reads
-use Rattle.commands.proofs.nodes.conditional.Lts as lts
+use Rattle.commands.proofs.choices.conditional.Statement.{statement}
+use Rattle.commands.proofs.choices.conditional.Tie as tie
+use Rattle.commands.proofs.choices.conditional.Reads as reads
+use Rattle.commands.proofs.choices.conditional.Lts as lts
 use Rattle.machine.proofs.stacks.enter.Reads as enter-reads
 
 add-enter : tie.Need-add-enter
