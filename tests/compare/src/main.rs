@@ -40,8 +40,8 @@ In a release build a second is enough for about 5,000 images of check, 500 of ru
 1,000 of bytes and 350 of program: 100,000 images take 20 seconds, 3 minutes, 2 minutes
 and 5 minutes. On a terminal the count and the time left are shown on standard error.
 
-families: small medium large faulty sequences limits damaged empty shaped plausible
-          words host
+families: small medium large faulty sequences choices limits damaged empty shaped
+          plausible words host
 ";
 
 /// Compares one sample and counts what it was answered.

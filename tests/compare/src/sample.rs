@@ -39,39 +39,41 @@ pub struct Sample {
 }
 
 /// How many of each hundred samples are of which family.
-pub type Mixture = [(usize, Family); 12];
+pub type Mixture = [(usize, Family); 13];
 
 /// For checks, and for calls on bytes. Large cases take the second interpreter
 /// longest and are seldom.
 pub const CHECKED: Mixture = [
-    (16, Family::Small),
+    (14, Family::Small),
     (6, Family::Medium),
     (2, Family::Large),
     (6, Family::Faulty),
-    (10, Family::Sequences),
+    (8, Family::Sequences),
+    (8, Family::Choices),
     (6, Family::Limits),
-    (22, Family::Damaged),
+    (20, Family::Damaged),
     (4, Family::Empty),
-    (10, Family::Shaped),
+    (9, Family::Shaped),
     (8, Family::Plausible),
     (4, Family::Words),
-    (6, Family::Host),
+    (5, Family::Host),
 ];
 
 /// For runs, the program's too: more of what passes the checker.
 pub const RUN: Mixture = [
-    (26, Family::Small),
+    (22, Family::Small),
     (10, Family::Medium),
     (4, Family::Large),
-    (13, Family::Faulty),
-    (12, Family::Sequences),
+    (11, Family::Faulty),
+    (10, Family::Sequences),
+    (11, Family::Choices),
     (8, Family::Limits),
-    (8, Family::Damaged),
+    (7, Family::Damaged),
     (3, Family::Empty),
-    (6, Family::Shaped),
+    (5, Family::Shaped),
     (2, Family::Plausible),
     (2, Family::Words),
-    (6, Family::Host),
+    (5, Family::Host),
 ];
 
 impl Sample {

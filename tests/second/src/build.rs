@@ -103,6 +103,10 @@ pub fn call(name: Name, actuals: Vec<Expression>) -> Command {
     Command::Call(Call { place: 0, name, actuals })
 }
 
+pub fn cond(test: Expression, first: Command, second: Command) -> Command {
+    Command::Cond(Cond { place: 0, test, first: Box::new(first), second: Box::new(second) })
+}
+
 /// Bind to an expression.
 pub fn bind(name: Name, value: Expression) -> Declaration {
     Declaration::Bind(Bind { place: 0, name, bound: Bound::Expression(value) })

@@ -123,6 +123,13 @@ fn command<'t>(scope: &Scope<'t>, node: &'t Command) -> Result<(), Refusal> {
         }
         Command::Blk(node) => blk(scope, node),
         Command::Call(node) => call(scope, node),
+        Command::Cond(node) => {
+            // Both commands are judged, taken or not, and before the Cond itself.
+            let test = expression(scope, &node.test)?;
+            command(scope, &node.first)?;
+            command(scope, &node.second)?;
+            require(test == 1, refusal::TYPE, node.place)
+        }
     }
 }
 

@@ -3,8 +3,9 @@
 //! The states of a run are the start and the one each made step leaves. All of
 //! them can be looked at between two calls of [`Execution::advance`].
 
+use crate::effect::Effect;
 use crate::refusal;
-use crate::rules::{apply, Effect};
+use crate::rules::apply;
 use crate::state::{Heights, State};
 use crate::tree::Routine;
 

@@ -30,6 +30,7 @@ pub enum Kind {
     CSeq,
     Blk,
     Call,
+    Cond,
     Bind,
     DSeq,
     Ref,
@@ -60,7 +61,7 @@ const fn row(number: u32, kind: Kind, name: &'static str, sort: Sort, greatest: 
     Row { number, kind, name, sort, greatest_operand: greatest }
 }
 
-pub const TABLE: [Row; 27] = [
+pub const TABLE: [Row; 28] = [
     row(1, Kind::Num, "Num", Sort::Expression, u32::MAX),
     row(2, Kind::Boo, "Boo", Sort::Expression, 1),
     row(3, Kind::Id, "Id", Sort::Expression, NAME),
@@ -83,6 +84,7 @@ pub const TABLE: [Row; 27] = [
     row(22, Kind::CSeq, "CSeq", Sort::Command, 0),
     row(23, Kind::Blk, "Blk", Sort::Command, 0),
     row(24, Kind::Call, "Call", Sort::Command, NAME + NAMES * MOST_COUNT),
+    row(25, Kind::Cond, "Cond", Sort::Command, 0),
     row(30, Kind::Bind, "Bind", Sort::Declaration, NAME),
     row(31, Kind::DSeq, "DSeq", Sort::Declaration, 0),
     row(40, Kind::Ref, "Ref", Sort::Ref, 0),

@@ -18,6 +18,7 @@ pub mod bytes;
 pub mod chain;
 pub mod checker;
 pub mod command_line;
+pub mod effect;
 pub mod encode;
 pub mod engine;
 pub mod execution;

@@ -14,6 +14,7 @@ pub enum Node<'t> {
     CSeq(&'t CSeq),
     Blk(&'t Blk),
     Call(&'t Call),
+    Cond(&'t Cond),
     Bind(&'t Bind),
     DSeq(&'t DSeq),
     Ref(&'t Ref),
@@ -30,6 +31,7 @@ impl<'t> Node<'t> {
             Node::CSeq(node) => node.place,
             Node::Blk(node) => node.place,
             Node::Call(node) => node.place,
+            Node::Cond(node) => node.place,
             Node::Bind(node) => node.place,
             Node::DSeq(node) => node.place,
             Node::Ref(node) => node.place,
@@ -54,6 +56,7 @@ impl<'t> Node<'t> {
             Node::CSeq(_) => Kind::CSeq,
             Node::Blk(_) => Kind::Blk,
             Node::Call(_) => Kind::Call,
+            Node::Cond(_) => Kind::Cond,
             Node::Bind(_) => Kind::Bind,
             Node::DSeq(_) => Kind::DSeq,
             Node::Ref(_) => Kind::Ref,
@@ -76,7 +79,12 @@ impl<'t> Node<'t> {
             Node::Bind(node) => node.name,
             Node::Abs(node) => node.formals.len() as u32,
             Node::Formal(node) => node.name + NAMES * node.code,
-            Node::Loop(_) | Node::CSeq(_) | Node::Blk(_) | Node::DSeq(_) | Node::Ref(_) => 0,
+            Node::Loop(_)
+            | Node::CSeq(_)
+            | Node::Blk(_)
+            | Node::Cond(_)
+            | Node::DSeq(_)
+            | Node::Ref(_) => 0,
         }
     }
 
@@ -93,6 +101,9 @@ impl<'t> Node<'t> {
             Node::CSeq(node) => vec![(&node.first).into(), (&node.second).into()],
             Node::Blk(node) => vec![(&node.declaration).into(), (&node.command).into()],
             Node::Call(node) => node.actuals.iter().map(Node::from).collect(),
+            Node::Cond(node) => {
+                vec![(&node.test).into(), (&node.first).into(), (&node.second).into()]
+            }
             Node::Bind(node) => vec![(&node.bound).into()],
             Node::DSeq(node) => vec![(&node.first).into(), (&node.second).into()],
             Node::Ref(node) => vec![(&node.value).into()],
@@ -153,6 +164,7 @@ impl<'t> From<&'t Command> for Node<'t> {
             Command::CSeq(node) => Node::CSeq(node),
             Command::Blk(node) => Node::Blk(node),
             Command::Call(node) => Node::Call(node),
+            Command::Cond(node) => Node::Cond(node),
         }
     }
 }

@@ -107,7 +107,7 @@ impl Reader<'_> {
         }
         let head = self.head(Wanted::Root, 1)?;
         match head.kind {
-            Kind::Assign | Kind::Loop | Kind::CSeq | Kind::Blk | Kind::Call => {
+            Kind::Assign | Kind::Loop | Kind::CSeq | Kind::Blk | Kind::Call | Kind::Cond => {
                 Ok(Root::Command(self.command_of(head, 1)?))
             }
             _ => Ok(Root::Expression(self.expression_of(head, 1)?)),
@@ -166,6 +166,12 @@ impl Reader<'_> {
                     actuals.push(self.expression(depth + 1)?);
                 }
                 Command::Call(Call { place, name: head.name(), actuals })
+            }
+            Kind::Cond => {
+                let test = self.expression(depth + 1)?;
+                let first = Box::new(self.command(depth + 1)?);
+                let second = Box::new(self.command(depth + 1)?);
+                Command::Cond(Cond { place, test, first, second })
             }
             other => unreachable!("{other:?} is no command"),
         })

@@ -1,116 +1,16 @@
 //! The rules of the automaton (the paper's "The automaton").
 //!
-//! A rule looks at a state and writes down its effect: what it uses of V, what
-//! it puts on each stack, and what becomes of E, S, L and the count of live
-//! bindings. The state itself is only read here, so a step that is withheld
-//! changes nothing. Where no rule applies the interpreter stops with a panic:
-//! that must not come about in a routine the checker passes.
+//! A rule looks at a state and writes down its effect. The state itself is only
+//! read here, so a step that is withheld changes nothing. Where no rule applies
+//! the interpreter stops with a panic: that must not come about in a routine the
+//! checker passes.
 
 use crate::arithmetic::operate;
+use crate::effect::{Effect, StoreChange};
 use crate::node::Node;
 use crate::state::*;
 use crate::store::{Location, LocationSet, Value};
 use crate::tree::*;
-
-/// What a step does, once its node or mark is off control.
-#[derive(Debug)]
-pub struct Effect<'t> {
-    /// How many entries of V it uses, taken off first.
-    pub uses: usize,
-    /// What it puts on V, the last on top.
-    pub values: Vec<ValueEntry<'t>>,
-    /// What it puts on control, the first on top.
-    pub control: Vec<ControlEntry<'t>>,
-    pub store: StoreChange,
-    /// The new environment, location set and count of live bindings, where they
-    /// change.
-    pub environment: Option<Environment<'t>>,
-    pub locations: Option<LocationSet>,
-    pub bindings: Option<usize>,
-}
-
-#[derive(Debug)]
-pub enum StoreChange {
-    None,
-    Make(Value),
-    Set(Location, Value),
-    Remove(LocationSet),
-}
-
-impl<'t> Effect<'t> {
-    pub fn none() -> Effect<'t> {
-        Effect {
-            uses: 0,
-            values: Vec::new(),
-            control: Vec::new(),
-            store: StoreChange::None,
-            environment: None,
-            locations: None,
-            bindings: None,
-        }
-    }
-
-    /// Forget the last step's effect, keeping the room for the next.
-    fn clear(&mut self) {
-        self.uses = 0;
-        self.values.clear();
-        self.control.clear();
-        self.store = StoreChange::None;
-        self.environment = None;
-        self.locations = None;
-        self.bindings = None;
-    }
-
-    fn push(&mut self, value: Value) {
-        self.values.push(ValueEntry::Value(value));
-    }
-
-    fn put(&mut self, node: impl Into<Node<'t>>) {
-        self.control.push(ControlEntry::Node(node.into()));
-    }
-
-    fn mark(&mut self, mark: Mark<'t>) {
-        self.control.push(ControlEntry::Mark(mark));
-    }
-
-    /// The heights of the state after the step.
-    pub fn heights_after(&self, state: &State) -> Heights {
-        let cells = match &self.store {
-            StoreChange::Make(_) => state.store.live() + 1,
-            StoreChange::Remove(locations) => state.store.live() - locations.iter().count(),
-            StoreChange::None | StoreChange::Set(..) => state.store.live(),
-        };
-        Heights {
-            cells,
-            bindings: self.bindings.unwrap_or(state.bindings),
-            values: state.values.len() - self.uses + self.values.len(),
-            control: state.control.len() - 1 + self.control.len(),
-        }
-    }
-
-    /// Make the step: the state becomes the one the effect describes.
-    pub fn make(&mut self, state: &mut State<'t>) {
-        state.control.pop();
-        state.control.extend(self.control.drain(..).rev());
-        state.values.truncate(state.values.len() - self.uses);
-        state.values.append(&mut self.values);
-        match &self.store {
-            StoreChange::None => {}
-            StoreChange::Make(first) => state.store.make(*first),
-            StoreChange::Set(location, value) => state.store.set(*location, *value),
-            StoreChange::Remove(locations) => state.store.remove(locations),
-        }
-        if let Some(environment) = self.environment.take() {
-            state.environment = environment;
-        }
-        if let Some(locations) = self.locations.take() {
-            state.locations = locations;
-        }
-        if let Some(bindings) = self.bindings {
-            state.bindings = bindings;
-        }
-    }
-}
 
 /// The rule for the top of control, with its effect; or 31 or 32.
 pub fn apply<'t>(state: &State<'t>, effect: &mut Effect<'t>) -> Result<(), u32> {
@@ -157,6 +57,11 @@ fn at_node<'t>(node: Node<'t>, state: &State<'t>, effect: &mut Effect<'t>) {
                 effect.put(actual);
             }
             effect.mark(Mark::Call(node));
+        }
+        Node::Cond(node) => {
+            effect.values.push(ValueEntry::Cond(node));
+            effect.put(&node.test);
+            effect.mark(Mark::Cond);
         }
         Node::Bind(node) => {
             effect.values.push(ValueEntry::Name(node.name));
@@ -239,6 +144,14 @@ fn at_mark<'t>(mark: Mark<'t>, state: &State<'t>, effect: &mut Effect<'t>) -> Re
                 effect.put(&node.command);
                 effect.put(Node::Loop(node));
             }
+        }
+        Mark::Cond => {
+            let truth = truth_at(state, 0);
+            let ValueEntry::Cond(node) = *entry_at(state, 1) else {
+                stuck("Cond's mark: no Cond on V");
+            };
+            effect.uses = 2;
+            effect.put(if truth { &node.first } else { &node.second });
         }
         Mark::Ref => {
             let first = value_at(state, 0);

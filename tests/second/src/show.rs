@@ -42,6 +42,7 @@ fn label(node: Node) -> String {
         | Kind::Loop
         | Kind::CSeq
         | Kind::Blk
+        | Kind::Cond
         | Kind::DSeq
         | Kind::Ref => kind.to_string(),
     }

@@ -20,6 +20,7 @@ pub enum Mark<'t> {
     Not,
     Assign,
     Loop,
+    Cond,
     Ref,
     Bind,
     /// A DSeq's first mark: its first declaration has run, and the second is to
@@ -46,6 +47,7 @@ pub enum ValueEntry<'t> {
     Closure(Closure<'t>),
     Name(Name),
     Loop(&'t Loop),
+    Cond(&'t Cond),
     Environment(Environment<'t>),
     Locations(LocationSet),
 }

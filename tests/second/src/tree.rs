@@ -67,6 +67,7 @@ pub enum Command {
     CSeq(CSeq),
     Blk(Blk),
     Call(Call),
+    Cond(Cond),
 }
 
 #[derive(Clone, Debug, PartialEq, Eq)]
@@ -102,6 +103,14 @@ pub struct Call {
     pub place: Place,
     pub name: Name,
     pub actuals: Vec<Expression>,
+}
+
+#[derive(Clone, Debug, PartialEq, Eq)]
+pub struct Cond {
+    pub place: Place,
+    pub test: Expression,
+    pub first: Box<Command>,
+    pub second: Box<Command>,
 }
 
 #[derive(Clone, Debug, PartialEq, Eq)]

@@ -15,6 +15,14 @@ mod bytes;
 mod calls;
 #[path = "../../../second/tests/suite/cases.rs"]
 mod cases;
+#[path = "../../../second/tests/suite/choice_limits.rs"]
+mod choice_limits;
+#[path = "../../../second/tests/suite/choice_states.rs"]
+mod choice_states;
+#[path = "../../../second/tests/suite/choice_types.rs"]
+mod choice_types;
+#[path = "../../../second/tests/suite/choices.rs"]
+mod choices;
 #[path = "../../../second/tests/suite/limits.rs"]
 mod limits;
 #[path = "../../../second/tests/suite/no_routine.rs"]
@@ -27,5 +35,7 @@ mod sequence_types;
 mod sequences;
 #[path = "../../../second/tests/suite/shape.rs"]
 mod shape;
+#[path = "../../../second/tests/suite/towers.rs"]
+mod towers;
 #[path = "../../../second/tests/suite/types.rs"]
 mod types;

@@ -151,6 +151,18 @@ pub fn papers_image(wanted: &str) -> Vec<u32> {
     case.expect("a case of the paper").1
 }
 
+/// The images that are changed word by word: those of the paper's cases, and one with a
+/// Cond in the other in a function.
+pub fn images_to_change() -> Vec<Vec<u32>> {
+    let inner = cond(id(3), assign(0, num(4)), call(1, vec![id(2), lt(id(0), num(9))]));
+    let outer = cond(lt(id(2), id(0)), assign(0, num(5)), blk(bind_ref(3, boo(true)), inner));
+    let nothing = bind_abs(1, &[(2, 0), (3, 1)], block(bind(4, id(2)), assign(0, id(4))));
+    let function = bind_abs(5, &[(2, 0)], block(bind(4, num(6)), outer));
+    let choice = blk(nothing, blk(function, call(5, vec![num(7)])));
+    let paper = papers_images().into_iter().map(|(_, image, _)| image);
+    paper.chain([image(1, choice)]).collect()
+}
+
 /// The images of the cases A to L, each with the checker's answer by the paper.
 /// B and C are A's image, and G's three runs are of one image.
 pub fn papers_images() -> Vec<(&'static str, Vec<u32>, Answer)> {

@@ -4,6 +4,7 @@
 use super::noise::children;
 use super::random::Random;
 use crate::kinds::{by_number, Kind, MOST_DEPTH, NAMES, TABLE};
+use std::ops::Range;
 
 /// An image of the right length, taken apart.
 struct Parts {
@@ -31,7 +32,12 @@ impl Parts {
 
     /// The places of the nodes of some kinds.
     fn places(&self, wanted: impl Fn(Kind) -> bool) -> Vec<usize> {
-        (0..self.nodes.len()).filter(|place| wanted(self.kind(*place))).collect()
+        self.places_in(0..self.nodes.len(), wanted)
+    }
+
+    /// Those of them among some places.
+    fn places_in(&self, places: Range<usize>, wanted: impl Fn(Kind) -> bool) -> Vec<usize> {
+        places.filter(|place| wanted(self.kind(*place))).collect()
     }
 
     /// The place behind the node at this place and all below it.
@@ -55,11 +61,10 @@ impl Parts {
         }
     }
 
-    /// The places from one to before another where a name is used.
-    fn uses(&self, from: usize, to: usize) -> Vec<usize> {
+    /// The places among some where a name is used.
+    fn uses(&self, places: Range<usize>) -> Vec<usize> {
         use Kind::*;
-        let uses = |place: &usize| matches!(self.kind(*place), Id | DeRef | ValRef | Assign | Call);
-        (from..to).filter(uses).collect()
+        self.places_in(places, |kind| matches!(kind, Id | DeRef | ValRef | Assign | Call))
     }
 
     /// One of some nodes takes the name of one of others.
@@ -79,15 +84,16 @@ pub fn damage(random: &mut Random, image: &[u32]) -> Vec<u32> {
         return damage_counts(random, image);
     }
     let mut parts = Parts::of(image);
+    let all = 0..parts.nodes.len();
     let place = random.below(parts.nodes.len());
-    match random.below(14) {
+    match random.below(18) {
         0 => {
-            parts.nodes[place].0 = *random.pick(&[0, 18, 19, 25, 29, 32, 39, 43, 1 << 16, u32::MAX])
+            parts.nodes[place].0 = *random.pick(&[0, 18, 19, 26, 29, 32, 39, 43, 1 << 16, u32::MAX])
         }
         1 => parts.nodes[place].0 = random.pick(&TABLE).number,
         2 => parts.nodes[place].1 = operand_too_great(random, parts.nodes[place].0),
-        3 => rename(random, &mut parts),
-        4 => retype(random, &mut parts),
+        3 => rename(random, &mut parts, all),
+        4 => retype(random, &mut parts, all),
         5 => {
             parts.nodes.remove(place);
         }
@@ -98,10 +104,11 @@ pub fn damage(random: &mut Random, image: &[u32]) -> Vec<u32> {
         }
         7 => deepen(random, &mut parts),
         8 => parts.registers = random.below(17) as u32,
-        9 => repeat_a_name(random, &mut parts),
-        10 => change_a_call(random, &mut parts),
-        11 => change_a_sequence(random, &mut parts),
-        12 => set_another_name(random, &mut parts),
+        9 | 10 => repeat_a_name(random, &mut parts),
+        11 => change_a_call(random, &mut parts, all),
+        12 | 13 => change_a_sequence(random, &mut parts),
+        14 => set_another_name(random, &mut parts, all),
+        15 | 16 => change_a_choice(random, &mut parts),
         _ => swap_kinds(random, &mut parts),
     }
     parts.image()
@@ -131,11 +138,11 @@ fn operand_too_great(random: &mut Random, kind: u32) -> u32 {
     greatest.saturating_add(above)
 }
 
-/// Another name where a name stands.
-fn rename(random: &mut Random, parts: &mut Parts) {
+/// Another name where a name stands, among some places.
+fn rename(random: &mut Random, parts: &mut Parts, places: Range<usize>) {
     use Kind::*;
     let commands = random.chance(1, 2);
-    let named = parts.places(|kind| match kind {
+    let named = parts.places_in(places, |kind| match kind {
         Assign | Call | Bind => true,
         Id | DeRef | ValRef | Formal => !commands,
         _ => false,
@@ -150,10 +157,14 @@ fn rename(random: &mut Random, parts: &mut Parts) {
     }
 }
 
-/// An expression of another code: a leaf, or a Formal's code.
-fn retype(random: &mut Random, parts: &mut Parts) {
+/// An expression of another code: a leaf, or a Formal's code, among some places.
+fn retype(random: &mut Random, parts: &mut Parts, places: Range<usize>) {
     use Kind::*;
-    let leaves = parts.places(|kind| matches!(kind, Num | Boo | Id | DeRef | ValRef | Formal));
+    let is_leaf = |kind| matches!(kind, Num | Boo | Id | DeRef | ValRef | Formal);
+    let leaves = parts.places_in(places, is_leaf);
+    if leaves.is_empty() {
+        return;
+    }
     let place = *random.pick(&leaves);
     let (kind, operand) = &mut parts.nodes[place];
     if by_number(*kind).expect("a kind").kind == Formal {
@@ -199,29 +210,86 @@ fn change_a_sequence(random: &mut Random, parts: &mut Parts) {
     let second = parts.behind(first);
     let end = parts.behind(second);
     let (firsts_binds, seconds_binds) = (parts.binds(first), parts.binds(second));
-    let (firsts_uses, seconds_uses) = (parts.uses(first, second), parts.uses(second, end));
-    match random.below(4) {
+    let (firsts_uses, seconds_uses) = (parts.uses(first..second), parts.uses(second..end));
+    match random.below(5) {
         // The first declares a name that the second uses, and hides what it meant there.
         0 => parts.take_a_name(random, &firsts_binds, &seconds_uses),
         // The second uses what the first declares, in a form that may not fit.
         1 => parts.take_a_name(random, &seconds_uses, &firsts_binds),
+        // A function of the second sets what the first declares, or calls it.
+        2 => {
+            let commands = |kind| matches!(kind, Kind::Assign | Kind::Call);
+            let takers = parts.places_in(second..end, commands);
+            parts.take_a_name(random, &takers, &firsts_binds);
+        }
         // The first uses what the second declares.
-        2 => parts.take_a_name(random, &firsts_uses, &seconds_binds),
+        3 => parts.take_a_name(random, &firsts_uses, &seconds_binds),
         // They change places: what the second saw is behind it.
         _ => parts.nodes[first..end].rotate_left(second - first),
     }
 }
 
-/// An Assign takes a name that a Bind or a Formal has: one that may not be set.
-fn set_another_name(random: &mut Random, parts: &mut Parts) {
-    let assigns = parts.places(|kind| kind == Kind::Assign);
+/// The same image with a change in one of its Conds.
+pub fn change_a_choice_of(random: &mut Random, image: &[u32]) -> Vec<u32> {
+    let mut parts = Parts::of(image);
+    change_a_choice(random, &mut parts);
+    parts.image()
+}
+
+/// A change of a Cond: of its test, in its first or its second command, of their order,
+/// or of the node itself. A fault in a command is one whether it is taken or not.
+fn change_a_choice(random: &mut Random, parts: &mut Parts) {
+    let choices = parts.places(|kind| kind == Kind::Cond);
+    if choices.is_empty() {
+        return;
+    }
+    let place = *random.pick(&choices);
+    let test = place + 1;
+    let first = parts.behind(test);
+    let second = parts.behind(first);
+    let end = parts.behind(second);
+    let command = if random.chance(1, 2) { first..second } else { second..end };
+    match random.below(10) {
+        // A test of code 0, or of code 2 if there is a register.
+        0 | 1 => {
+            let leaf = *random.pick(&[(1, 1), (16, 0)]);
+            parts.nodes.splice(test..first, [leaf]);
+        }
+        2 => rename(random, parts, command),
+        3 => retype(random, parts, command),
+        4 => set_another_name(random, parts, command),
+        5 => change_a_call(random, parts, command),
+        // The second command uses what the first declares.
+        6 => {
+            let binds = parts.places_in(first..second, |kind| kind == Kind::Bind);
+            let uses = parts.uses(second..end);
+            parts.take_a_name(random, &uses, &binds);
+        }
+        // Two children change places.
+        7 => match random.below(2) {
+            0 => parts.nodes[test..second].rotate_left(first - test),
+            _ => parts.nodes[first..end].rotate_left(second - first),
+        },
+        // A child is missing.
+        8 => {
+            let child = random.pick(&[test..first, first..second, second..end]).clone();
+            parts.nodes.drain(child);
+        }
+        _ => parts.nodes[place].1 = operand_too_great(random, parts.nodes[place].0),
+    }
+}
+
+/// An Assign among some places takes a name that a Bind or a Formal has: one that may
+/// not be set.
+fn set_another_name(random: &mut Random, parts: &mut Parts, places: Range<usize>) {
+    let assigns = parts.places_in(places, |kind| kind == Kind::Assign);
     let named = parts.places(|kind| matches!(kind, Kind::Bind | Kind::Formal));
     parts.take_a_name(random, &assigns, &named);
 }
 
-/// One actual more or less, or a Call of something else.
-fn change_a_call(random: &mut Random, parts: &mut Parts) {
-    let calls = parts.places(|kind| kind == Kind::Call);
+/// One actual more or less, or a Call of something else, among some places.
+fn change_a_call(random: &mut Random, parts: &mut Parts, places: Range<usize>) {
+    let calls = parts.places_in(places, |kind| kind == Kind::Call);
     if calls.is_empty() {
         return;
     }

@@ -1,6 +1,7 @@
 //! Trees near every limit of the paper: nodes, depth, cells, bindings and the
 //! entries of both stacks.
 
+use super::choices::else_if;
 use super::declarations::{to_the_left, to_the_right};
 use super::random::Random;
 use super::scope::Scope;
@@ -58,10 +59,12 @@ pub fn with_depth(random: &mut Random, depth: usize) -> Routine {
     }
     let mut command = assign(0, value);
     for _ in 0..commands {
-        command = match random.below(4) {
+        command = match random.below(6) {
             0 => cseq(command, assign(0, num(2))),
             1 => cseq(assign(0, num(2)), command),
             2 => repeat(boo(false), command),
+            3 => cond(boo(true), command, assign(0, num(2))),
+            4 => cond(boo(true), assign(0, num(2)), command),
             _ => blk(bind(1, num(3)), command),
         };
     }
@@ -137,6 +140,13 @@ fn near_stacks(random: &mut Random) -> Routine {
         }
     }
     if random.chance(1, 4) {
+        // Conds around some layers, which hold nothing.
+        for _ in 0..random.between(1, 20) {
+            let place = random.below(tower.layers.len());
+            tower.layers.insert(place, Layer::Choice { first: random.chance(1, 2) });
+        }
+    }
+    if random.chance(1, 4) {
         let (one, other) = (random.below(tower.layers.len()), random.below(tower.layers.len()));
         tower.layers.swap(one, other);
     }
@@ -148,7 +158,7 @@ fn near_stacks(random: &mut Random) -> Routine {
 pub fn inner_command(random: &mut Random, helper_formals: usize) -> Command {
     let help = || call(HELPER, vec![num(0); helper_formals]);
     let nest = random.between(1, 6);
-    match random.below(14) {
+    match random.below(18) {
         0 => assign(0, (0..nest).fold(num(1), |right, _| sum(num(1), right))),
         1 => assign(0, (0..nest).fold(num(1), |left, _| sum(left, num(1)))),
         2 => (0..nest).fold(assign(0, num(5)), |first, _| cseq(first, assign(0, num(6)))),
@@ -173,6 +183,19 @@ pub fn inner_command(random: &mut Random, helper_formals: usize) -> Command {
         12 => {
             let last = bind_ref(1 + nest as Name, id(nest as Name));
             blk(to_the_right(nest as Name, last), assign(0, id(1 + nest as Name)))
+        }
+        // Conds in each other's second or first command, and tests that are high.
+        13 => else_if(nest as u32),
+        14 => (0..nest).fold(assign(0, num(9)), |first, _| {
+            cond(lt(id(0), num(10)), cseq(first, assign(0, num(6))), assign(0, num(7)))
+        }),
+        15 => {
+            let test = (0..nest).fold(boo(true), |right, _| and(boo(true), right));
+            cond(test, help(), assign(0, num(5)))
+        }
+        16 => {
+            let test = (0..nest).fold(boo(true), |left, _| and(left, boo(false)));
+            cond(test, assign(0, num(5)), help())
         }
         _ => {
             let mut generator = Generator { random, temper: Temper::Calm };

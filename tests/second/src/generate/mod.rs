@@ -1,5 +1,6 @@
 //! Cases made from a seed, the same for the same seed everywhere.
 
+pub mod choices;
 pub mod damage;
 pub mod declarations;
 pub mod empty;
@@ -13,7 +14,7 @@ pub mod well_typed;
 use crate::encode::encode;
 use crate::engine::{MOST_BUDGET, WORK_WORDS};
 use crate::kinds::{MOST_DEPTH, MOST_REGISTERS};
-use crate::tree::{Root, Routine};
+use crate::tree::{Command, Root, Routine};
 use random::{starting_value, Random};
 use scope::Scope;
 use well_typed::{Generator, Room, Temper, LEAST_COMMAND};
@@ -42,6 +43,9 @@ pub enum Family {
     /// A Blk whose DSeqs use what was declared before, up to some 200 nodes; one in
     /// three has another name in one of its DSeqs, which may be a fault.
     Sequences,
+    /// Conds in each other, in blocks, loops and functions, up to some 200 nodes; one in
+    /// three has a change in one of its Conds, taken or not, which may be a fault.
+    Choices,
     /// Near a limit of nodes, depth, cells, bindings or stack entries.
     Limits,
     /// A well-typed image with one fault.
@@ -59,12 +63,13 @@ pub enum Family {
 }
 
 impl Family {
-    pub const ALL: [(&'static str, Family); 12] = [
+    pub const ALL: [(&'static str, Family); 13] = [
         ("small", Family::Small),
         ("medium", Family::Medium),
         ("large", Family::Large),
         ("faulty", Family::Faulty),
         ("sequences", Family::Sequences),
+        ("choices", Family::Choices),
         ("limits", Family::Limits),
         ("damaged", Family::Damaged),
         ("empty", Family::Empty),
@@ -89,7 +94,16 @@ impl Family {
                 let image = encode(&well_typed_routine(random, 80, Temper::Faulty));
                 case_of(random, image, true)
             }
-            Family::Sequences => sequences_case(random),
+            Family::Sequences => changed_case(
+                random,
+                |generator, scope| generator.sequences(scope),
+                damage::change_a_sequence_of,
+            ),
+            Family::Choices => changed_case(
+                random,
+                |generator, scope| generator.choices(scope),
+                damage::change_a_choice_of,
+            ),
             Family::Limits => {
                 let image = encode(&limits::near_a_limit(random));
                 case_of(random, image, false)
@@ -142,13 +156,18 @@ fn well_typed_case(random: &mut Random, most_nodes: usize) -> Case {
     case_of(random, image, temper == Temper::Calm)
 }
 
-fn sequences_case(random: &mut Random) -> Case {
+/// A case of a command that a generator writes; one in three with a change.
+fn changed_case(
+    random: &mut Random,
+    written: fn(&mut Generator, &Scope) -> Command,
+    changed: fn(&mut Random, &[u32]) -> Vec<u32>,
+) -> Case {
     let temper = if random.chance(3, 4) { Temper::Calm } else { Temper::Faulty };
     let registers = *random.pick(&[0, 1, 2, 4, 16]);
-    let root = Generator { random, temper }.sequences(&Scope::of_registers(registers));
+    let root = written(&mut Generator { random, temper }, &Scope::of_registers(registers));
     let mut image = encode(&Routine { registers, root: Root::Command(root) });
     if random.chance(1, 3) {
-        image = damage::change_a_sequence_of(random, &image);
+        image = changed(random, &image);
     }
     case_of(random, image, true)
 }

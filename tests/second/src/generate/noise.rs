@@ -101,6 +101,7 @@ pub(super) fn children(kind: Kind, operand: u32) -> Vec<Wanted> {
         Kind::CSeq => vec![Wanted::Command; 2],
         Kind::Blk => vec![Wanted::Declaration, Wanted::Command],
         Kind::Call => vec![Wanted::Expression; (operand / NAMES) as usize],
+        Kind::Cond => vec![Wanted::Expression, Wanted::Command, Wanted::Command],
         Kind::Bind => vec![Wanted::Bound],
         Kind::DSeq => vec![Wanted::Declaration; 2],
         Kind::Abs => {

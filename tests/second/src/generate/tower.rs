@@ -9,7 +9,8 @@
 //! Function i runs its layers around a Call of function i − 1, and function 0
 //! its layers around the inner command. While the inner command runs, each Blk
 //! and each Call that is not left holds two entries of V (the saved E and L) and
-//! one of control (the second mark); each CSeq and Loop one of control.
+//! one of control (the second mark); each CSeq and Loop one of control; a Cond
+//! nothing.
 
 use crate::build::*;
 use crate::state::Heights;
@@ -34,6 +35,9 @@ pub enum Layer {
     Sequence,
     /// A Loop without end.
     Forever,
+    /// A Cond that takes its first command, or its second; the other one is
+    /// Assign(0, 2), so there must be a register.
+    Choice { first: bool },
 }
 
 /// The least block layer: one plain Bind.
@@ -93,6 +97,7 @@ impl Tower {
                     heights.cells += cells;
                 }
                 Layer::Sequence | Layer::Forever => heights.control += 1,
+                Layer::Choice { .. } => {}
             }
         }
         heights.values = 2 * frames;
@@ -156,5 +161,7 @@ fn wrap(layers: &[Layer], inner: Command) -> Command {
         }
         Layer::Sequence => cseq(command, assign(0, num(1))),
         Layer::Forever => repeat(boo(true), command),
+        Layer::Choice { first: true } => cond(boo(true), command, assign(0, num(2))),
+        Layer::Choice { first: false } => cond(boo(false), assign(0, num(2)), command),
     })
 }

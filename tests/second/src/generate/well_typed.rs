@@ -3,8 +3,9 @@
 //!
 //! A tree is written downwards with a room: the nodes and the levels it may
 //! still take. Whoever hands a room on leaves at least the least room there. What
-//! a Blk declares is in `declarations.rs`.
+//! a Blk declares is in `declarations.rs`, what a Cond chooses in `choices.rs`.
 
+use super::choices::LEAST_CHOICE;
 use super::random::Random;
 use super::scope::{Meaning, Scope};
 use crate::build::*;
@@ -24,7 +25,7 @@ impl Room {
         Room { nodes, levels: self.levels - 1 }
     }
 
-    fn holds(self, least: Room) -> bool {
+    pub(super) fn holds(self, least: Room) -> bool {
         self.nodes >= least.nodes && self.levels >= least.levels
     }
 }
@@ -44,7 +45,7 @@ const LEVELS: usize = 12;
 /// The most names one declaration binds.
 const MOST_NAMES: usize = 40;
 
-enum Choice {
+enum Shape {
     Assign,
     Call,
     Sequence,
@@ -52,6 +53,7 @@ enum Choice {
     CountedLoop,
     Block,
     Levels,
+    Cond,
 }
 
 /// How readily a tree runs into 31 and 32.
@@ -90,9 +92,7 @@ impl Generator<'_> {
             return self.leaf(scope, code);
         }
         if code == 0 && self.temper == Temper::Faulty && self.random.chance(1, 6) {
-            let zero_divisor = div(num(1), num(0));
-            let out_of_range = mul(num(u32::MAX), num(u32::MAX));
-            return if self.random.chance(1, 2) { zero_divisor } else { out_of_range };
+            return self.fault();
         }
         if code == 1 && self.random.chance(1, 5) {
             return not(self.expression(scope, 1, room.below(room.nodes - 1)));
@@ -130,7 +130,18 @@ impl Generator<'_> {
         }
     }
 
-    fn leaf(&mut self, scope: &Scope, code: Code) -> Expression {
+    /// An integer expression that is withheld for 31, or for 32.
+    pub(super) fn fault(&mut self) -> Expression {
+        let zero_divisor = div(num(1), num(0));
+        let out_of_range = mul(num(u32::MAX), num(u32::MAX));
+        if self.random.chance(1, 2) {
+            zero_divisor
+        } else {
+            out_of_range
+        }
+    }
+
+    pub(super) fn leaf(&mut self, scope: &Scope, code: Code) -> Expression {
         let mut choices = Vec::new();
         for (name, named) in scope.codes() {
             if named == code + 2 || (named < 2 && named == code) {
@@ -181,63 +192,75 @@ impl Generator<'_> {
 
     /// A command. The room is at least `LEAST_COMMAND`.
     pub fn command(&mut self, scope: &Scope, room: Room) -> Command {
-        let choices = self.choices(scope, room);
-        if choices.is_empty() {
+        let fitting = self.fitting(scope, room);
+        if fitting.is_empty() {
             return self.least_command(scope);
         }
-        match self.random.weighted(&choices) {
-            Choice::Assign => {
+        match self.random.weighted(&fitting) {
+            Shape::Assign => {
                 let (name, code) = self.pick_named(scope, scope.assignable());
                 let nodes = (room.nodes - 1).min(40);
                 assign(name, self.expression(scope, code, room.below(nodes)))
             }
-            Choice::Call => self.call(scope, room),
-            Choice::Sequence => {
+            Shape::Call => {
+                let (name, formals) = self.pick_named(scope, scope.callable());
+                let spare = room.nodes - 1 - formals.len();
+                let each = room.below(1 + spare.min(40) / formals.len().max(1));
+                self.call(scope, name, &formals, each)
+            }
+            Shape::Sequence => {
                 let (least, most) = (LEAST_COMMAND.nodes, room.nodes - 1 - LEAST_COMMAND.nodes);
                 let first = self.random.between(least, most);
                 let (first, second) = (room.below(first), room.below(room.nodes - 1 - first));
                 cseq(self.command(scope, first), self.command(scope, second))
             }
-            Choice::Loop => {
+            Shape::Loop => {
                 let most = (room.nodes - 1 - LEAST_COMMAND.nodes).min(20);
                 let test = self.random.between(1, most);
                 let command = room.below(room.nodes - 1 - test);
                 repeat(self.test(scope, room.below(test)), self.command(scope, command))
             }
-            Choice::CountedLoop => self.counted_loop(scope, room),
-            Choice::Block => Command::Blk(self.block(scope, room)),
-            Choice::Levels => self.levels(scope, room),
+            Shape::CountedLoop => {
+                let body = Room { nodes: room.nodes - COUNTED, levels: room.levels - 3 };
+                self.counted_loop(scope, |generator, inner| generator.command(inner, body))
+            }
+            Shape::Block => Command::Blk(self.block(scope, room)),
+            Shape::Levels => self.levels(scope, room),
+            Shape::Cond => self.choice(scope, room),
         }
     }
 
     /// What fits the room, with weights: larger rooms go to what fills them.
-    fn choices(&mut self, scope: &Scope, room: Room) -> Vec<(usize, Choice)> {
+    fn fitting(&mut self, scope: &Scope, room: Room) -> Vec<(usize, Shape)> {
         let large = room.nodes > 40 && room.levels > 8;
-        let mut choices = Vec::new();
+        let mut fitting = Vec::new();
         if !scope.assignable().is_empty() && !large {
-            choices.push((6, Choice::Assign));
+            fitting.push((6, Shape::Assign));
         }
         let callable = scope.callable();
         if room.nodes > MOST_COUNT as usize && !callable.is_empty() && !large {
             let earlier = callable.iter().any(|(name, _)| scope.is_earlier(*name));
-            choices.push((if earlier { 24 } else { 8 }, Choice::Call));
+            fitting.push((if earlier { 32 } else { 10 }, Shape::Call));
         }
         if room.nodes > 2 * LEAST_COMMAND.nodes && room.levels > LEAST_COMMAND.levels {
-            choices.push((if large { 8 } else { 3 }, Choice::Sequence));
+            fitting.push((if large { 8 } else { 3 }, Shape::Sequence));
         }
         if room.nodes >= 2 + LEAST_COMMAND.nodes && room.levels > LEAST_COMMAND.levels {
-            choices.push((1, Choice::Loop));
+            fitting.push((1, Shape::Loop));
         }
         if room.nodes >= COUNTED + LEAST_COMMAND.nodes && room.levels >= 3 + LEAST_COMMAND.levels {
-            choices.push((2, Choice::CountedLoop));
+            fitting.push((2, Shape::CountedLoop));
         }
         if room.holds(LEAST_BLOCK) {
-            choices.push((if large { 8 } else { 4 }, Choice::Block));
+            fitting.push((if large { 8 } else { 4 }, Shape::Block));
         }
         if room.nodes >= LEVELS + LEAST_BLOCK.nodes && room.levels >= 3 + LEAST_BLOCK.levels {
-            choices.push((2, Choice::Levels));
+            fitting.push((2, Shape::Levels));
         }
-        choices
+        if room.holds(LEAST_CHOICE) {
+            fitting.push((if large { 5 } else { 3 }, Shape::Cond));
+        }
+        fitting
     }
 
     fn least_command(&mut self, scope: &Scope) -> Command {
@@ -248,10 +271,14 @@ impl Generator<'_> {
         blk(bind_ref(name, first), assign(name, self.leaf(&inner, code)))
     }
 
-    fn call(&mut self, scope: &Scope, room: Room) -> Command {
-        let (name, formals) = self.pick_named(scope, scope.callable());
-        let spare = room.nodes - 1 - formals.len();
-        let each = room.below(1 + spare.min(40) / formals.len().max(1));
+    /// A Call with an actual for each of these codes, in so much room each.
+    pub(super) fn call(
+        &mut self,
+        scope: &Scope,
+        name: Name,
+        formals: &[Code],
+        each: Room,
+    ) -> Command {
         let actuals = formals.iter().map(|code| self.expression(scope, *code, each)).collect();
         call(name, actuals)
     }
@@ -265,12 +292,15 @@ impl Generator<'_> {
     }
 
     /// A loop that ends: a fresh cell counts down, and its body cannot set it.
-    fn counted_loop(&mut self, scope: &Scope, room: Room) -> Command {
+    pub(super) fn counted_loop(
+        &mut self,
+        scope: &Scope,
+        body: impl FnOnce(&mut Self, &Scope) -> Command,
+    ) -> Command {
         let counter = self.name(0);
         let inner = scope.with(&[(counter, Meaning::Counter)]);
         let rounds = self.random.below(6) as u32;
-        let body = Room { nodes: room.nodes - COUNTED, levels: room.levels - 3 };
-        let body = self.command(&inner, body);
+        let body = body(self, &inner);
         let count_down = assign(counter, sub(id(counter), num(1)));
         blk(bind_ref(counter, num(rounds)), repeat(gt(id(counter), num(0)), cseq(body, count_down)))
     }

@@ -1,167 +1,24 @@
 //! Claims about every state of generated runs (the paper's demand 3): a rule
 //! always applies, cells hold values of the type they were made with, no
 //! location outlives its cell, leaving a node restores what was there, a DSeq gives
-//! back the environment that it kept, and what a budget cuts off is the beginning of
-//! the longer run.
+//! back the environment that it kept, a Cond leaves the command it takes and nothing
+//! else, and what a budget cuts off is the beginning of the longer run. What is noted of
+//! a run on the way is in `history.rs`.
 //!
 //! That a rule applies needs no assertion here: the interpreter panics where
 //! none does.
 
 use crate::helpers::*;
+use crate::history::History;
 use second::build::{absent, image};
 use second::checker::Passed;
+use second::effect::Effect;
 use second::engine::{pass, Outcome, MOST_BUDGET, WORK_WORDS};
 use second::execution::{reasons_of_room, Advance, Execution};
 use second::generate::{Case, Family};
-use second::node::Node;
-use second::rules::{apply, Effect};
+use second::rules::apply;
 use second::state::*;
-use second::store::{Location, LocationSet, Value};
-use second::tree::{Code, Name, Place};
-
-/// A state with a Blk or a Call on top of control, kept to compare its leaving.
-struct Entered<'t> {
-    place: Place,
-    environment: Environment<'t>,
-    locations: LocationSet,
-    values: Vec<ValueEntry<'t>>,
-    live: Vec<Location>,
-    compared: bool,
-}
-
-/// A state with a DSeq on top of control, kept to compare what its marks leave.
-struct Sequence<'t> {
-    environment: Environment<'t>,
-    values: Vec<ValueEntry<'t>>,
-}
-
-/// What is known of a run besides its state.
-struct History<'t> {
-    /// The type each live cell was made with, by location.
-    made: Vec<Code>,
-    entered: Vec<Entered<'t>>,
-    /// The DSeqs whose second mark is to come, the innermost last.
-    sequences: Vec<Sequence<'t>>,
-}
-
-impl<'t> History<'t> {
-    fn start(state: &State) -> History<'t> {
-        let made = vec![0; state.store.live()];
-        History { made, entered: Vec::new(), sequences: Vec::new() }
-    }
-
-    /// The type of a value: an integer has 0, a truth 1, a location 2 more than
-    /// its live cell was made with.
-    fn code(&self, value: Value) -> Code {
-        match value {
-            Value::Integer(_) => 0,
-            Value::Truth(_) => 1,
-            Value::Location(Location(number)) => self.made[number as usize] + 2,
-        }
-    }
-
-    /// Take note of the state before a step.
-    fn before(&mut self, state: &State<'t>) {
-        if let Some(ControlEntry::Node(node @ (Node::Blk(_) | Node::Call(_)))) =
-            state.control.last()
-        {
-            self.entered.push(Entered {
-                place: node.place(),
-                environment: state.environment.clone(),
-                locations: state.locations.clone(),
-                values: state.values.clone(),
-                live: state.store.live_locations(),
-                compared: false,
-            });
-        }
-        if let Some(ControlEntry::Node(Node::DSeq(_))) = state.control.last() {
-            let environment = state.environment.clone();
-            self.sequences.push(Sequence { environment, values: state.values.clone() });
-        }
-    }
-
-    /// Take note of the state after a step, which was at this mark if at any, and
-    /// check it.
-    fn after(&mut self, mark: Option<Mark>, state: &State<'t>) {
-        let live = state.store.live();
-        self.made.truncate(live);
-        if self.made.len() < live {
-            let newest = state.store.contents(Location(live as u32 - 1)).unwrap();
-            self.made.push(self.code(newest));
-        }
-        for location in state.store.live_locations() {
-            let contents = state.store.contents(location).unwrap();
-            assert_eq!(self.code(contents), self.made[location.0 as usize], "{location:?}");
-        }
-        match mark {
-            Some(Mark::BlkSecond { place, .. }) => self.compare(place, state),
-            Some(Mark::DSeqFirst) => self.compare_kept(state),
-            Some(Mark::DSeqSecond) => self.compare_given_back(state),
-            _ => {}
-        }
-    }
-
-    /// A DSeq's first mark leaves on V the E of before and then the first
-    /// declaration's environment, whose names are added to E.
-    fn compare_kept(&self, state: &State) {
-        let sequence = self.sequences.last().expect("a DSeq's mark follows a DSeq");
-        let [below @ .., ValueEntry::Environment(kept), ValueEntry::Environment(first)] =
-            state.values.as_slice()
-        else {
-            panic!("a DSeq's first mark leaves {:?}", state.values);
-        };
-        assert!(same_entries(below, &sequence.values));
-        assert!(kept.same(&sequence.environment));
-        let names = |environment: &Environment| -> Vec<Name> {
-            environment.iter().map(|(name, _)| *name).collect()
-        };
-        assert_eq!(names(&state.environment), [names(first), names(kept)].concat());
-    }
-
-    /// Its second mark leaves one environment on V and the E of before.
-    fn compare_given_back(&mut self, state: &State) {
-        let sequence = self.sequences.pop().expect("a DSeq's mark follows a DSeq");
-        let [below @ .., ValueEntry::Environment(_)] = state.values.as_slice() else {
-            panic!("a DSeq's second mark leaves {:?}", state.values);
-        };
-        assert!(same_entries(below, &sequence.values));
-        assert!(state.environment.same(&sequence.environment));
-    }
-
-    /// A leaving of a node is compared with the latest earlier state that has
-    /// this node on top and that no earlier leaving was compared with.
-    fn compare(&mut self, place: Place, state: &State) {
-        let latest = self
-            .entered
-            .iter_mut()
-            .rev()
-            .find(|entered| entered.place == place && !entered.compared);
-        let entered = latest.expect("a node that is left was entered");
-        entered.compared = true;
-        assert!(state.environment.same(&entered.environment));
-        assert!(state.locations.same(&entered.locations));
-        assert_eq!(state.store.live_locations(), entered.live);
-        assert!(same_entries(&state.values, &entered.values));
-    }
-}
-
-fn same_entries(some: &[ValueEntry], others: &[ValueEntry]) -> bool {
-    some.len() == others.len() && some.iter().zip(others).all(|(one, other)| same_entry(one, other))
-}
-
-fn same_entry(one: &ValueEntry, other: &ValueEntry) -> bool {
-    match (one, other) {
-        (ValueEntry::Value(one), ValueEntry::Value(other)) => one == other,
-        (ValueEntry::Name(one), ValueEntry::Name(other)) => one == other,
-        (ValueEntry::Loop(one), ValueEntry::Loop(other)) => one.place == other.place,
-        (ValueEntry::Locations(one), ValueEntry::Locations(other)) => one.same(other),
-        (ValueEntry::Environment(one), ValueEntry::Environment(other)) => one.same(other),
-        (ValueEntry::Closure(one), ValueEntry::Closure(other)) => {
-            one.abs.place == other.abs.place && one.environment.same(&other.environment)
-        }
-        _ => false,
-    }
-}
+use second::store::Value;
 
 /// Every location that a run could still come by is that of a live cell.
 fn no_location_dangles(state: &State) {
@@ -179,7 +36,7 @@ fn no_location_dangles(state: &State) {
             ValueEntry::Locations(locations) => {
                 locations.iter().for_each(|own| live(Value::Location(*own)))
             }
-            ValueEntry::Name(_) | ValueEntry::Loop(_) => {}
+            ValueEntry::Name(_) | ValueEntry::Loop(_) | ValueEntry::Cond(_) => {}
         }
     }
     while let Some(environment) = environments.pop() {
@@ -212,15 +69,12 @@ fn hold(case: &Case, budget: u64, dangling: bool) -> u64 {
         assert!(heights.cells <= 256 && heights.bindings <= 512);
         assert!(heights.values <= 512 && heights.control <= 512);
         history.before(state);
-        let mark = match state.control.last() {
-            Some(ControlEntry::Mark(mark)) => Some(*mark),
-            _ => None,
-        };
+        let top = state.control.last().copied();
         let steps = execution.steps();
         match execution.advance() {
             Advance::Made => {
                 assert_eq!(execution.steps(), steps + 1);
-                history.after(mark, execution.state());
+                history.after(top.expect("a step is at the top"), execution.state());
             }
             Advance::Ended => break,
             Advance::Withheld(reason) => {
@@ -286,6 +140,12 @@ fn claims_hold_in_large_runs() {
 #[test]
 fn claims_hold_in_sequences() {
     let steps: u64 = (0..600).map(|seed| hold(&Family::Sequences.case(seed), 1_500, true)).sum();
+    assert!(steps > 20_000, "{steps} steps are few");
+}
+
+#[test]
+fn claims_hold_in_choices() {
+    let steps: u64 = (0..600).map(|seed| hold(&Family::Choices.case(seed), 1_500, true)).sum();
     assert!(steps > 20_000, "{steps} steps are few");
 }
 

@@ -2,72 +2,15 @@
 //! both sides by each rule that can pass it, on the state after the step.
 
 use crate::helpers::*;
+use crate::towers::*;
 use second::build::*;
 use second::encode;
 use second::engine::MOST_BUDGET;
-use second::execution::{reasons_of_room, Execution};
+use second::execution::Execution;
 use second::generate::tower::{Layer, Tower, BLOCK, HELPER};
-use second::kinds::by_kind;
 use second::reader::read;
-use second::rules::{apply, Effect};
-use second::state::{ControlEntry, Heights, Mark, State};
+use second::state::ControlEntry;
 use second::tree::*;
-
-/// What is on top of control: a node's kind, or the mark of one.
-pub fn top(state: &State) -> String {
-    match state.control.last() {
-        None => "nothing".to_string(),
-        Some(ControlEntry::Node(node)) => by_kind(node.kind()).name.to_string(),
-        Some(ControlEntry::Mark(mark)) => format!(
-            "mark of {}",
-            match mark {
-                Mark::Call(_) => "Call",
-                Mark::Bind => "Bind",
-                Mark::Ref => "Ref",
-                Mark::Loop => "Loop",
-                Mark::DSeqFirst | Mark::DSeqSecond => "DSeq",
-                _ => "another",
-            }
-        ),
-    }
-}
-
-/// How a tower's run ended: the reason and what was on top of control, or
-/// `None`; and the heights of its last state. The engine must say the same.
-fn end(tower: &Tower) -> (Option<(u32, String)>, Heights) {
-    let image = encode(&tower.routine());
-    let routine = read(&image).expect("a tower has the right shape");
-    let starts = vec![0; tower.registers];
-    let mut execution = Execution::start(&routine, &starts, MOST_BUDGET);
-    let reason = execution.finish(|_| {});
-    let (reply, _) = run_at(&image, &starts, MOST_BUDGET);
-    assert_eq!(reply.refusal().map(|refusal| refusal.number), reason);
-    assert_eq!(reply.steps, execution.steps());
-    if let Some(reason) = reason {
-        // The budget comes before any limit.
-        assert_eq!(run_at(&image, &starts, reply.steps).0, withheld(30, reply.steps));
-        assert_eq!(run_at(&image, &starts, reply.steps + 1).0, withheld(reason, reply.steps));
-    }
-    let state = execution.state();
-    (reason.map(|reason| (reason, top(state))), state.heights())
-}
-
-pub fn passes(tower: &Tower) {
-    assert_eq!(end(tower).0, None);
-}
-
-pub fn stops(tower: &Tower, reason: u32, at: &str) -> Heights {
-    let (ended, heights) = end(tower);
-    assert_eq!(ended, Some((reason, at.to_string())));
-    heights
-}
-
-/// A tower of 11 functions whose inner command meets these heights.
-pub fn tower(values: usize, control: usize, inner: Command) -> Tower {
-    let tower = Tower::reaching(values, control, 11, inner);
-    assert_eq!((tower.heights().values, tower.heights().control), (values, control));
-    tower
-}
 
 /// The heights a tower promises are those its inner command meets.
 #[test]
@@ -90,7 +33,10 @@ fn towers_are_as_high_as_they_say() {
     for (values, control) in [(100, 100), (100, 511), (510, 300), (510, 511), (508, 400)] {
         met(tower(values, control, inner.clone()));
     }
-    let layers = vec![Layer::Block { plain: 3, cells: 2 }, Layer::Sequence, BLOCK];
+    let choices = [true, false].map(|first| Layer::Choice { first });
+    let layers =
+        [vec![Layer::Block { plain: 3, cells: 2 }, Layer::Sequence, BLOCK], choices.to_vec()]
+            .concat();
     for functions in [0, 1, 3] {
         let layers = layers.clone();
         met(Tower {
@@ -113,6 +59,8 @@ fn control_entries_512_and_513() {
         (set(), 511, vec!["Assign"]),
         (repeat(boo(false), set()), 511, vec!["Loop"]),
         (repeat(not(boo(true)), set()), 510, vec!["Not", "Loop"]),
+        (cond(boo(true), set(), set()), 511, vec!["Cond"]),
+        (cond(not(boo(true)), set(), set()), 510, vec!["Not", "Cond"]),
         (cseq(set(), set()), 510, vec!["Assign", "CSeq"]),
         (assign(0, sum(num(1), num(1))), 509, vec!["Sum", "Sum", "Assign"]),
         (assign(0, sum(num(1), sum(num(1), num(1)))), 508, vec!["Sum", "Sum", "Sum", "Assign"]),
@@ -178,6 +126,7 @@ fn value_entries_512_and_513() {
     stopped(assign(0, sum(num(1), num(1))), "Num");
     stopped(assign(0, sum(num(1), id(0))), "Id");
     stopped(repeat(and(boo(true), boo(false)), set()), "Boo");
+    stopped(cond(and(boo(true), boo(false)), set(), set()), "Boo");
     // L, the name, and then the value of a Bind.
     stopped(blk(bind(1, num(1)), set()), "Num");
     stopped(blk(bind(1, deref(0)), set()), "DeRef");
@@ -193,9 +142,10 @@ fn value_entries_512_and_513() {
     let inner = blk(bind_ref(1, deref(0)), assign(0, sum(num(1), valref(1))));
     stops(&tower(508, 400, inner.clone()), 35, "ValRef");
     passes(&tower(506, 400, inner));
-    // A name, Assign's or Loop's own entry: never the 513th, for a command
+    // A name, Assign's, Loop's or Cond's own entry: never the 513th, for a command
     // starts with an even number on V and 512 of them only before a Blk.
     passes(&tower(510, 400, repeat(boo(false), set())));
+    passes(&tower(510, 400, cond(boo(false), set(), set())));
 }
 
 /// Actuals are taken off V before the call's own entries go on.
@@ -221,17 +171,7 @@ fn a_call_takes_its_actuals_off_first() {
 /// control.
 #[test]
 fn the_lowest_reason_wins() {
-    let reasons = |values, control| {
-        let tower = tower(values, control, call(HELPER, vec![]));
-        let routine = read(&encode(&tower.routine())).unwrap();
-        let mut execution = Execution::start(&routine, &[0], MOST_BUDGET);
-        let reason = execution.finish(|_| {});
-        let mut effect = Effect::none();
-        apply(execution.state(), &mut effect).unwrap();
-        let after = effect.heights_after(execution.state());
-        let all: Vec<u32> = reasons_of_room(after).into_iter().flatten().collect();
-        (reason, all, top(execution.state()))
-    };
+    let reasons = |values, control| reasons(&tower(values, control, call(HELPER, vec![])));
     let blk = || "Blk".to_string();
     for control in [509, 510, 511] {
         assert_eq!(reasons(510, control), (Some(35), vec![35, 36], blk()));

@@ -2,16 +2,15 @@
 //! and the kept E below the first declaration's environment while the second runs.
 //! Each limit is met at 512 and passed at 513 where an entry less would not.
 
-use crate::limits::{passes, stops, top, tower};
+use crate::towers::*;
 use second::build::*;
 use second::encode;
 use second::engine::MOST_BUDGET;
-use second::execution::{high_marks, reasons_of_room, room, Execution};
+use second::execution::{room, Execution};
 use second::generate::declarations;
 use second::reader::read;
 use second::refusal;
-use second::rules::{apply, Effect};
-use second::state::{ControlEntry, Heights, Mark, State, ValueEntry};
+use second::state::{ControlEntry, Mark, State};
 use second::tree::*;
 
 /// A Blk of so many DSeqs, each the first declaration of the one around it.
@@ -24,11 +23,6 @@ fn to_the_left(count: Name) -> Command {
 fn to_the_right(count: Name, last: fn(Name) -> Expression) -> Command {
     let last = bind(1 + count, last(count));
     blk(declarations::to_the_right(count, last), assign(0, id(1 + count)))
-}
-
-/// The highest heights of a tower's run.
-fn most(values: usize, control: usize, inner: Command) -> Heights {
-    high_marks(&read(&encode(&tower(values, control, inner).routine())).unwrap(), &[0], MOST_BUDGET)
 }
 
 /// From a Blk at a start of c the DSeqs come to c + 3 + 3 × count, and the first
@@ -121,10 +115,8 @@ fn at_a_first_mark(routine: &Routine, values: usize) -> State<'_> {
     while !matches!(execution.state().control.last(), Some(ControlEntry::Mark(Mark::DSeqFirst))) {
         execution.advance();
     }
-    let mut state = execution.state().clone();
-    let missing = values - state.values.len();
-    state.values.splice(0..0, vec![ValueEntry::Name(0); missing]);
-    state
+    let state = execution.state();
+    raised(state.clone(), values, state.control.len())
 }
 
 /// The first mark leaves one entry more on V, and 35 is judged on it. No routine is
@@ -133,12 +125,7 @@ fn at_a_first_mark(routine: &Routine, values: usize) -> State<'_> {
 #[test]
 fn a_first_mark_leaves_one_value_entry_more() {
     let routine = read(&image(1, to_the_left(1))).unwrap();
-    let mut effect = Effect::none();
-    let mut after = |values| {
-        let state = at_a_first_mark(&routine, values);
-        apply(&state, &mut effect).unwrap();
-        effect.heights_after(&state)
-    };
+    let after = |values| after(&at_a_first_mark(&routine, values));
     assert_eq!((after(511).values, room(after(511))), (512, None));
     assert_eq!((after(512).values, room(after(512))), (513, Some(refusal::VALUES)));
 }
@@ -161,24 +148,18 @@ fn both_stacks_at_one_sequence() {
 /// from any start near the limits.
 #[test]
 fn one_reason_at_a_time() {
-    let mut reasons = [0; 2];
+    let mut met = [0; 2];
     for inner in [to_the_left(1), to_the_left(3), to_the_right(1, id), to_the_right(3, id)] {
         for values in (496..=510).step_by(2) {
             for control in 494..=512 {
-                let routine =
-                    read(&encode(&tower(values, control, inner.clone()).routine())).unwrap();
-                let mut execution = Execution::start(&routine, &[0], MOST_BUDGET);
-                if execution.finish(|_| {}).is_some() {
-                    let mut effect = Effect::none();
-                    apply(execution.state(), &mut effect).unwrap();
-                    let after = effect.heights_after(execution.state());
-                    let all: Vec<u32> = reasons_of_room(after).into_iter().flatten().collect();
+                let (reason, all, at) = reasons(&tower(values, control, inner.clone()));
+                if reason.is_some() {
                     assert_eq!(all.len(), 1, "{values}, {control}");
-                    assert_ne!(top(execution.state()), "mark of DSeq");
-                    reasons[all[0] as usize - 35] += 1;
+                    assert_ne!(at, "mark of DSeq");
+                    met[all[0] as usize - 35] += 1;
                 }
             }
         }
     }
-    assert!(reasons.iter().all(|count| *count > 50), "{reasons:?}");
+    assert!(met.iter().all(|count| *count > 50), "{met:?}");
 }

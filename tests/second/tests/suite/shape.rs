@@ -30,6 +30,7 @@ const ASSIGN: (u32, u32) = (20, 0);
 const LOOP: (u32, u32) = (21, 0);
 const CSEQ: (u32, u32) = (22, 0);
 const BLK: (u32, u32) = (23, 0);
+const COND: (u32, u32) = (25, 0);
 const BIND: (u32, u32) = (30, 0);
 const DSEQ: (u32, u32) = (31, 0);
 const REF: (u32, u32) = (40, 0);
@@ -122,7 +123,7 @@ fn depth_counts_nodes_of_every_sort() {
 
 #[test]
 fn kinds_out_of_the_table_are_3() {
-    for kind in [0, 18, 19, 25, 26, 29, 32, 33, 39, 43, 44, 100, 1 << 16, u32::MAX] {
+    for kind in [0, 18, 19, 26, 29, 32, 33, 39, 43, 44, 100, 1 << 16, u32::MAX] {
         assert_eq!(shape(&nodes(&[(kind, 0)])), Some((3, 0)), "kind {kind}");
         assert_eq!(shape(&nodes(&[SUM, NUM, (kind, 0)])), Some((3, 2)), "kind {kind}");
     }
@@ -131,7 +132,7 @@ fn kinds_out_of_the_table_are_3() {
 #[test]
 fn the_table_has_the_papers_kinds() {
     let expressions = (1..=17).collect::<Vec<u32>>();
-    let others = [20, 21, 22, 23, 24, 30, 31, 40, 41, 42];
+    let others = [20, 21, 22, 23, 24, 25, 30, 31, 40, 41, 42];
     let listed: Vec<u32> = TABLE.iter().map(|row| row.number).collect();
     assert_eq!(listed, [expressions, others.to_vec()].concat());
 }
@@ -149,7 +150,7 @@ fn the_root_is_an_expression_or_a_command() {
 #[test]
 fn children_of_the_wrong_sort_are_5_at_the_child() {
     let expression: Vec<u32> = (1..=17).collect();
-    let command: Vec<u32> = (20..=24).collect();
+    let command: Vec<u32> = (20..=25).collect();
     let bound: Vec<u32> = (1..=17).chain([40, 41]).collect();
     let declaration = vec![30, 31];
     // What stands before the child, and what may stand at it.
@@ -159,10 +160,13 @@ fn children_of_the_wrong_sort_are_5_at_the_child() {
         (vec![NOT], &expression),
         (vec![ASSIGN], &expression),
         (vec![LOOP], &expression),
+        (vec![COND], &expression),
         (vec![call(1)], &expression),
         (vec![call(2), NUM], &expression),
         (vec![BLK, BIND, REF], &expression),
         (vec![LOOP, BOO], &command),
+        (vec![COND, BOO], &command),
+        (vec![COND, BOO, ASSIGN, NUM], &command),
         (vec![CSEQ], &command),
         (vec![CSEQ, ASSIGN, NUM], &command),
         (vec![BLK, BIND, NUM], &command),
@@ -203,6 +207,9 @@ fn a_missing_node_has_place_n() {
     assert_eq!(shape(&nodes(&[SUM, NUM])), Some((5, 2)));
     assert_eq!(shape(&nodes(&[SUM, SUM, NUM, NUM])), Some((5, 4)));
     assert_eq!(shape(&nodes(&[LOOP, BOO])), Some((5, 2)));
+    assert_eq!(shape(&nodes(&[COND])), Some((5, 1)));
+    assert_eq!(shape(&nodes(&[COND, BOO])), Some((5, 2)));
+    assert_eq!(shape(&nodes(&[COND, BOO, ASSIGN, NUM])), Some((5, 4)));
     assert_eq!(shape(&nodes(&[call(3), NUM, NUM])), Some((5, 3)));
     assert_eq!(shape(&nodes(&[BLK, BIND, abs(2), FORMAL])), Some((5, 4)));
 }
@@ -219,6 +226,7 @@ fn the_first_node_left_over_is_5() {
     assert_eq!(shape(&nodes(&[NUM, NUM])), Some((5, 1)));
     assert_eq!(shape(&nodes(&[NUM, NUM, NUM])), Some((5, 1)));
     assert_eq!(shape(&nodes(&[SUM, NUM, NUM, NUM])), Some((5, 3)));
+    assert_eq!(shape(&nodes(&[COND, BOO, call(0), call(0), call(0)])), Some((5, 4)));
     // Nothing of a node left over is judged.
     assert_eq!(shape(&nodes(&[NUM, NO_KIND])), Some((5, 1)));
     assert_eq!(shape(&nodes(&[NUM, (2, 7)])), Some((5, 1)));

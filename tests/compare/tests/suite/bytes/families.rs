@@ -42,6 +42,12 @@ fn sequences() {
 }
 
 #[test]
+fn choices() {
+    let tally = family(Family::Choices, 300);
+    reaches(&tally, &[0, 1, 2, 4, 5, 10, 11, 20, 21, 22, 30, 31], 5);
+}
+
+#[test]
 fn limits() {
     let tally = family(Family::Limits, 300);
     reaches(&tally, &[0, 1, 2, 6, 20, 30, 33, 34, 35, 36], 10);

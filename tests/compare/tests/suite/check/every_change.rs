@@ -1,7 +1,7 @@
-//! Every change of one word in the paper's images, every image with one node
-//! taken out, doubled or moved, and every beginning of an image.
+//! Every change of one word in the paper's images and one with Conds, every image with
+//! one node taken out, doubled or moved, and every beginning of an image.
 
-use crate::helpers::{agreed, papers_images};
+use crate::helpers::{agreed, images_to_change};
 use second::generate::random::Random;
 
 /// An image of the right length as its nodes, and back.
@@ -21,7 +21,7 @@ fn with_nodes(image: &[u32], nodes: &[(u32, u32)]) -> Vec<u32> {
 fn of_one_word() {
     let random = &mut Random::new(1);
     let further = [66, 127, 128, 129, 192, 511, 512, 575, 576, 2_000, 2_001, 1 << 31, u32::MAX];
-    for (_, image, _) in papers_images() {
+    for image in images_to_change() {
         for index in 0..image.len() {
             for word in (0..66).chain(further) {
                 let mut changed = image.clone();
@@ -35,7 +35,7 @@ fn of_one_word() {
 #[test]
 fn of_the_nodes_in_their_order() {
     let random = &mut Random::new(2);
-    for (_, image, _) in papers_images() {
+    for image in images_to_change() {
         let original = nodes(&image);
         for from in 0..original.len() {
             let mut without = original.clone();
@@ -55,7 +55,7 @@ fn of_the_nodes_in_their_order() {
 #[test]
 fn of_the_length() {
     let random = &mut Random::new(3);
-    for (_, image, _) in papers_images() {
+    for image in images_to_change() {
         for length in 0..image.len() + 5 {
             let mut words = image.clone();
             words.resize(length, 1);

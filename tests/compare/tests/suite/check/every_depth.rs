@@ -14,6 +14,7 @@ const ASSIGN: (u32, u32) = (20, 0);
 const LOOP: (u32, u32) = (21, 0);
 const CSEQ: (u32, u32) = (22, 0);
 const BLK: (u32, u32) = (23, 0);
+const COND: (u32, u32) = (25, 0);
 const BIND: (u32, u32) = (30, 0);
 const DSEQ: (u32, u32) = (31, 0);
 const REF: (u32, u32) = (40, 0);
@@ -24,12 +25,16 @@ fn before(depth: usize) -> Vec<Nodes> {
     let abs = |count: u32| (41, count);
     let call = |count: u32| (24, 64 * count);
     let formal = |name: u32| (42, name);
-    let ways: [((u32, u32), Nodes, Nodes); 15] = [
+    let ways: [((u32, u32), Nodes, Nodes); 19] = [
         (NOT, vec![], vec![]),
         (NOT, vec![SUM], vec![NUM]),
         (CSEQ, vec![], vec![]),
         (CSEQ, vec![CSEQ], vec![ASSIGN, NUM]),
         (CSEQ, vec![LOOP], vec![NUM]),
+        (CSEQ, vec![COND], vec![]),
+        (CSEQ, vec![COND], vec![NUM]),
+        (CSEQ, vec![COND], vec![NUM, ASSIGN, NUM]),
+        (CSEQ, vec![COND, BLK], vec![]),
         (CSEQ, vec![call(8)], vec![]),
         (CSEQ, vec![BLK], vec![]),
         (CSEQ, vec![BLK], vec![BIND, NUM]),

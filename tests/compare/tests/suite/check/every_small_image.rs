@@ -1,5 +1,5 @@
-//! Every image of no node, of one, two and three, as far as kinds go; operands at the
-//! ends of each range.
+//! Every image of no node, of one, two and three, as far as kinds go, and of four that
+//! start with a Cond; operands at the ends of each range.
 
 use crate::helpers::{agreed, without_nodes};
 use second::generate::random::Random;
@@ -55,15 +55,27 @@ fn two_nodes() {
     }
 }
 
+/// Every row of three kinds.
+fn every_three() -> impl Iterator<Item = [u32; 3]> {
+    let kinds = || TABLE.iter().map(|row| row.number);
+    let pairs = move || kinds().flat_map(move |first| kinds().map(move |second| [first, second]));
+    pairs().flat_map(move |[first, second]| kinds().map(move |third| [first, second, third]))
+}
+
 #[test]
 fn three_nodes() {
     let random = &mut Random::new(3);
-    for first in &TABLE {
-        for second in &TABLE {
-            for third in &TABLE {
-                let kinds = [first.number, second.number, third.number];
-                agreed(&image(1, &kinds.map(|kind| (kind, 0))), random);
-            }
-        }
+    for kinds in every_three() {
+        agreed(&image(1, &kinds.map(|kind| (kind, 0))), random);
+    }
+}
+
+/// A Cond needs four nodes: a leaf and two Calls without actuals are its least children.
+#[test]
+fn a_choice_of_four_nodes() {
+    let random = &mut Random::new(5);
+    for kinds in every_three() {
+        let [test, first, second] = kinds.map(|kind| (kind, 0));
+        agreed(&image(1, &[(25, 0), test, first, second]), random);
     }
 }

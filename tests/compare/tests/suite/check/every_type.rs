@@ -71,9 +71,11 @@ fn of_each_pair_under_each_operator() {
 }
 
 #[test]
-fn of_not_of_a_loops_test_and_of_a_ref() {
+fn of_not_of_a_test_and_of_a_ref() {
     assert_eq!(count(leaves().into_iter().map(|leaf| using(not(leaf)))), 4);
-    assert_eq!(count(leaves().into_iter().map(|leaf| repeat(leaf, assign(0, num(1))))), 4);
+    let set = || assign(0, num(1));
+    assert_eq!(count(leaves().into_iter().map(|leaf| repeat(leaf, set()))), 4);
+    assert_eq!(count(leaves().into_iter().map(|leaf| cond(leaf, set(), set()))), 4);
     // Codes 6 and 7 come of DeRef 16 and DeRef 17 alone.
     let refs = leaves().into_iter().map(|leaf| blk(bind_ref(1, leaf), assign(0, num(0))));
     assert_eq!(count(refs), PASSING_LEAVES - 2);
@@ -83,9 +85,15 @@ fn of_not_of_a_loops_test_and_of_a_ref() {
 fn of_an_assign_to_each_name() {
     let leaves = leaves();
     for name in NAMED {
-        let commands = leaves.iter().map(|leaf| assign(name, leaf.clone()));
+        let commands = || leaves.iter().map(|leaf| assign(name, leaf.clone()));
         let expected = if [12, 13].contains(&name) { 4 } else { 0 };
-        assert_eq!(count(commands), expected, "name {name}");
+        assert_eq!(count(commands()), expected, "name {name}");
+        // As either command of a Cond, which names nothing itself.
+        let other = || assign(0, num(1));
+        let first = commands().map(|command| cond(boo(false), command, other()));
+        assert_eq!(count(first), expected, "name {name}");
+        let second = commands().map(|command| cond(boo(true), other(), command));
+        assert_eq!(count(second), expected, "name {name}");
     }
 }
 

@@ -41,6 +41,12 @@ fn sequences() {
 }
 
 #[test]
+fn choices() {
+    let tally = family(Family::Choices, 6_000);
+    reaches(&tally, &[0, 4, 5, 10, 11, 13, 14, 22], 10);
+}
+
+#[test]
 fn limits() {
     let tally = family(Family::Limits, 2_000);
     reaches(&tally, &[0, 2, 6, 22], 50);

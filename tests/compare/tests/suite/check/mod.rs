@@ -1,5 +1,6 @@
 //! Checks: `pi_check` held against the second interpreter.
 
+mod choices;
 mod differences;
 mod every_change;
 mod every_depth;

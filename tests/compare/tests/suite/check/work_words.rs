@@ -45,6 +45,11 @@ fn every_answer() -> Vec<(Answer, Vec<u32>)> {
         (Answer::Command, image(1, both(bind(1, num(1)), bind_ref(2, id(1))))),
         (refused(10, 3), image(1, both(bind(2, id(1)), bind(1, num(1))))),
         (refused(11, 5), image(1, both(bind(0, boo(true)), bind(1, sum(id(0), num(1)))))),
+        (Answer::Command, image(1, cond(boo(true), assign(0, num(1)), assign(0, num(2))))),
+        (refused(11, 0), image(1, cond(num(1), assign(0, num(1)), assign(0, num(2))))),
+        (refused(10, 4), image(1, cond(boo(true), assign(0, num(1)), assign(1, num(2))))),
+        (refused(4, 0), vec![4, 0, 25, 2, 24, 24, 1, 1, 0, 0]),
+        (refused(5, 3), vec![3, 0, 25, 2, 24, 0, 1, 0]),
         (refused(13, 3), image(1, blk(bind(1, num(0)), assign(1, num(0))))),
         (refused(14, 3), image(1, blk(bind(1, num(0)), call(1, vec![])))),
     ]);

@@ -37,6 +37,11 @@ fn sequences() {
 }
 
 #[test]
+fn choices() {
+    reaches(&family(Family::Choices, 300), &[0, 1, 2, 4, 5, 10, 11, 31, 32], 1);
+}
+
+#[test]
 fn limits() {
     reaches(&family(Family::Limits, 200), &[0, 1, 2, 6, 33, 34, 35, 36], 3);
 }
@@ -53,7 +58,7 @@ fn empty() {
 
 #[test]
 fn shaped() {
-    reaches(&family(Family::Shaped, 200), &[0, 1, 2, 3, 10, 11], 5);
+    reaches(&family(Family::Shaped, 500), &[0, 1, 2, 3, 10, 11], 5);
 }
 
 #[test]

@@ -45,6 +45,9 @@ fn each_sort_of_outcome() {
     assert_eq!(output_of(boo(true), &[]), "truth 1\nsteps 1\n");
     assert_eq!(output_of(deref(1), &[4, -4]), "cell 1\nsteps 1\nregister 0 4\nregister 1 -4\n");
     assert_eq!(output_of(assign(0, num(1)), &[7]), "none\nsteps 3\nregister 0 1\n");
+    let either = |truth| cond(boo(truth), assign(0, num(1)), assign(0, num(2)));
+    assert_eq!(output_of(either(true), &[7]), "none\nsteps 6\nregister 0 1\n");
+    assert_eq!(output_of(either(false), &[7]), "none\nsteps 6\nregister 0 2\n");
     assert_eq!(output_of(absent(), &[7]), "none\nsteps 0\nregister 0 7\n");
     assert_eq!(output_of(absent(), &[]), "none\nsteps 0\n");
 }

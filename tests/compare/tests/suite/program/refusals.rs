@@ -20,7 +20,7 @@ fn before_the_run(number: u32, place: u32) -> String {
 
 #[test]
 fn refusals_1_to_6() {
-    let table: [(&[u32], u32, u32); 15] = [
+    let table: [(&[u32], u32, u32); 20] = [
         (&[], 1, 0),
         (&[1], 1, 0),
         (&[1, 0], 1, 0),
@@ -36,6 +36,11 @@ fn refusals_1_to_6() {
         (&[1, 0, 15, 0], 5, 1),
         (&[1, 0, 30, 0], 5, 0),
         (&[2, 0, 1, 1, 0, 0], 5, 1),
+        (&[1, 0, 26, 0], 3, 0),
+        (&[4, 0, 25, 2, 24, 24, 1, 1, 0, 0], 4, 0),
+        (&[3, 0, 25, 2, 24, 0, 1, 0], 5, 3),
+        (&[4, 0, 25, 24, 2, 24, 0, 0, 1, 0], 5, 1),
+        (&[5, 0, 25, 2, 24, 24, 24, 0, 1, 0, 0, 0], 5, 4),
     ];
     for (words, number, place) in table {
         let input = program_input(words, &[]);
@@ -50,11 +55,15 @@ fn refusals_10_to_14() {
     let function = || bind_abs(1, &[(2, 0)], block(bind(3, num(0)), assign(0, id(2))));
     let repeated = dseq(bind(1, num(1)), bind(1, id(1)));
     let too_early = dseq(bind(2, id(1)), bind(1, num(1)));
-    let table: [(Command, u32, u32); 9] = [
+    let set = || assign(0, num(0));
+    let table: [(Command, u32, u32); 12] = [
         (assign(0, id(1)), 10, 1),
         (assign(1, num(0)), 10, 0),
         (assign(0, boo(true)), 11, 0),
-        (repeat(num(1), assign(0, num(0))), 11, 0),
+        (repeat(num(1), set()), 11, 0),
+        (cond(num(1), set(), set()), 11, 0),
+        (cond(boo(true), set(), assign(0, id(1))), 10, 5),
+        (cond(boo(false), assign(0, boo(true)), set()), 11, 2),
         (blk(repeated, assign(0, num(0))), 12, 1),
         (blk(too_early, assign(0, num(0))), 10, 3),
         (blk(bind(1, num(1)), assign(1, num(2))), 13, 3),
@@ -157,6 +166,23 @@ fn refusals_35_and_36_at_a_sequence() {
         (100, 507, "refused 36 at 0\n"),
     ] {
         let inner = blk(dseq(bind(1, num(4)), bind(2, id(1))), assign(0, id(2)));
+        let tower = Tower::reaching(values, control, 11, inner);
+        let output = agreed_output(&program_input(&encode(&tower.routine()), &[0]));
+        assert!(output.starts_with(outcome), "{values} and {control}: {output}");
+    }
+}
+
+/// At a Cond: its own entry of control, and its own of the value stack while its test
+/// runs.
+#[test]
+fn refusals_35_and_36_at_a_choice() {
+    for (values, control, outcome) in [
+        (508, 509, "none\n"),
+        (510, 400, "refused 35 at 0\n"),
+        (100, 510, "refused 36 at 0\n"),
+        (100, 512, "refused 36 at 0\n"),
+    ] {
+        let inner = cond(lt(id(0), num(1)), assign(0, num(4)), assign(0, num(5)));
         let tower = Tower::reaching(values, control, 11, inner);
         let output = agreed_output(&program_input(&encode(&tower.routine()), &[0]));
         assert!(output.starts_with(outcome), "{values} and {control}: {output}");

@@ -1,7 +1,7 @@
-//! Every change of one word in the paper's images, run: what still passes is run
-//! by other rules than the paper's case.
+//! Every change of one word in the paper's images and one with Conds, run: what still
+//! passes is run by other rules than the image before.
 
-use crate::helpers::{agreed_run, papers_images, with_starts};
+use crate::helpers::{agreed_run, images_to_change, with_starts};
 use second::generate::random::Random;
 
 /// Enough for the paper's runs; what has become endless is left there.
@@ -12,7 +12,7 @@ fn of_one_word() {
     let random = &mut Random::new(1);
     let further = [64, 65, 66, 128, 512, 575, 2_000, 1 << 31, u32::MAX];
     let mut made_steps = 0;
-    for (_, image, _) in papers_images() {
+    for image in images_to_change() {
         for index in 0..image.len() {
             for word in (0..46).chain([63]).chain(further) {
                 let mut changed = image.clone();

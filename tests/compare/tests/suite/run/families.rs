@@ -42,6 +42,12 @@ fn sequences() {
 }
 
 #[test]
+fn choices() {
+    let tally = family(Family::Choices, 2_000);
+    reaches(&tally, &[0, 4, 5, 10, 11, 13, 30, 31, 32], 10);
+}
+
+#[test]
 fn limits() {
     let tally = family(Family::Limits, 600);
     reaches(&tally, &[0, 2, 6, 30, 33, 34, 35, 36], 20);

@@ -56,6 +56,8 @@ fn growing() -> Vec<Command> {
         cseq(set(), set()),
         repeat(not(boo(true)), set()),
         repeat(lt(id(0), num(1)), set()),
+        cond(boo(true), set(), set()),
+        cond(lt(num(1), id(0)), set(), blk(bind(1, num(1)), set())),
         blk(bind(1, num(1)), set()),
         blk(dseq(bind(1, num(1)), bind_ref(2, deref(0))), assign(0, valref(2))),
         blk(dseq(bind(1, num(1)), bind(2, id(1))), assign(0, id(2))),

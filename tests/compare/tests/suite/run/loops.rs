@@ -58,7 +58,7 @@ fn a_call_in_a_loop_in_a_function_in_a_loop() {
     assert_eq!(registers_after(root, &[0, 5]), [55, 0]);
 }
 
-/// Endless ones: a block, a call, a loop in each round. No stack, cell or binding
+/// Endless ones: a block, a call, a loop, a Cond in each round. No stack, cell or binding
 /// is used up, so the budget is.
 #[test]
 fn endless_rounds_use_the_budget_alone() {
@@ -66,11 +66,14 @@ fn endless_rounds_use_the_budget_alone() {
     let function = bind_abs(10, &[(20, 0), (21, 0)], block(bind_ref(5, id(20)), add()));
     let twice = commands(vec![call(10, vec![num(1), id(0)]), call(10, vec![id(0), num(2)])]);
     let nested = repeat(boo(true), blk(bind_ref(4, num(2)), rounds(4, add())));
+    let clear = || blk(bind_ref(4, num(0)), assign(0, id(4)));
+    let either = cond(lt(id(0), num(3)), add(), cond(eq(id(0), num(3)), add(), clear()));
     let endless = [
         repeat(boo(true), add()),
         repeat(boo(true), blk(bind_ref(4, num(1)), blk(bind_ref(5, deref(4)), add()))),
         blk(function, repeat(boo(true), twice)),
         repeat(boo(true), blk(bind(4, num(1)), nested)),
+        repeat(boo(true), either),
     ];
     let random = &mut Random::new(1);
     for root in endless {

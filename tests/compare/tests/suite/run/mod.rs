@@ -1,5 +1,7 @@
 //! Runs: `pi_run` held against the second interpreter.
 
+mod choice_limits;
+mod choices;
 mod declarations;
 mod differences;
 mod every_change;
@@ -13,4 +15,5 @@ mod no_routine;
 mod paper;
 mod sequence_limits;
 mod sequences;
+mod towers;
 mod work_words;

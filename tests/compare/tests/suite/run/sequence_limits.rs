@@ -2,47 +2,10 @@
 //! written down here: with three entries of control for its own step, or with no E
 //! kept on the value stack, they would be others.
 
-use crate::helpers::{agreed_run, with_starts};
-use compare::run::Ran;
+use super::towers::{end, ends};
 use second::build::*;
-use second::encode;
 use second::generate::declarations;
-use second::generate::random::Random;
-use second::generate::tower::{Tower, HELPER};
-use second::generate::Case;
 use second::tree::{Command, Expression, Name};
-
-/// What comes of the run of a tower whose inner command starts at these heights,
-/// compared at the greatest budget and at the last ones.
-fn run(values: usize, control: usize, inner: Command) -> Ran {
-    let random = &mut Random::new(values as u64);
-    let routine = Tower::reaching(values, control, 11, inner).routine();
-    let case = with_starts(encode(&routine), &[0]);
-    let whole = agreed_run(&case, random);
-    for budget in whole.reply.steps.saturating_sub(20)..=whole.reply.steps + 1 {
-        agreed_run(&Case { budget, ..case.clone() }, random);
-    }
-    whole
-}
-
-/// The steps that a tower makes before its inner command. A Div by zero in its place
-/// is withheld after four steps of its own; where V has no room for that, a call is,
-/// at the function's Blk and after two.
-fn steps_before(values: usize, control: usize) -> u64 {
-    let (inner, refused, own) = match values {
-        510 => (call(HELPER, vec![]), 35, 2),
-        _ => (assign(0, div(num(1), num(0))), 31, 4),
-    };
-    let ran = run(values, control, inner);
-    assert_eq!(ran.refused(), refused);
-    ran.reply.steps - own
-}
-
-/// The refusal, or 0, and the steps made since the inner command started.
-fn end(values: usize, control: usize, inner: Command) -> (u32, u64) {
-    let ran = run(values, control, inner);
-    (ran.refused(), ran.reply.steps - steps_before(values, control))
-}
 
 fn sequence() -> Command {
     blk(dseq(bind(1, num(4)), bind(2, id(1))), assign(0, id(2)))
@@ -136,18 +99,7 @@ fn values_of_nested_sequences() {
 /// Every height near both limits, with the DSeqs in every shape.
 #[test]
 fn sequences_at_every_height_near_512() {
-    let mut ended = [0; 3];
-    for inner in [to_the_left(2), to_the_left(4), to_the_right(2, id(2)), to_the_right(4, id(4))] {
-        for values in (496..=510).step_by(2) {
-            for control in 494..=512 {
-                match run(values, control, inner.clone()).refused() {
-                    0 => ended[0] += 1,
-                    35 => ended[1] += 1,
-                    36 => ended[2] += 1,
-                    other => panic!("{other} at {values} and {control}"),
-                }
-            }
-        }
-    }
+    let shapes = [to_the_left(2), to_the_left(4), to_the_right(2, id(2)), to_the_right(4, id(4))];
+    let ended = ends(&shapes, 496..=510, 494..=512);
     assert!(ended.iter().all(|count| *count > 50), "{ended:?}");
 }

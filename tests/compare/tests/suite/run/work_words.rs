@@ -34,10 +34,18 @@ fn sequence_reaching(values: usize, control: usize) -> Vec<u32> {
     encode(&Tower::reaching(values, control, 11, inner).routine())
 }
 
+/// A tower whose inner command is a Cond with a comparison as its test.
+fn choice_reaching(values: usize, control: usize) -> Vec<u32> {
+    let choice = cond(lt(id(0), num(9)), assign(0, num(8)), assign(0, num(9)));
+    let inner = cseq(assign(0, num(7)), choice);
+    encode(&Tower::reaching(values, control, 11, inner).routine())
+}
+
 /// A call for each answer a run has, with the refusal's number or 0.
 fn every_answer() -> Vec<(u32, Case)> {
     let zero = cseq(assign(0, num(7)), assign(0, div(num(1), num(0))));
     let over = cseq(assign(0, num(7)), assign(0, mul(id(1), id(1))));
+    let either = |truth| cond(boo(truth), zero.clone(), assign(0, num(1)));
     let images = vec![
         (0, image(1, id(0))),
         (0, image(0, boo(true))),
@@ -58,10 +66,13 @@ fn every_answer() -> Vec<(u32, Case)> {
         (0, image(1, blk(dseq(bind(1, num(1)), bind_ref(2, id(1))), assign(0, id(2))))),
         (10, image(1, blk(dseq(bind(2, id(1)), bind(1, num(1))), assign(0, num(0))))),
         (12, image(1, blk(dseq(bind(1, num(1)), bind(1, id(1))), assign(0, num(0))))),
+        (0, image(1, either(false))),
+        (31, image(1, either(true))),
+        (11, image(1, cond(num(1), assign(0, num(1)), assign(0, num(2))))),
         (13, image(1, blk(bind(1, num(0)), assign(1, num(0))))),
         (14, image(1, blk(bind(1, num(0)), call(1, vec![])))),
         (30, image(1, repeat(boo(true), assign(0, sum(id(0), num(1)))))),
-        (31, image(1, zero)),
+        (31, image(1, zero.clone())),
         (32, image(2, over)),
         (33, tower(Layer::Block { plain: 0, cells: 20 }, 13)),
         (34, tower(Layer::Block { plain: 20, cells: 0 }, 26)),
@@ -69,6 +80,8 @@ fn every_answer() -> Vec<(u32, Case)> {
         (36, tower_reaching(100, 511)),
         (35, sequence_reaching(508, 400)),
         (36, sequence_reaching(100, 507)),
+        (35, choice_reaching(510, 400)),
+        (36, choice_reaching(100, 511)),
     ];
     let call = |(number, image): (u32, Vec<u32>)| {
         let count = image[1] as usize;
