@@ -1,9 +1,9 @@
 -- What the proof of `conditional` needs: the test, then both commands, and last that the test is a truth.
 -- Places are named by what was called there.
-use Prim.Native.Nat.{_-_, ℕ}
+use Prim.Native.Nat.{ℕ}
 use native.Mathlib.Omega.{arith}
 use denote.Ref.{now}
-use mathlib.Core.Path.{sym, subst, _∙_}
+use mathlib.Core.Path.{sym, subst}
 use borrow.Author.Needs.{needs}
 use Rattle.checker.specs.Commands.{CommandAt}
 use Rattle.checker.proofs.laws.commands.CommandLaws.{fine-before}
