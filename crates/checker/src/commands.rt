@@ -154,8 +154,8 @@ pub(crate) fn command(work: &mut [u64], registers: usize, scope: usize, node: us
         return truth(node, 0, code);
     }
     if which == kinds::COND {
-        let chosen = conditional(work, registers, scope, node);
-        return anew(chosen);
+        let judged = conditional(work, registers, scope, node);
+        return anew(judged);
     }
     let first = command(work, registers, scope, node + 1);
     let Answer::Is(done) = first else {

@@ -9,6 +9,7 @@ use Rattle.rules.specs.paper.Tree.{Expression, Command, Cond}
 use Rattle.rules.specs.claims.Listing.{truth-word}
 use Rattle.rules.specs.paper.States.{truth, Environment, Store, Entry, node, val, Item, command, mark, conditional-mark, state}
 use Rattle.rules.specs.paper.Rules.{Rule, Effect, goes, Table, conditional-true, conditional-false}
+use Rattle.rules.specs.paper.Fire.{chosen}
 use Rattle.rules.specs.paper.Run.{judge}
 use Rattle.rules.specs.paper.Limits.{most-nodes, most-control-entries}
 use Rattle.reader.specs.Pack.{packed-end}
@@ -56,11 +57,6 @@ parts {nodes} {e = e} (conditional {d = d} {i = i} {j = j} {k = k} {l = l} h a b
 instead : {nodes : List ℕ} {m : Mode} {w : ℕ} {ws : List ℕ} {C : List Item} {d j l : ℕ} {c : Command} → ControlAs nodes m (w ∷ ws) (mark conditional-mark ∷ C) → StoredCommand nodes d j l c →
     ControlAs nodes m (j ∷ ws) (command c ∷ C)
 instead (conditional-on q h) s = command-on s h
-
--- The command that is taken.
-abbrev chosen : Bool → (first second : Command) → Command
-chosen true c₁ c₂ = c₁
-chosen false c₁ c₂ = c₂
 
 record StandsAt (nodes : List ℕ) (place : ℕ) (c : Command) : Type 0 where
   depth : ℕ

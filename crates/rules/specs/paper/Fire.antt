@@ -159,9 +159,9 @@ after-test true l C = command (l .body) ∷ command (loop-node l) ∷ C
 after-test false l C = C
 
 -- The command that a Cond takes where its test gave this truth.
-abbrev pub chosen : Bool → CondNode → Command
-chosen true c = c .first
-chosen false c = c .second
+abbrev pub chosen : Bool → (first second : Command) → Command
+chosen true c₁ c₂ = c₁
+chosen false c₁ c₂ = c₂
 
 unfoldable pub fire-expression : Expression → List Item → List Entry → Environment → Store → List ℕ → ℕ → Firing
 fire-expression (Num p k) C X E S L n = fires rule-Num (goes (state C (val (integer (pos k)) ∷ X) E S L n))
@@ -222,7 +222,7 @@ fire-mark assign-mark C X E S L n =
 fire-mark loop-mark C X E S L n =
     take as-truth X (λ t Y. take as-loop Y (λ l Z. fires mark-Loop (goes (state (after-test t l C) Z E S L n))))
 fire-mark conditional-mark C X E S L n =
-    take as-truth X (λ t Y. take as-cond Y (λ c Z. fires mark-Cond (goes (state (command (chosen t c) ∷ C) Z E S L n))))
+    take as-truth X (λ t Y. take as-cond Y (λ c Z. fires mark-Cond (goes (state (command (chosen t (c .first) (c .second)) ∷ C) Z E S L n))))
 fire-mark ref-mark C X E S L n =
     take as-value X (λ v Y.
     fires mark-Ref (goes (state C (val (location (length S)) ∷ Y) E (record { where-at = length S; contents = v } ∷ S) (length S ∷ L) n)))

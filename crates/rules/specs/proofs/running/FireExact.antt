@@ -225,7 +225,7 @@ module _ (C : List Item) (E : Environment) (S : Store) (L : List ℕ) (n : ℕ) 
   loop-sound false l X = Rules.loop-false
 
   conditional-sound : (t : Bool) (c : CondNode) (X : List Entry) →
-      Table C E S L n Rules.mark-Cond (mark conditional-mark) (val (truth t) ∷ node (cond-node c) ∷ X) (goes (state (command (chosen t c) ∷ C) X E S L n))
+      Table C E S L n Rules.mark-Cond (mark conditional-mark) (val (truth t) ∷ node (cond-node c) ∷ X) (goes (state (command (chosen t (c .first) (c .second)) ∷ C) X E S L n))
   conditional-sound true c X = Rules.conditional-true
   conditional-sound false c X = Rules.conditional-false
 
