@@ -14,7 +14,7 @@ use Rattle.rules.specs.paper.Run.{judge}
 use Rattle.rules.specs.paper.Limits.{most-nodes, most-control-entries}
 use Rattle.reader.specs.Pack.{packed-end}
 use Rattle.reader.specs.Stored.{StoredExpression, StoredCommand, conditional}
-use Rattle.machine.specs.Regions.{Regions, regions, Fits, with-control, raised-control}
+use Rattle.machine.specs.Regions.{regions, Fits, with-control, raised-control}
 use Rattle.machine.specs.Represents.{Mode, ControlAs, command-on, conditional-on, Models}
 use Rattle.machine.specs.Steps.{StepAnswer, Applicable, Steps, Puts}
 use Rattle.machine.specs.declared.Machine.{Machine}
@@ -22,11 +22,10 @@ use Rattle.machine.specs.declared.Stepped.{Stepped}
 use Rattle.machine.specs.declared.Stepped.the-variants.{Made}
 use Rattle.reader.specs.StandingLaws.{Rooted, expression-root, command-root, after-node}
 use Rattle.machine.proofs.state_laws.ItemLaws.{node-end}
-use Rattle.machine.proofs.state_laws.ModelLaws.{beside}
 use Rattle.machine.proofs.state_laws.TopLaws.{at-height}
 use Rattle.machine.proofs.state_laws.MarkTopLaws.{conditional-taken, at-height-fits}
 use Rattle.machine.proofs.stack_laws.SharedLaws.{Put, put-regions, put-fits, puts-made}
-use Rattle.commands.proofs.command_laws.TestLaws.{truth-there, node-there, Tested, tested, popped-state}
+use Rattle.commands.proofs.command_laws.TestLaws.{truth-there, node-there, Tested, tested, put-instead}
 
 -- ---- The Cond's parts: where its test ends the first command stands, and where that ends the second.
 
@@ -120,15 +119,9 @@ module _ (words : List ℕ) (m : Machine) where
       by : (μ : Models (with-control w (regions words m)) (mark conditional-mark ∷ C) X E S L n) → Choosing (conditional-taken μ) e → StepAnswer (judge false e) answer words after
       by μ h =
           subst (λ k. StepAnswer (judge false k) answer words after) (sym (h .effect))
-          (puts (command (chosen (h .test) (h .first) (h .second)) ∷ C) (h .rest) E S L n (put-on .0 .mode) (beside (put-on .0)) (put-on .1))
-        where
-          PutOn : Regions → Type 0
-          PutOn κ = (ν : Models κ C (h .rest) E S L n) × ControlAs (κ .nodes) (ν .mode) (place ∷ κ .control) (command (chosen (h .test) (h .first) (h .second)) ∷ C)
-
-          put-on : PutOn (regions words (at-height (m .values - 2) m))
-          put-on =
-              subst PutOn (sym (h .found .popped))
-              (popped-state words m (conditional-taken μ) (h .found), instead (μ .control-as) (stands (h .test) (h .first) (h .second) (h .found .truth-is) (parts (h .found .stored)) .stored))
+          (put-instead words m (conditional-taken μ) (h .found) (place ∷ []) (command (chosen (h .test) (h .first) (h .second)) ∷ C) answer after
+          (instead (μ .control-as) (stands (h .test) (h .first) (h .second) (h .found .truth-is) (parts (h .found .stored)) .stored))
+          puts)
 
   pub takes-first : (w place : ℕ) (after : List ℕ) (answer : Stepped) → (truth-there words m ≡ 0 → ⊥) → place ≡ packed-end (getD words (node-there words m + 1) 0) →
       Puts words (at-height (m .values - 2) m) (place ∷ []) answer after → Steps words m w (mark conditional-mark) answer after

@@ -13,7 +13,7 @@ use Rattle.rules.specs.paper.Run.{judge}
 use Rattle.rules.specs.paper.Limits.{most-nodes}
 use Rattle.reader.specs.Pack.{packed-end}
 use Rattle.reader.specs.Stored.{end-is, StoredCommand, loop}
-use Rattle.machine.specs.Regions.{Regions, regions, Fits, with-control}
+use Rattle.machine.specs.Regions.{regions, Fits, with-control}
 use Rattle.machine.specs.Represents.{Mode, ControlAs, command-on, loop-on, Models}
 use Rattle.machine.specs.Steps.{StepAnswer, Applicable, Steps, Puts}
 use Rattle.machine.specs.declared.Machine.{Machine}
@@ -21,10 +21,10 @@ use Rattle.machine.specs.declared.Stepped.{Stepped}
 use Rattle.machine.specs.declared.Stepped.the-variants.{Made}
 use Rattle.reader.specs.StandingLaws.{Rooted, expression-root}
 use Rattle.machine.proofs.state_laws.NodeLaws.{node-word}
-use Rattle.machine.proofs.state_laws.ModelLaws.{beside, step-made, fits-still}
+use Rattle.machine.proofs.state_laws.ModelLaws.{step-made, fits-still}
 use Rattle.machine.proofs.state_laws.TopLaws.{at-height}
 use Rattle.machine.proofs.state_laws.MarkTopLaws.{loop-taken}
-use Rattle.commands.proofs.command_laws.TestLaws.{truth-there, node-there, Tested, tested, popped-state}
+use Rattle.commands.proofs.command_laws.TestLaws.{truth-there, node-there, Tested, tested, popped-state, put-instead}
 
 -- ---- The Loop's parts.
 
@@ -113,16 +113,9 @@ module _ (words : List ℕ) (m : Machine) where
               sym (end-is (node-word words m (the-parts .test-ends .word)) (the-parts .test-ends .known))
               ∙ ap (λ i. packed-end (getD words i 0)) (sym place-of) ∙ sym ends
 
-          Both : Regions → Type 0
-          Both κ =
-              (ν : Models κ C (h .rest) E S L n) ×
-              ControlAs (κ .nodes) (ν .mode) (body ∷ node-there words m ∷ κ .control) (command (h .repeated) ∷ command (Loop (h .place) (h .tests) (h .repeated)) ∷ C)
-
-          both : Both (regions words (at-height (m .values - 2) m))
-          both =
-              subst Both (sym (h .found .popped))
-              (popped-state words m (loop-taken μ) (h .found), again (μ .control-as) (h .found .stored) (subst (λ j. StoredCommand (regions words m .nodes) (the-parts .depth) j (the-parts .next) (h .repeated)) body-is (the-parts .stored)))
-
           by-test : (t : Bool) → truth-there words m ≡ truth-word t → StepAnswer (judge false (Comes t C (h .repeated) (Loop (h .place) (h .tests) (h .repeated)) (h .rest) E S L n)) answer words after
-          by-test true q = puts (command (h .repeated) ∷ command (Loop (h .place) (h .tests) (h .repeated)) ∷ C) (h .rest) E S L n (both .0 .mode) (beside (both .0)) (both .1)
+          by-test true q =
+              put-instead words m (loop-taken μ) (h .found) (body ∷ node-there words m ∷ []) (command (h .repeated) ∷ command (Loop (h .place) (h .tests) (h .repeated)) ∷ C) answer after
+              (again (μ .control-as) (h .found .stored) (subst (λ j. StoredCommand (regions words m .nodes) (the-parts .depth) j (the-parts .next) (h .repeated)) body-is (the-parts .stored)))
+              puts
           by-test false q = absurd (not-zero q)
