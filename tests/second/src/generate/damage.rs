@@ -67,6 +67,22 @@ impl Parts {
         self.places_in(places, |kind| matches!(kind, Id | DeRef | ValRef | Assign | Call))
     }
 
+    /// One among some places with a node of some kinds, if there is one.
+    fn one_in(
+        &self,
+        random: &mut Random,
+        places: Range<usize>,
+        wanted: impl Fn(Kind) -> bool,
+    ) -> Option<usize> {
+        let found = self.places_in(places, wanted);
+        (!found.is_empty()).then(|| *random.pick(&found))
+    }
+
+    /// One with a node of this kind, if there is one.
+    fn one_of(&self, random: &mut Random, kind: Kind) -> Option<usize> {
+        self.one_in(random, 0..self.nodes.len(), |other| other == kind)
+    }
+
     /// One of some nodes takes the name of one of others.
     fn take_a_name(&mut self, random: &mut Random, takers: &[usize], givers: &[usize]) {
         if !takers.is_empty() && !givers.is_empty() {
@@ -161,11 +177,7 @@ fn rename(random: &mut Random, parts: &mut Parts, places: Range<usize>) {
 fn retype(random: &mut Random, parts: &mut Parts, places: Range<usize>) {
     use Kind::*;
     let is_leaf = |kind| matches!(kind, Num | Boo | Id | DeRef | ValRef | Formal);
-    let leaves = parts.places_in(places, is_leaf);
-    if leaves.is_empty() {
-        return;
-    }
-    let place = *random.pick(&leaves);
+    let Some(place) = parts.one_in(random, places, is_leaf) else { return };
     let (kind, operand) = &mut parts.nodes[place];
     if by_number(*kind).expect("a kind").kind == Formal {
         *operand = *operand % NAMES + NAMES * random.below(8) as u32;
@@ -202,11 +214,8 @@ pub fn change_a_sequence_of(random: &mut Random, image: &[u32]) -> Vec<u32> {
 /// A name between the two declarations of a DSeq: what the second one sees of the
 /// first decides whether that is a fault.
 fn change_a_sequence(random: &mut Random, parts: &mut Parts) {
-    let sequences = parts.places(|kind| kind == Kind::DSeq);
-    if sequences.is_empty() {
-        return;
-    }
-    let first = *random.pick(&sequences) + 1;
+    let Some(place) = parts.one_of(random, Kind::DSeq) else { return };
+    let first = place + 1;
     let second = parts.behind(first);
     let end = parts.behind(second);
     let (firsts_binds, seconds_binds) = (parts.binds(first), parts.binds(second));
@@ -239,11 +248,7 @@ pub fn change_a_choice_of(random: &mut Random, image: &[u32]) -> Vec<u32> {
 /// A change of a Cond: of its test, in its first or its second command, of their order,
 /// or of the node itself. A fault in a command is one whether it is taken or not.
 fn change_a_choice(random: &mut Random, parts: &mut Parts) {
-    let choices = parts.places(|kind| kind == Kind::Cond);
-    if choices.is_empty() {
-        return;
-    }
-    let place = *random.pick(&choices);
+    let Some(place) = parts.one_of(random, Kind::Cond) else { return };
     let test = place + 1;
     let first = parts.behind(test);
     let second = parts.behind(first);
@@ -289,11 +294,8 @@ fn set_another_name(random: &mut Random, parts: &mut Parts, places: Range<usize>
 
 /// One actual more or less, or a Call of something else, among some places.
 fn change_a_call(random: &mut Random, parts: &mut Parts, places: Range<usize>) {
-    let calls = parts.places_in(places, |kind| kind == Kind::Call);
-    if calls.is_empty() {
-        return;
-    }
-    let place = *random.pick(&calls);
+    let is_call = |kind| kind == Kind::Call;
+    let Some(place) = parts.one_in(random, places, is_call) else { return };
     let operand = parts.nodes[place].1;
     match random.below(3) {
         0 if operand / NAMES < 8 => {

@@ -180,20 +180,9 @@ fn choices_around_hold_nothing() {
 /// No step of a Cond is withheld for two reasons of room, and none at its mark, from any
 /// start near the limits.
 #[test]
-fn one_reason_at_a_time() {
-    let mut met = [0; 2];
-    let nested = || cond(boo(true), else_if(2), set());
-    for inner in [cond(boo(true), set(), set()), else_if(3), nested()] {
-        for values in (500..=510).step_by(2) {
-            for control in 506..=512 {
-                let (reason, all, at) = reasons(&tower(values, control, inner.clone()));
-                if reason.is_some() {
-                    assert_eq!(all.len(), 1, "{values}, {control}");
-                    assert_ne!(at, "mark of Cond");
-                    met[all[0] as usize - 35] += 1;
-                }
-            }
-        }
-    }
+fn one_reason_of_a_choice_at_a_time() {
+    let nested = cond(boo(true), else_if(2), set());
+    let choices = [cond(boo(true), set(), set()), else_if(3), nested];
+    let met = one_reason_at_a_time(&choices, 500..=510, 506..=512, "mark of Cond");
     assert!(met.iter().all(|count| *count > 5), "{met:?}");
 }

@@ -147,19 +147,8 @@ fn both_stacks_at_one_sequence() {
 /// No step of a DSeq is withheld for two reasons of room, and none at its marks,
 /// from any start near the limits.
 #[test]
-fn one_reason_at_a_time() {
-    let mut met = [0; 2];
-    for inner in [to_the_left(1), to_the_left(3), to_the_right(1, id), to_the_right(3, id)] {
-        for values in (496..=510).step_by(2) {
-            for control in 494..=512 {
-                let (reason, all, at) = reasons(&tower(values, control, inner.clone()));
-                if reason.is_some() {
-                    assert_eq!(all.len(), 1, "{values}, {control}");
-                    assert_ne!(at, "mark of DSeq");
-                    met[all[0] as usize - 35] += 1;
-                }
-            }
-        }
-    }
+fn one_reason_of_a_sequence_at_a_time() {
+    let sequences = [to_the_left(1), to_the_left(3), to_the_right(1, id), to_the_right(3, id)];
+    let met = one_reason_at_a_time(&sequences, 496..=510, 494..=512, "mark of DSeq");
     assert!(met.iter().all(|count| *count > 50), "{met:?}");
 }

@@ -12,6 +12,7 @@ use second::reader::read;
 use second::rules::apply;
 use second::state::{ControlEntry, Heights, Mark, State, ValueEntry};
 use second::tree::Command;
+use std::ops::RangeInclusive;
 
 /// An entry of control: a node's kind, or the mark of one.
 pub fn named(entry: &ControlEntry) -> String {
@@ -108,4 +109,28 @@ pub fn reasons(tower: &Tower) -> (Option<u32>, Vec<u32>, String) {
         None => Vec::new(),
     };
     (reason, all, top(state))
+}
+
+/// From every start at these heights, no step of these commands is withheld for two reasons
+/// of room, and none at this mark. How often it was for 35, and for 36.
+pub fn one_reason_at_a_time(
+    commands: &[Command],
+    values: RangeInclusive<usize>,
+    control: RangeInclusive<usize>,
+    mark: &str,
+) -> [usize; 2] {
+    let mut met = [0; 2];
+    for inner in commands {
+        for values in values.clone().step_by(2) {
+            for control in control.clone() {
+                let (reason, all, at) = reasons(&tower(values, control, inner.clone()));
+                if reason.is_some() {
+                    assert_eq!(all.len(), 1, "{values}, {control}");
+                    assert_ne!(at, mark);
+                    met[all[0] as usize - 35] += 1;
+                }
+            }
+        }
+    }
+    met
 }

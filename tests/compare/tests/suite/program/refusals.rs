@@ -139,52 +139,51 @@ fn refusals_33_and_34() {
     }
 }
 
-#[test]
-fn refusals_35_and_36() {
-    for (values, control, outcome) in [
-        (506, 400, "none\n"),
-        (508, 400, "refused 35 at 0\n"),
-        (100, 507, "none\n"),
-        (100, 508, "refused 36 at 0\n"),
-        (510, 509, "refused 35 at 0\n"),
-    ] {
-        let tower = Tower::reaching(values, control, 11, call(HELPER, vec![]));
+/// What the program prints for towers whose inner command starts at these heights of V
+/// and control.
+fn at_heights(inner: &Command, rows: &[(usize, usize, &str)]) {
+    for (values, control, outcome) in rows {
+        let tower = Tower::reaching(*values, *control, 11, inner.clone());
         let input = program_input(&encode(&tower.routine()), &vec![0; tower.registers]);
         let output = agreed_output(&input);
         assert!(output.starts_with(outcome), "{values} and {control}: {output}");
     }
 }
 
+#[test]
+fn refusals_35_and_36() {
+    let rows = [
+        (506, 400, "none\n"),
+        (508, 400, "refused 35 at 0\n"),
+        (100, 507, "none\n"),
+        (100, 508, "refused 36 at 0\n"),
+        (510, 509, "refused 35 at 0\n"),
+    ];
+    at_heights(&call(HELPER, vec![]), &rows);
+}
+
 /// At a DSeq: its own four entries of control, and the kept E while its second
 /// declaration runs.
 #[test]
 fn refusals_35_and_36_at_a_sequence() {
-    for (values, control, outcome) in [
+    let rows = [
         (506, 505, "none\n"),
         (508, 400, "refused 35 at 0\n"),
         (100, 506, "refused 36 at 0\n"),
         (100, 507, "refused 36 at 0\n"),
-    ] {
-        let inner = blk(dseq(bind(1, num(4)), bind(2, id(1))), assign(0, id(2)));
-        let tower = Tower::reaching(values, control, 11, inner);
-        let output = agreed_output(&program_input(&encode(&tower.routine()), &[0]));
-        assert!(output.starts_with(outcome), "{values} and {control}: {output}");
-    }
+    ];
+    at_heights(&blk(dseq(bind(1, num(4)), bind(2, id(1))), assign(0, id(2))), &rows);
 }
 
 /// At a Cond: its own entry of control, and its own of the value stack while its test
 /// runs.
 #[test]
 fn refusals_35_and_36_at_a_choice() {
-    for (values, control, outcome) in [
+    let rows = [
         (508, 509, "none\n"),
         (510, 400, "refused 35 at 0\n"),
         (100, 510, "refused 36 at 0\n"),
         (100, 512, "refused 36 at 0\n"),
-    ] {
-        let inner = cond(lt(id(0), num(1)), assign(0, num(4)), assign(0, num(5)));
-        let tower = Tower::reaching(values, control, 11, inner);
-        let output = agreed_output(&program_input(&encode(&tower.routine()), &[0]));
-        assert!(output.starts_with(outcome), "{values} and {control}: {output}");
-    }
+    ];
+    at_heights(&cond(lt(id(0), num(1)), assign(0, num(4)), assign(0, num(5))), &rows);
 }
