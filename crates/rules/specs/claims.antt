@@ -7,3 +7,4 @@ pub mod History
 pub mod Claim
 pub mod Ends
 pub mod NoRoutine
+pub mod FreeRun

@@ -10,6 +10,7 @@ pub mod States
 pub mod Rules
 pub mod Fire
 pub mod Run
+pub mod Needs
 pub mod Engine
 pub mod Cases
 pub mod Choices

@@ -3,3 +3,4 @@ pub mod Basics
 pub mod reading
 pub mod checking
 pub mod running
+pub mod needs

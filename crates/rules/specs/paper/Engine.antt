@@ -1,5 +1,5 @@
 -- The whole engine as one function (paper, "What the engine says no with"): from image words, register values, budget and the
--- work slice's words to the reply, the final registers and the final work words. And the checker alone.
+-- work slice's words to the reply, the final registers and the final work words. And the checker alone, and the needs alone.
 use Prim.Native.Nat.{ℕ, zero, suc}
 use mathlib.Core.Bool.{Bool, true, false, cond}
 use mathlib.Core.List.{List, [], _∷_, _++_}
@@ -11,11 +11,13 @@ use Rattle.rules.specs.paper.Tree.{Root}
 use Rattle.rules.specs.paper.Tree as Tree
 use Rattle.rules.specs.paper.Refusals.{Refusal, Withheld}
 use Rattle.rules.specs.paper.Refusals as Refusals
-use Rattle.rules.specs.paper.Limits.{most-budget, work-words}
+use Rattle.rules.specs.paper.Limits.{most-budget, most-steps, work-words}
 use Rattle.rules.specs.paper.Reader.{Reading, bad, image, read}
 use Rattle.rules.specs.paper.Checker.{Judged, fault, fine, Passed, expression-of-code, a-command, register-scope, root-is}
 use Rattle.rules.specs.paper.States.{Value, integer, truth, location, Bindable, value, closure, Environment, empty, bound, Store, find, Entry, bindable, name, node, environment, locations, Item, expression, command, State, state, values-of, store-of}
 use Rattle.rules.specs.paper.Run.{Ending, ended, stopped, lost, run}
+use Rattle.rules.specs.paper.Needs.{Need, routine-need, has-loop}
+use Rattle.rules.specs.paper.Needs as Needs
 
 -- What the checker makes of an image: refused, or its registers, its tree and what the root is.
 pub data Checked : Type 0 where
@@ -152,3 +154,36 @@ unfoldable pub checker : (image : List ℕ) → (work : List ℕ) → CheckCalle
 checker im ws =
     let body : CheckCalled = record { answer = check-answer (check-image im); work = cleared ws } in
     cond (ltb (length ws) work-words) (record { answer = not-passed Refusals.Work 0; work = ws }) body
+
+-- What the needs alone answer: the four room figures and the most steps, which are open where a Loop is in the tree; or a refusal.
+pub data MostSteps : Type 0 where
+  given : ℕ → MostSteps
+  left-open : MostSteps
+
+pub data NeedsAnswer : Type 0 where
+  figures : (control values cells bindings : ℕ) → MostSteps → NeedsAnswer
+  no-figures : Refusal → (place : ℕ) → NeedsAnswer
+
+abbrev pub room-figures : Need → MostSteps → NeedsAnswer
+room-figures n s = figures (n .most Needs.control) (n .most Needs.values) (n .most Needs.cells) (n .most Needs.bindings) s
+
+-- 40: no Loop is in the tree, and the steps come out above 1,000,000.
+unfoldable pub figures-of : (registers : ℕ) → Root → NeedsAnswer
+figures-of r t =
+    let n = routine-need r t in
+    let counted = cond (ltb most-steps (n .steps)) (no-figures Refusals.TooManySteps 0) (room-figures n (given (n .steps))) in
+    cond (has-loop t) (room-figures n left-open) counted
+
+abbrev pub needs-answer : Checked → NeedsAnswer
+needs-answer (turned-back x p) = no-figures x p
+needs-answer (passed r t c) = figures-of r t
+
+pub record NeedsCalled : Type 0 where
+  pub answer : NeedsAnswer
+  pub work : List ℕ
+
+-- The needs alone test 22, then the image, then 40. 22 touches nothing; every other call clears the work words.
+unfoldable pub needs : (image : List ℕ) → (work : List ℕ) → NeedsCalled
+needs im ws =
+    let body : NeedsCalled = record { answer = needs-answer (check-image im); work = cleared ws } in
+    cond (ltb (length ws) work-words) (record { answer = no-figures Refusals.Work 0; work = ws }) body

@@ -48,5 +48,9 @@ most-control-entries = 512
 abbrev pub most-budget : ℕ
 most-budget = 1000000
 
+-- "Needs of a routine before it is loaded" (document 02): the most steps that are given as a figure
+abbrev pub most-steps : ℕ
+most-steps = 1000000
+
 abbrev pub work-words : ℕ
 work-words = 8192

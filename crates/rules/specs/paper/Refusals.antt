@@ -20,6 +20,8 @@ pub data Refusal : Type 0 where
   Registers Budget Work : Refusal
   -- by the run
   Withheld : Reason → Refusal
+  -- by the needs: the steps come out above 1,000,000
+  TooManySteps : Refusal
 
 unfoldable pub reason-number : Reason → ℕ
 reason-number Steps = 30
@@ -46,3 +48,4 @@ refusal-number Registers = 20
 refusal-number Budget = 21
 refusal-number Work = 22
 refusal-number (Withheld reason) = reason-number reason
+refusal-number TooManySteps = 40
