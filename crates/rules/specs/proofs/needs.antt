@@ -3,3 +3,9 @@ pub mod Outlook
 pub mod StretchLaws
 pub mod NodeStretches
 pub mod MarkStretches
+pub mod CallStretches
+pub mod TestStretches
+pub mod StepKinds
+pub mod FreeStates
+pub mod Without
+pub mod FreeSteps

@@ -78,7 +78,7 @@ spread-one {n = n} {m = m} q s =
       counted = omega (arith, s);
     }
 
-larger : (base n m : ℕ) {A : Type 0} → (base + max n m ≡ base + n → A) → (base + max n m ≡ base + m → A) → A
+pub larger : (base n m : ℕ) {A : Type 0} → (base + max n m ≡ base + n → A) → (base + max n m ≡ base + m → A) → A
 larger base n m {A} left right = ⊎-elim (λ q. left (omega (arith, q))) (λ q. right (omega (arith, q))) (choose n m)
   where
     choose : (n m : ℕ) → (max n m ≡ n) ⊎ (max n m ≡ m)

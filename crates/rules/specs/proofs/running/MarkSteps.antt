@@ -66,7 +66,7 @@ module _ (a : Passed) (r : ℕ) (C : List Item) (E : Environment) (S : Store) (L
   abbrev Here : Item → List Entry → Type 0
   Here i X = Progress a r (state (i ∷ C) X E S L n) h
 
-  arithmetic-next : (o : Arithmetic) (y z : ℤ) (X : List Entry) (Θ : StackShape) (x : Result) → ResultOk x → ControlTyped a C Γ (value-of (code 0) Θ) → ValuesTyped r E W L X Θ P →
+  pub arithmetic-next : (o : Arithmetic) (y z : ℤ) (X : List Entry) (Θ : StackShape) (x : Result) → ResultOk x → ControlTyped a C Γ (value-of (code 0) Θ) → ValuesTyped r E W L X Θ P →
       Next a r (state (mark (operator-mark (arithmetic o)) ∷ C) (val (integer z) ∷ val (integer y) ∷ X) E S L n) h (pushed x C X E S L n)
   arithmetic-next o y z X Θ (number v) t k values =
       record {

@@ -118,7 +118,7 @@ made-within budget steps τ none-holds =
       few-control = at-most most-control-entries (length (control-of τ)) (λ h. none-holds ControlEntries (control-full τ refl h));
     }
 
-store-count : (r : ℕ) (zs : List ℤ) → length (register-store r zs) ≡ r
+pub store-count : (r : ℕ) (zs : List ℤ) → length (register-store r zs) ≡ r
 unfolding register-store
 store-count zero zs = refl
 store-count (suc r) zs = ap suc (store-count r zs)

@@ -23,7 +23,7 @@ use Rattle.rules.specs.paper.Engine.{check-image, passed, root-control, 
 use Rattle.rules.specs.proofs.running.FireExact.{one-rule}
 use Rattle.rules.specs.claims.Image.{Meets}
 use Rattle.rules.specs.proofs.checking.ImageExact.{check-exact}
-use Rattle.rules.specs.claims.History.{Made, made-registers, History, first-history, Reach, at-start, step-made}
+use Rattle.rules.specs.claims.History.{Made, made-registers, History, note, first-history, Reach, at-start, step-made}
 use Rattle.rules.specs.claims.Claim.{StepOutcome, step-is-made, step-is-withheld, StateClaim, AllInRange, WholeRunClaim}
 use Rattle.rules.specs.proofs.running.World.{World, code-newest, SmallExpression, SmallActuals, SmallCommand, SmallBlock, SmallDeclaration, SmallBound, integer-typed, location-typed, EnvironmentTyped, no-names, one-name, environment-older, value-typed}
 use Rattle.rules.specs.proofs.running.Stores.{StoreTyped, no-cells, one-cell, world-made}
@@ -154,11 +154,9 @@ start-invariant image r t a m zs h =
 advance-of : {a : Passed} {r : ℕ} {σ : State} {h : History} {e : Effect} (τ : State) → Next a r σ h e → e ≡ goes τ → Advance a r σ h τ
 advance-of {a} {r} {σ} {h} τ n q = subst (Next a r σ h) q n
 
-pub reach-invariant : (a : Passed) (r : ℕ) (budget : ℕ) (first : State) → Invariant a r first (first-history r) →
-    (n : ℕ) (σ : State) (h : History) → Reach budget first r n σ h → Invariant a r σ h
-reach-invariant a r budget first inv n σ h at-start = inv
-reach-invariant a r budget first inv n σ h (step-made {n = m} {σ = ρ} {h = g} x τ reached line m′) =
-    let before = reach-invariant a r budget first inv m ρ g reached in
+-- The step of a rule that applies keeps it.
+pub step-invariant : (a : Passed) (r : ℕ) (x : Rule) (ρ τ : State) (g : History) → Invariant a r ρ g → Applies x ρ (goes τ) → Invariant a r τ (note ρ g τ)
+step-invariant a r x ρ τ g before line =
     let p = progress a r ρ g before (control-left x ρ (goes τ) line) in
     advance-of τ (p .next) (one-rule ρ (p .rule) x (p .effect) (goes τ) (p .applies) line .1) .invariant
   where
@@ -169,6 +167,12 @@ reach-invariant a r budget first inv n σ h (step-made {n = m} {σ = ρ} {h = g}
         IsSome : List Item → Type 0
         IsSome [] = ⊥
         IsSome (i ∷ C) = Unit {0}
+
+pub reach-invariant : (a : Passed) (r : ℕ) (budget : ℕ) (first : State) → Invariant a r first (first-history r) →
+    (n : ℕ) (σ : State) (h : History) → Reach budget first r n σ h → Invariant a r σ h
+reach-invariant a r budget first inv n σ h at-start = inv
+reach-invariant a r budget first inv n σ h (step-made {n = m} {σ = ρ} {h = g} x τ reached line m′) =
+    step-invariant a r x ρ τ g (reach-invariant a r budget first inv m ρ g reached) line
 
 -- ---- The step is made or withheld as claimed.
 
