@@ -9,3 +9,5 @@ pub mod StepKinds
 pub mod FreeStates
 pub mod Without
 pub mod FreeSteps
+pub mod FreeMost
+pub mod RunNeeds
