@@ -1,0 +1,65 @@
+-- The numbers of an entry's words.
+use denote.Ref.{now}
+use Rattle.estimator.proofs.EntryLaws.{entry-read}
+use borrow.Author.Needs.{needs}
+use Rattle.estimator.proofs.names.kept.Statement.{statement}
+use Rattle.estimator.proofs.names.kept.Tie as tie
+use Rattle.estimator.proofs.names.kept.Reads as reads
+use Rattle.estimator.proofs.names.kept.Lts as lts
+
+mul-sizes : tie.Need-mul-sizes
+mul-sizes c = search needs
+
+add-sizes : tie.Need-add-sizes
+add-sizes c = search needs
+
+add-sizes-2 : tie.Need-add-sizes-2
+add-sizes-2 c = search needs
+
+mul-sizes-2 : tie.Need-mul-sizes-2
+mul-sizes-2 c = search needs
+
+shared-slice-read-sizes : tie.Need-shared-slice-read-sizes
+shared-slice-read-sizes c = search needs
+
+mul-others : tie.Need-mul-others
+mul-others c = search needs
+
+add-others : tie.Need-add-others
+add-others c = search needs
+
+add-others-2 : tie.Need-add-others-2
+add-others-2 c = search needs
+
+mul-others-2 : tie.Need-mul-others-2
+mul-others-2 c = search needs
+
+shared-slice-read-others : tie.Need-shared-slice-read-others
+shared-slice-read-others c = search needs
+
+mul-t14 : tie.Need-mul-t14
+mul-t14 c = search needs
+
+div-t15 : tie.Need-div-t15
+div-t15 c = search needs
+
+returns : tie.Need-returns
+returns c = entry-read (now (c .before .before .args .work)) (c .before .before .args .at)
+
+pub kept-spec : {M : Type 1} → statement M
+kept-spec =
+    tie.close
+    (tie.spec
+    mul-sizes
+    add-sizes
+    add-sizes-2
+    mul-sizes-2
+    shared-slice-read-sizes
+    mul-others
+    add-others
+    add-others-2
+    mul-others-2
+    shared-slice-read-others
+    mul-t14
+    div-t15
+    returns)

@@ -1,0 +1,3 @@
+// The needs of a routine before it is loaded, from the reader's answers alone.
+pub mod figures;
+mod names;
