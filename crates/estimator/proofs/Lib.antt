@@ -1,2 +1,4 @@
 pub mod FigureLaws
 pub mod EntryLaws
+pub mod ExpressionLaws
+pub mod NameLaws

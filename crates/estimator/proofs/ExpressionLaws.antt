@@ -1,0 +1,130 @@
+-- Expressions by the kind of their node: what stands there, and its figures from its children's.
+use Prim.Native.Nat.{ℕ, zero, suc, _+_, _-_, _<_, _≤_}
+use mathlib.Core.Path.{_≡_, refl, sym, ap, _∙_, subst}
+use mathlib.Core.List.{List, [], _∷_}
+use native.Mathlib.Omega.{arith}
+use lib.ListN.{length, getD}
+use Rattle.rules.specs.paper.Limits.{most-nodes, most-parameters}
+use Rattle.rules.specs.paper.Tree.{Expression}
+use Rattle.rules.specs.paper.Needs.{sizes, over, in-turn, expression-need, actuals-need}
+use Rattle.reader.specs.Pack.{packed-kind, packed-end}
+use Rattle.reader.specs.Stored.{kind-is, StoredExpression, num, boo, id, deref, valref, binary, negation, StoredActuals, no-actuals, one-actual}
+use Rattle.reader.specs.StandingLaws.{after-node, operator-above, operator-below, operator-low, expression-low, expression-on, expression-end, actuals-on}
+use Rattle.estimator.specs.Figures.{stopped, figures, numbers, one-step, raised, both-in-turn, unary-figures, binary-figures}
+use Rattle.estimator.specs.Answers.{SomeExpression, SomeActuals, ExpressionNeeds, ActualsNeed}
+use Rattle.estimator.specs.declared.figures.Need.{Need}
+use Rattle.estimator.proofs.FigureLaws.{over-of, turn-of, last-of, unary-law, binary-law}
+
+child-place : {words : List ℕ} {d i j : ℕ} {e : Expression} → StoredExpression words d (suc i) j e → StoredExpression words d (i + 1) j e
+child-place {words} {d} {i} {j} {e} s = subst (λ k. StoredExpression words d k j e) (after-node i) s
+
+module _ (words : List ℕ) (node which : ℕ) (known : which ≡ packed-kind (getD words node 0)) where
+  pub low-leaf : which < 4 → (r : Need) → r ≡ one-step 1 1 0 0 → ExpressionNeeds words node r
+  unfolding expression-need
+  low-leaf h r q d j e (num w) = q
+  low-leaf h r q d j e (boo w) = q
+  low-leaf h r q d j e (id l w) = q
+  low-leaf h r q d j e (deref l w) = absurd (omega (arith, h, known, kind-is w (omega arith)))
+  low-leaf h r q d j e (valref l w) = absurd (omega (arith, h, known, kind-is w (omega arith)))
+  low-leaf h r q d j e (binary {o = o} w a b) = absurd (omega (arith, h, known, kind-is w (operator-low o), operator-above o))
+  low-leaf h r q d j e (negation w a) = absurd (omega (arith, h, known, kind-is w (omega arith)))
+
+  pub high-leaf : 15 < which → (r : Need) → r ≡ one-step 1 1 0 0 → ExpressionNeeds words node r
+  unfolding expression-need
+  high-leaf h r q d j e (num w) = q
+  high-leaf h r q d j e (boo w) = q
+  high-leaf h r q d j e (id l w) = q
+  high-leaf h r q d j e (deref l w) = q
+  high-leaf h r q d j e (valref l w) = q
+  high-leaf h r q d j e (binary {o = o} w a b) = absurd (omega (arith, h, known, kind-is w (operator-low o), operator-below o))
+  high-leaf h r q d j e (negation w a) = absurd (omega (arith, h, known, kind-is w (omega arith)))
+
+  module _ (low : 4 ≤ which) (high : which ≤ 15) where
+    pub first-child : SomeExpression words node → SomeExpression words (node + 1)
+    first-child s = by (s .3)
+      where
+        by : {d j : ℕ} {e : Expression} → StoredExpression words d node j e → SomeExpression words (node + 1)
+        by (num w) = absurd (omega (arith, low, known, kind-is w (omega arith)))
+        by (boo w) = absurd (omega (arith, low, known, kind-is w (omega arith)))
+        by (id l w) = absurd (omega (arith, low, known, kind-is w (omega arith)))
+        by (deref l w) = absurd (omega (arith, high, known, kind-is w (omega arith)))
+        by (valref l w) = absurd (omega (arith, high, known, kind-is w (omega arith)))
+        by (binary w a b) = (_, _, _, child-place a)
+        by (negation w a) = (_, _, _, child-place a)
+
+    pub first-low : SomeExpression words node → node + 1 < most-nodes
+    first-low s = expression-low (first-child s .3)
+
+    pub negation-needs : which ≡ 15 → (r : Need) → ExpressionNeeds words (node + 1) r → (t : Need) → t ≡ unary-figures r 0 1 0 0 → ExpressionNeeds words node t
+    unfolding expression-need
+    negation-needs n r first t q d j e (num w) = absurd (omega (arith, low, known, kind-is w (omega arith)))
+    negation-needs n r first t q d j e (boo w) = absurd (omega (arith, low, known, kind-is w (omega arith)))
+    negation-needs n r first t q d j e (id l w) = absurd (omega (arith, low, known, kind-is w (omega arith)))
+    negation-needs n r first t q d j e (deref l w) = absurd (omega (arith, high, known, kind-is w (omega arith)))
+    negation-needs n r first t q d j e (valref l w) = absurd (omega (arith, high, known, kind-is w (omega arith)))
+    negation-needs n r first t q d j e (binary {o = o} w a b) = absurd (omega (arith, n, known, kind-is w (operator-low o), operator-below o))
+    negation-needs n r first t q d j e (negation w a) = q ∙ unary-law {n = _} 0 1 0 0 (record { equal = first _ _ _ (child-place a) }) .equal
+
+    module _ (other : which ≡ 15 → ⊥) where
+      pub second-child : SomeExpression words node → SomeExpression words (packed-end (getD words (node + 1) 0)) × (node < packed-end (getD words (node + 1) 0))
+      second-child s = by (s .3)
+        where
+          by : {d j : ℕ} {e : Expression} → StoredExpression words d node j e → SomeExpression words (packed-end (getD words (node + 1) 0)) × (node < packed-end (getD words (node + 1) 0))
+          by (num w) = absurd (omega (arith, low, known, kind-is w (omega arith)))
+          by (boo w) = absurd (omega (arith, low, known, kind-is w (omega arith)))
+          by (id l w) = absurd (omega (arith, low, known, kind-is w (omega arith)))
+          by (deref l w) = absurd (omega (arith, high, known, kind-is w (omega arith)))
+          by (valref l w) = absurd (omega (arith, high, known, kind-is w (omega arith)))
+          by (binary {d = d} {k = m} {e₂ = e₂} w a b) =
+              let end = expression-end (child-place a) in
+              ((d, m, e₂, subst (λ i. StoredExpression words d i m e₂) (sym end) b), subst (λ i. node < i) (sym end) (omega (arith, expression-on a)))
+          by (negation w a) = absurd (other (known ∙ kind-is w (omega arith)))
+
+      pub binary-needs : (r s : Need) (next : ℕ) → next ≡ packed-end (getD words (node + 1) 0) → ExpressionNeeds words (node + 1) r → ExpressionNeeds words next s →
+          (t : Need) → t ≡ binary-figures r s → ExpressionNeeds words node t
+      unfolding expression-need
+      binary-needs r s next p first second t q d j e (num w) = absurd (omega (arith, low, known, kind-is w (omega arith)))
+      binary-needs r s next p first second t q d j e (boo w) = absurd (omega (arith, low, known, kind-is w (omega arith)))
+      binary-needs r s next p first second t q d j e (id l w) = absurd (omega (arith, low, known, kind-is w (omega arith)))
+      binary-needs r s next p first second t q d j e (deref l w) = absurd (omega (arith, high, known, kind-is w (omega arith)))
+      binary-needs r s next p first second t q d j e (valref l w) = absurd (omega (arith, high, known, kind-is w (omega arith)))
+      binary-needs r s next p first second t q d j e (binary {d = c} {k = m} {e₂ = e₂} w a b) =
+          q ∙ binary-law (record { equal = first _ _ _ (child-place a) }) (record { equal = second _ _ _ (subst (λ i. StoredExpression words c i m e₂) (sym (p ∙ expression-end (child-place a))) b) }) .equal
+      binary-needs r s next p first second t q d j e (negation w a) = absurd (other (known ∙ kind-is w (omega arith)))
+
+-- ---- A call's actuals.
+
+module _ (words : List ℕ) (node count : ℕ) where
+  pub no-actual : count ≡ 0 → (r : Need) → r ≡ numbers 0 0 0 0 0 → ActualsNeed words node count r
+  unfolding actuals-need
+  no-actual z r q d j es no-actuals n = q
+  no-actual z r q d j es (one-actual h g) n = absurd (omega (arith, z, n))
+
+  module _ (some-left : count ≡ 0 → ⊥) where
+    pub first-actual : SomeActuals words node count → SomeExpression words node
+    first-actual s = by (s .3) (s .4)
+      where
+        by : {d j : ℕ} {es : List Expression} → StoredActuals words d node j es → length es ≡ count → SomeExpression words node
+        by no-actuals n = absurd (some-left (sym n))
+        by (one-actual h g) n = (_, _, _, h)
+
+    pub later-actuals : SomeActuals words node count → SomeActuals words (packed-end (getD words node 0)) (count - 1)
+    later-actuals s = by (s .3) (s .4)
+      where
+        by : {d j : ℕ} {es : List Expression} → StoredActuals words d node j es → length es ≡ count → SomeActuals words (packed-end (getD words node 0)) (count - 1)
+        by no-actuals n = absurd (some-left (sym n))
+        by {d} (one-actual {k = k} {es = es} h g) n = (d, k, es, subst (λ i. StoredActuals words d i k es) (sym (expression-end h)) g, omega (arith, n))
+
+    pub actuals-together : count ≤ most-parameters → (r s : Need) (next : ℕ) → next ≡ packed-end (getD words node 0) → ExpressionNeeds words node r → ActualsNeed words next (count - 1) s →
+        (t : Need) → t ≡ both-in-turn (raised s 1 0 0 0) (raised r 0 (count - 1) 0 0) → ActualsNeed words node count t
+    unfolding actuals-need
+    actuals-together few r s next p first later t q d j es no-actuals n = absurd (some-left (sym n))
+    actuals-together few r s next p first later t q d j es (one-actual {k = k} {e = e} {es = es′} h g) n =
+        q
+        ∙ ap (λ m. both-in-turn (raised s 1 0 0 0) (raised r 0 m 0 0)) (fewer n few)
+        ∙ turn-of (over (sizes 0 (length es′) 0 0) (expression-need e) ∷ [])
+        (over-of 1 0 0 0 (record { equal = later d k es′ (subst (λ i. StoredActuals words d i k es′) (sym (p ∙ expression-end h)) g) (omega (arith, n)) }))
+        (last-of (over-of 0 (length es′) 0 0 (record { equal = first _ _ e h }))) .equal
+      where
+        fewer : suc (length es′) ≡ count → count ≤ most-parameters → count - 1 ≡ stopped (length es′)
+        fewer m l = omega (arith, m, l)

@@ -1,0 +1,55 @@
+// Expressions, and a call's actuals.
+ghost use Prim.Native.Nat.{_≤_};
+ghost use lib.ListN.{length};
+ghost use Rattle.rules.specs.paper.Limits.{most-nodes, most-parameters};
+ghost use Rattle.estimator.specs.Answers.{SomeExpression, SomeActuals, ExpressionNeeds, ActualsNeed};
+use crate::figures::Need;
+use crate::figures::binary;
+use crate::figures::in_turn;
+use crate::figures::nothing;
+use crate::figures::over;
+use crate::figures::step;
+use crate::figures::unary;
+use reader::end;
+use reader::kind;
+use reader::kinds;
+
+// The need of the expression at a node.
+pub(crate) fn expression(work: &[u64], node: usize) -> Need
+    requires { ⌜ most-nodes ≤ length (now work) ⌝ }
+    requires { ⌜ SomeExpression (now work) node ⌝ }
+    ensures { λ r. ⌜ ExpressionNeeds (now (work .entry)) node r ⌝ }
+{
+    let which = kind(work, node);
+    if which < kinds::SUM {
+        return step(1, 1, 0, 0);
+    }
+    if kinds::NOT < which {
+        return step(1, 1, 0, 0);
+    }
+    let first = expression(work, node + 1);
+    if which == kinds::NOT {
+        return unary(first, 0, 1, 0, 0);
+    }
+    let next = end(work, node + 1);
+    let second = expression(work, next);
+    binary(first, second)
+}
+
+// The need of so many actuals from a node on: the later ones run first, over the earlier ones, and an earlier one over their values.
+pub(crate) fn actuals(work: &[u64], node: usize, count: usize) -> Need
+    requires { ⌜ most-nodes ≤ length (now work) ⌝ }
+    requires { ⌜ count ≤ most-parameters ⌝ }
+    requires { ⌜ SomeActuals (now work) node count ⌝ }
+    ensures { λ r. ⌜ ActualsNeed (now (work .entry)) node count r ⌝ }
+{
+    if count == 0 {
+        return nothing();
+    }
+    let first = expression(work, node);
+    let next = end(work, node);
+    let later = actuals(work, next, count - 1);
+    let sooner = over(later, 1, 0, 0, 0);
+    let last = over(first, 0, (count - 1) as u64, 0, 0);
+    in_turn(sooner, last)
+}
