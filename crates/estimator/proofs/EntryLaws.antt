@@ -2,7 +2,7 @@
 use Prim.Native.Nat.{ℕ, zero, suc, _+_, _*_, _-_, _/_, _%_, _<_, _≤_}
 use mathlib.Core.Path.{_≡_, refl, sym, ap, _∙_, subst}
 use mathlib.Core.Bool.{Bool, true, false, cond}
-use mathlib.Core.List.{List, [], _∷_}
+use mathlib.Core.List.{List, _∷_}
 use mathlib.Core.Logic.{_≢_}
 use native.Mathlib.Omega.{arith}
 use lib.Dec.{T, eqb, eqb→eq, eqb-refl}
@@ -15,7 +15,7 @@ use Rattle.rules.specs.proofs.Basics.{true-test, false-test}
 use Rattle.reader.specs.StoredLaws.{SameNodes}
 use Rattle.estimator.specs.Figures.{numbers, figures}
 use Rattle.estimator.proofs.FigureLaws.{same-need}
-use Rattle.estimator.specs.Entries.{entries-from, entries-end, entry-of, room, name-word, sizes-word, others-word, SmallFigures, HasEntry, WritesEntriesFrom, KeptEntry, NamesAt, no-names, one-name, EntryAt, NeedFoundAt}
+use Rattle.estimator.specs.Entries.{entries-from, entries-end, entry-of, room, name-word, sizes-word, others-word, SmallFigures, HasEntry, WritesEntriesFrom, KeptEntry, NamesAt, no-entries, one-name, EntryAt, NeedFoundAt}
 use Rattle.estimator.specs.declared.figures.Need.{Need}
 
 -- ---- Writing an entry.
@@ -127,7 +127,7 @@ pub record Pointed (words : List ℕ) (at : ℕ) (M : Needs) : Type 0 where
   pub names-older : NamesAt words link older
 
 pub pointed : {words : List ℕ} {at : ℕ} {M : Needs} → NamesAt words at M → (at ≡ 0 → ⊥) → Pointed words at M
-pointed no-names f = absurd (f refl)
+pointed (no-entries e) f = absurd (f refl)
 pointed (one-name {k = k} {l = l} {n = n} {N = N} e s) f = record { node = k; link = l; newest = n; older = N; is-node = refl; whole = refl; entry = e; names-older = s }
 
 first-there : {words : List ℕ} {at : ℕ} {M : Needs} (p : Pointed words at M) → getD words (1997 + 3 * at) 0 ≡ name-word (p .newest .name) (p .link)
@@ -176,12 +176,11 @@ module _ (words : List ℕ) (scope name at : ℕ) (some-names : (N : Needs) × N
       found-here p = rw (true-test (eqb (p .newest .name) name) (subst (λ x. T (eqb (p .newest .name) x)) (sym (name-there p) ∙ this) (eqb-refl (p .newest .name))))
 
 pub walk-none : (words : List ℕ) (scope name at : ℕ) → Walked words scope name at → at ≡ 0 → (r : Need) → r ≡ numbers 0 0 0 0 0 → NeedFoundAt words scope name r
-unfolding need-of
-walk-none words scope name at walked ended r q N s = let w = walked N s in q ∙ ap figures (sym (w .2 ∙ ap (need-of name) (empty (w .1) ended)))
+walk-none words scope name at walked ended r q N s = let w = walked N s in q ∙ ap figures (sym (w .2 ∙ none-there (w .1) ended))
   where
-    empty : {at : ℕ} {M : Needs} → NamesAt words at M → at ≡ 0 → M ≡ []
-    empty no-names e = refl
-    empty (one-name {k = k} h t) e = absurd (never e)
+    none-there : {at : ℕ} {M : Needs} → NamesAt words at M → at ≡ 0 → need-of name M ≡ Rules.nothing
+    none-there (no-entries e) z = e name
+    none-there (one-name {k = k} h t) z = absurd (never z)
       where
         never : suc k ≡ 0 → ⊥
         never g = omega (arith, g)
@@ -207,7 +206,7 @@ entries-nodes k i h = k .same-below i (omega (arith, h))
 
 -- Names that were there before.
 pub names-kept : {words words′ : List ℕ} {node : ℕ} → WritesEntriesFrom words words′ node → {at : ℕ} {N : Needs} → at ≤ node → NamesAt words at N → NamesAt words′ at N
-names-kept k l no-names = no-names
+names-kept k l (no-entries e) = no-entries e
 names-kept {words} {words′} {node} k l (one-name {k = i} {l = j} {n = n} e s) =
     one-name
     (record {

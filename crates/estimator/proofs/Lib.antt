@@ -5,3 +5,4 @@ pub mod NameLaws
 pub mod DeclarationSizes
 pub mod CommandLaws
 pub mod DeclarationLaws
+pub mod RootLaws

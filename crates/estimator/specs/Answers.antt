@@ -1,13 +1,12 @@
 -- What the estimator's functions answer: the figures of the tree that stands at a node, in the scope at a pointer.
-use Prim.Native.Nat.{ℕ, _+_, _*_, _<_, _≤_}
+use Prim.Native.Nat.{ℕ, _≤_}
 use mathlib.Core.Path.{_≡_}
 use mathlib.Core.Bool.{Bool}
 use mathlib.Core.List.{List, _++_}
 use lib.ListN.{length}
-use Rattle.rules.specs.paper.Limits.{names, most-parameters}
 use Rattle.rules.specs.paper.Tree.{Formal, Expression, Command, Call, Declaration, Root}
-use Rattle.rules.specs.paper.Needs.{Needs, expression-need, actuals-need, over-formals, command-need, declaration-need, names-given}
-use Rattle.reader.specs.Stored.{StoredExpression, StoredActuals, StoredFormals, StoredCommand, StoredDeclaration, HasWord}
+use Rattle.rules.specs.paper.Needs.{Needs, expression-need, actuals-need, over-formals, command-need, declaration-need, names-given, register-needs, root-need, routine-need, has-loop}
+use Rattle.reader.specs.Stored.{StoredExpression, StoredActuals, StoredFormals, StoredCommand, StoredDeclaration, RootAt}
 use Rattle.estimator.specs.Figures.{figures}
 use Rattle.estimator.specs.Entries.{NamesAt}
 use Rattle.estimator.specs.declared.figures.Need.{Need}
@@ -65,3 +64,15 @@ pub record DeclaredAs (words : List ℕ) (next : ℕ) (N : Needs) (c : Declarati
 
 abbrev pub DeclarationNeeds : (words words′ : List ℕ) (scope node : ℕ) → Declared → Type 0
 DeclarationNeeds words words′ scope node r = (d j : ℕ) (c : Declaration) (N : Needs) → StoredDeclaration words d node j c → NamesAt words scope N → DeclaredAs words′ j N c r
+
+-- ---- The whole routine.
+
+-- The registers' names have no need, whatever their number.
+abbrev pub RootNeeds : List ℕ → (nodes : ℕ) → Need → Type 0
+RootNeeds words nodes r = (registers : ℕ) (t : Root) → RootAt words nodes t → r ≡ figures (root-need (register-needs registers) t)
+
+abbrev pub RoutineNeeds : List ℕ → (registers nodes : ℕ) → Need → Type 0
+RoutineNeeds words registers nodes r = (t : Root) → RootAt words nodes t → r ≡ figures (routine-need registers t)
+
+abbrev pub LoopFound : List ℕ → (nodes : ℕ) → Bool → Type 0
+LoopFound words nodes r = (t : Root) → RootAt words nodes t → r ≡ has-loop t

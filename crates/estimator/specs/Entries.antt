@@ -2,7 +2,7 @@
 -- of the entry before it. A pointer is one more than its entry's node; pointer 0 stands for the registers, whose names have no need.
 use Prim.Native.Nat.{ℕ, suc, _+_, _*_, _-_, _/_, _%_, _<_, _≤_}
 use mathlib.Core.Path.{_≡_}
-use mathlib.Core.List.{List, [], _∷_}
+use mathlib.Core.List.{List, _∷_}
 use lib.ListN.{length, getD}
 use Rattle.rules.specs.paper.Limits.{most-nodes, names}
 use Rattle.rules.specs.paper.Needs.{NameNeed, Needs, need-of}
@@ -61,9 +61,9 @@ pub record KeptEntry (words words′ : List ℕ) (node name link : ℕ) (n : Nee
   pub entry : HasEntry words′ node name link n
   pub others : WritesEntriesFrom words words′ node
 
--- The names at a pointer, newest first, each with its need as the code has it.
+-- The names at a pointer, newest first, each with its need as the code has it; then names without a need, as the registers are.
 pub data NamesAt (words : List ℕ) : (pointer : ℕ) → Needs → Type 0 where
-  no-names : NamesAt words 0 []
+  no-entries : {N : Needs} → ((x : ℕ) → need-of x N ≡ Rules.nothing) → NamesAt words 0 N
   one-name : {k l : ℕ} {n : NameNeed} {N : Needs} → HasEntry words k (n .name) l (figures (n .need)) → NamesAt words l N → NamesAt words (suc k) (n ∷ N)
 
 -- The need of the entry at a pointer.
