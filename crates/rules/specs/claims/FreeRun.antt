@@ -1,7 +1,7 @@
 -- The free runs, and what is claimed of the figures of Needs.antt (document 02, request 4): they are the most over all free runs, every run
 -- of the engine is a free run, and where they are within the limits 33 to 36 hold nowhere in it. This file names the automaton's
 -- definitions and nothing of the proofs, which stand in proofs/needs.
-use Prim.Native.Nat.{ℕ, zero, suc, _≤_}
+use Prim.Native.Nat.{ℕ, zero, suc, _+_, _*_, _≤_}
 use mathlib.Core.Path.{_≡_}
 use mathlib.Core.Bool.{Bool, true, false}
 use mathlib.Core.List.{List, [], _∷_}
@@ -10,7 +10,7 @@ use lib.IntN.{ℤ}
 use lib.ListN.{length}
 use Rattle.rules.specs.paper.Tree.{Arithmetic, arithmetic, Expression, Command, Loop, Cond, Root}
 use Rattle.rules.specs.paper.Refusals.{Reason, Cells, Bindings, ValueEntries, ControlEntries}
-use Rattle.rules.specs.paper.Limits.{most-cells, most-bindings, most-value-entries, most-control-entries}
+use Rattle.rules.specs.paper.Limits.{most-nodes, most-registers, most-cells, most-bindings, most-value-entries, most-control-entries}
 use Rattle.rules.specs.paper.Integers.{in-range, failed, compute}
 use Rattle.rules.specs.paper.Checker.{Passed}
 use Rattle.rules.specs.paper.States.{integer, truth, Environment, Store, Entry, val, node, Item, command, mark, operator-mark, loop-mark, conditional-mark, State, state, control-of, values-of, store-of, bindings-of}
@@ -125,3 +125,11 @@ ReachesExactly =
     has-loop t ≡ false → has-conditional t ≡ false →
     (budget k : ℕ) (τ : State) → run budget 0 (start r t registers) ≡ ended k τ →
     (k ≡ routine-need r t .steps) × ((f : Figure) → SizeMet budget (start r t registers) r f (routine-need r t .most f)))
+
+-- ---- The four room figures of a passed image are small: at most four for each node, and the registers.
+abbrev pub most-room : ℕ
+most-room = most-registers + 4 * most-nodes
+
+abbrev pub FiguresSmall : Type 0
+FiguresSmall =
+    (image : List ℕ) (r : ℕ) (t : Root) (a : Passed) → check-image image ≡ passed r t a → (f : Figure) → routine-need r t .most f ≤ most-room

@@ -11,3 +11,4 @@ pub mod Without
 pub mod FreeSteps
 pub mod FreeMost
 pub mod RunNeeds
+pub mod RoomBounds
