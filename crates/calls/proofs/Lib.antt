@@ -1,4 +1,5 @@
 mod CheckLaws
 mod ExecuteLaws
+mod NeedsLaws
 mod OrderLaws
 mod PerformLaws

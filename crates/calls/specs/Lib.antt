@@ -3,3 +3,4 @@ pub mod Claim
 pub mod Delivered
 pub mod Runs
 pub mod Sizes
+pub mod Needs

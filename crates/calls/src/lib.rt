@@ -1,13 +1,16 @@
-// The engine's two calls: the checker alone, and the run.
+// The engine's three calls: the checker alone, the needs alone, and the run.
+mod estimate;
 mod perform;
 pub mod refusals;
 
 ghost use mathlib.Core.Path.{_≡_};
 ghost use Prim.Native.Nat.{_<_, _≤_};
 ghost use lib.ListN.{length};
-ghost use Rattle.rules.specs.paper.Engine.{checker};
+ghost use Rattle.rules.specs.paper.Engine.{checker, needs};
 ghost use Rattle.calls.specs.Answers.{check-reply};
+ghost use Rattle.calls.specs.Needs.{needs-reply};
 ghost use Rattle.calls.specs.Runs.{run-call, RanAs};
+use crate::estimate::estimate_image;
 use crate::perform::run_image;
 use crate::refusals::REFUSED_BUDGET;
 use crate::refusals::REFUSED_WORK;
@@ -28,6 +31,14 @@ pub const MOST_IMAGE_WORDS: usize = 2 + 2 * MOST_NODES;
 pub enum Checked {
     Code(usize),
     Command,
+    Refused(u64, usize),
+}
+
+// What the needs come to: control, values, cells, bindings and steps; the first four where a Loop leaves the steps open; or a refusal with
+// its place.
+pub enum Estimated {
+    Figures(u64, u64, u64, u64, u64),
+    Open(u64, u64, u64, u64),
     Refused(u64, usize),
 }
 
@@ -62,6 +73,21 @@ pub fn check(image: &[u32], work: &mut [u64]) -> Checked
         }
         Loaded::Refused(number, place) => Checked::Refused(number, place),
     }
+}
+
+// By `nothing-exceeds` and `each-reached` (rules, FreeMost.antt) the figures are the most over all free runs.
+// The needs alone: any image words, any work words. Under 8,192 work words nothing is touched; every other call leaves the first 8,192 of
+// them 0 and the rest as they were.
+pub fn needs(image: &[u32], work: &mut [u64]) -> Estimated
+    ensures { λ r. ⌜ r ≡ needs-reply (needs (now (image .entry)) (now (work .entry)) .answer) ⌝ }
+    ensures { λ r. ⌜ now (work .exit) ≡ needs (now (image .entry)) (now (work .entry)) .work ⌝ }
+{
+    if work.len() < WORK_WORDS {
+        return Estimated::Refused(REFUSED_WORK, 0);
+    }
+    let answer = estimate_image(image, work);
+    clear(work);
+    answer
 }
 
 // The run: any image words, any registers, any budget, any work words. Under 8,192 work words (22) or with a budget above 1,000,000 (21)

@@ -8,3 +8,6 @@ pub const REFUSED_BUDGET: u64 = 21;
 
 // There are too few work words. It is the last refusal before a run.
 pub const REFUSED_WORK: u64 = 22;
+
+// There is no Loop, and the steps come out above the most that are given.
+pub const REFUSED_STEPS: u64 = 40;

@@ -57,7 +57,7 @@ all-same (x ∷ a) (y ∷ b) q f = two-parts (f 0) (all-same a b (omega (arith, 
     two-parts : y ≡ x → b ≡ a → _≡_ {A = List ℕ} (y ∷ b) (x ∷ a)
     two-parts g h = cc
 
-drop-same : (n : ℕ) (a b : List ℕ) → length b ≡ length a → ((i : ℕ) → n ≤ i → getD b i 0 ≡ getD a i 0) → drop n b ≡ drop n a
+pub drop-same : (n : ℕ) (a b : List ℕ) → length b ≡ length a → ((i : ℕ) → n ≤ i → getD b i 0 ≡ getD a i 0) → drop n b ≡ drop n a
 drop-same zero a b q f = all-same a b q (λ i. f i (omega arith))
 drop-same (suc n) [] [] q f = refl
 drop-same (suc n) [] (y ∷ b) q f = absurd (omega (arith, q))

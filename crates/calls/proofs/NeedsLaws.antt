@@ -1,0 +1,174 @@
+-- The needs alone: 22 first, then the image, then 40; and the figures of the tree that was loaded.
+use Prim.Native.Nat.{ℕ, suc, _<_, _≤_}
+use mathlib.Core.Path.{_≡_, refl, sym, ap, _∙_, subst}
+use mathlib.Core.Bool.{Bool, true, false, cond}
+use mathlib.Core.List.{List}
+use native.Mathlib.Omega.{arith}
+use lib.Dec.{T, ltb, ltb→lt, lt→ltb}
+use lib.ListN.{length}
+use Rattle.rules.specs.proofs.Basics.{true-test, false-test}
+use Rattle.rules.specs.paper.Refusals.{refusal-number}
+use Rattle.rules.specs.paper.Limits.{most-nodes, most-registers, most-steps, work-words}
+use Rattle.rules.specs.paper.Tree.{Root}
+use Rattle.rules.specs.paper.Needs.{control, values, cells, bindings, routine-need, has-loop}
+use Rattle.rules.specs.paper.Needs as Rules
+use Rattle.rules.specs.paper.Engine.{Checked, turned-back, passed, check-image, cleared, figures-of, needs-answer, needs}
+use Rattle.rules.specs.claims.Listing.{root-nodes}
+use Rattle.rules.specs.proofs.checking.ImageExact.{check-exact}
+use Rattle.rules.specs.proofs.needs.RoomBounds.{figures-small}
+use Rattle.reader.specs.Put.{KeptBeyond}
+use Rattle.reader.specs.Stored.{StoredRoot, root-expression, root-command, root-absent, RootAt}
+use Rattle.reader.specs.StoredLaws.{same-root}
+use Rattle.reader.specs.StandingLaws.{expression-root, command-root}
+use Rattle.estimator.specs.Figures.{stopped, figures}
+use Rattle.estimator.specs.Entries.{WritesEntriesFrom}
+use Rattle.estimator.specs.Answers.{RoutineNeeds, LoopFound}
+use Rattle.estimator.specs.declared.figures.Need.{Need}
+use Rattle.estimator.proofs.EntryLaws.{entries-nodes}
+use Rattle.loader.specs.Answers.{LoadAnswer}
+use Rattle.loader.specs.declared.Loaded.{Loaded}
+use Rattle.loader.specs.declared.Loaded.the-variants as Load
+use Rattle.loader.proofs.LoadLaws.{beyond-then, drop-same}
+use Rattle.calls.specs.Needs.{needs-reply, SmallRoom, SmallTree, EstimatedAs}
+use Rattle.calls.specs.declared.Estimated.{Estimated}
+use Rattle.calls.specs.declared.Estimated.the-variants.{Figures, Open, Refused}
+use Rattle.calls.proofs.CheckLaws.{cleared-same}
+
+-- ---- The figures of a tree.
+
+same-open : {k v c b k′ v′ c′ b′ : ℕ} → k ≡ k′ → v ≡ v′ → c ≡ c′ → b ≡ b′ → Open k v c b ≡ Open k′ v′ c′ b′
+same-open p q r s = cc
+
+same-figures : {k v c b n k′ v′ c′ b′ n′ : ℕ} → k ≡ k′ → v ≡ v′ → c ≡ c′ → b ≡ b′ → n ≡ n′ → Figures k v c b n ≡ Figures k′ v′ c′ b′ n′
+same-figures p q r s t = cc
+
+pub beyond-entries : {a b : List ℕ} {node : ℕ} → WritesEntriesFrom a b node → KeptBeyond work-words a b
+beyond-entries {a} {b} k = record { same-length = k .same-length; same-beyond = drop-same work-words a b (k .same-length) (λ i h. k .same-beyond i (omega (arith, h))) }
+
+pub nodes-low : {words : List ℕ} {nodes : ℕ} {t : Root} → RootAt words nodes t → nodes ≤ most-nodes
+nodes-low at = by (at .stored)
+  where
+    by : {words : List ℕ} {d j : ℕ} {t : Root} → StoredRoot words d 0 j t → j ≤ most-nodes
+    by (root-expression s) = expression-root s .word .end-low
+    by (root-command s) = command-root s .word .end-low
+    by root-absent = omega arith
+
+module _ (words words′ : List ℕ) (registers nodes : ℕ) (need : Need) (routine : RoutineNeeds words registers nodes need) (kept : WritesEntriesFrom words words′ 0) where
+  kept-root : (t : Root) → RootAt words nodes t → RootAt words′ nodes t
+  kept-root t at = record { depth = at .depth; stored = same-root words words′ (entries-nodes kept) (at .stored) }
+
+  whole : (n m : ℕ) → n ≡ stopped m → m ≤ most-steps → n ≡ m
+  whole n m q l = omega (arith, q, l)
+
+  -- The room figures are those of the definition.
+  module _ (t : Root) (at : RootAt words nodes t) (small : SmallRoom registers t) where
+    is-control : need .control ≡ routine-need registers t .most control
+    is-control = whole (need .control) _ (ap (λ n. n .control) (routine t at)) (omega (arith, small control))
+
+    is-values : need .values ≡ routine-need registers t .most values
+    is-values = whole (need .values) _ (ap (λ n. n .values) (routine t at)) (omega (arith, small values))
+
+    is-cells : need .cells ≡ routine-need registers t .most cells
+    is-cells = whole (need .cells) _ (ap (λ n. n .cells) (routine t at)) (omega (arith, small cells))
+
+    is-bindings : need .bindings ≡ routine-need registers t .most bindings
+    is-bindings = whole (need .bindings) _ (ap (λ n. n .bindings) (routine t at)) (omega (arith, small bindings))
+
+    is-steps : need .steps ≡ stopped (routine-need registers t .steps)
+    is-steps = ap (λ n. n .steps) (routine t at)
+
+  pub open-answered : LoopFound words′ nodes true → EstimatedAs words registers nodes (Open (need .control) (need .values) (need .cells) (need .bindings))
+  unfolding figures-of
+  open-answered loop t at small =
+      rw (sym (loop t (kept-root t at)))
+      (same-open (is-control t at small) (is-values t at small) (is-cells t at small) (is-bindings t at small))
+
+  module _ (no-loop : LoopFound words′ nodes false) where
+    pub steps-refused : most-steps < need .steps → EstimatedAs words registers nodes (Refused 40 0)
+    unfolding figures-of refusal-number
+    steps-refused l t at small =
+        rw (sym (no-loop t (kept-root t at)), true-test (ltb most-steps (routine-need registers t .steps)) (lt→ltb most-steps (routine-need registers t .steps) (omega (arith, l, is-steps t at small)))) refl
+
+    pub figures-answered : need .steps ≤ most-steps → EstimatedAs words registers nodes (Figures (need .control) (need .values) (need .cells) (need .bindings) (need .steps))
+    unfolding figures-of
+    figures-answered l t at small =
+        rw (sym (no-loop t (kept-root t at)), false-test (ltb most-steps (routine-need registers t .steps)) (λ h. few (ltb→lt most-steps (routine-need registers t .steps) h)))
+        (same-figures (is-control t at small) (is-values t at small) (is-cells t at small) (is-bindings t at small) given-steps)
+      where
+        few : most-steps < routine-need registers t .steps → ⊥
+        few h = omega (arith, h, l, is-steps t at small)
+
+        given-steps : need .steps ≡ routine-need registers t .steps
+        given-steps = omega (arith, l, is-steps t at small)
+
+-- ---- An image.
+
+loaded-twice : (e : Loaded) (number count nodes x p : ℕ) → e ≡ Load.Passed number count nodes → e ≡ Load.Refused x p → ⊥
+loaded-twice e number count nodes x p g h = let z : _≡_ {A = ℕ} 0 1 = cc in omega arith
+
+same-count : (e : Loaded) (number count nodes other-number other-count other-nodes : ℕ) → e ≡ Load.Passed number count nodes → e ≡ Load.Passed other-number other-count other-nodes → count ≡ other-count
+same-count e number count nodes other-number other-count other-nodes g h = cc
+
+same-nodes : (e : Loaded) (number count nodes other-number other-count other-nodes : ℕ) → e ≡ Load.Passed number count nodes → e ≡ Load.Passed other-number other-count other-nodes → nodes ≡ other-nodes
+same-nodes e number count nodes other-number other-count other-nodes g h = cc
+
+same-refusal : (e : Loaded) (x p y q : ℕ) → e ≡ Load.Refused x p → e ≡ Load.Refused y q → Refused x p ≡ Refused y q
+same-refusal e x p y q g h = cc
+
+module _ (image before after : List ℕ) (e : Loaded) (loaded : LoadAnswer (check-image image) e before after) where
+  pub loaded-beyond : KeptBeyond work-words before after
+  loaded-beyond = by (check-image image) loaded
+    where
+      by : (c : Checked) → LoadAnswer c e before after → KeptBeyond work-words before after
+      by (turned-back x p) t = t .beyond
+      by (passed r t c) f = f .beyond
+
+  module _ (number count nodes : ℕ) (g : e ≡ Load.Passed number count nodes) where
+    pub tree-loaded : (count ≤ most-registers) × SmallTree after count nodes
+    tree-loaded = by (check-image image) refl loaded
+      where
+        by : (c : Checked) → check-image image ≡ c → LoadAnswer c e before after → (count ≤ most-registers) × SmallTree after count nodes
+        by (turned-back x p) q t = absurd (loaded-twice e number count nodes (refusal-number x) p g (t .answer))
+        by (passed r t c) q f =
+            let r-is = same-count e number count nodes _ r (length (root-nodes t)) g (f .answer) in
+            let n-is = same-nodes e number count nodes _ r (length (root-nodes t)) g (f .answer) in (
+              omega (arith, r-is, check-exact image r t c .0 q .shape .registers),
+              (t, subst (λ n. RootAt after n t) (sym n-is) (f .stands), subst (λ k. SmallRoom k t) (sym r-is) (figures-small image r t c q)),
+            )
+
+    pub passed-answered : (r : Estimated) → EstimatedAs after count nodes r → r ≡ needs-reply (needs-answer (check-image image))
+    passed-answered r done = by (check-image image) refl loaded
+      where
+        by : (c : Checked) → check-image image ≡ c → LoadAnswer c e before after → r ≡ needs-reply (needs-answer c)
+        by (turned-back x p) q t = absurd (loaded-twice e number count nodes (refusal-number x) p g (t .answer))
+        by (passed k t c) q f =
+            let r-is = same-count e number count nodes _ k (length (root-nodes t)) g (f .answer) in
+            let n-is = same-nodes e number count nodes _ k (length (root-nodes t)) g (f .answer) in
+            done t (subst (λ n. RootAt after n t) (sym n-is) (f .stands)) (subst (λ m. SmallRoom m t) (sym r-is) (figures-small image k t c q))
+            ∙ ap (λ m. needs-reply (figures-of m t)) r-is
+
+  pub refusal-answered : (x p : ℕ) → e ≡ Load.Refused x p → Refused x p ≡ needs-reply (needs-answer (check-image image))
+  refusal-answered x p g = by (check-image image) loaded
+    where
+      by : (c : Checked) → LoadAnswer c e before after → Refused x p ≡ needs-reply (needs-answer c)
+      by (turned-back y o) t = same-refusal e x p (refusal-number y) o g (t .answer)
+      by (passed r t c) f = absurd (loaded-twice e _ r _ x p (f .answer) g)
+
+-- ---- The call.
+
+-- Under 8,192 work words: 22, and nothing is touched.
+pub little-room : (image work : List ℕ) → length work < work-words → (Refused 22 0 ≡ needs-reply (needs image work .answer)) × (work ≡ needs image work .work)
+unfolding needs refusal-number
+little-room image work h = rw (true-test (ltb (length work) work-words) (lt→ltb (length work) work-words h)) (refl, refl)
+
+enough : (image work : List ℕ) → work-words ≤ length work → needs image work ≡ record { answer = needs-answer (check-image image); work = cleared work }
+unfolding needs
+enough image work h = rw (false-test (ltb (length work) work-words) (λ t. both (ltb→lt (length work) work-words t)))
+  where
+    both : length work < work-words → ⊥
+    both l = omega (arith, l, h)
+
+pub answered : (image work after last : List ℕ) (r : Estimated) → work-words ≤ length work → r ≡ needs-reply (needs-answer (check-image image)) → KeptBeyond work-words work after →
+    last ≡ cleared after → (r ≡ needs-reply (needs image work .answer)) × (last ≡ needs image work .work)
+answered image work after last r h q b e =
+    (q ∙ sym (ap (λ c. needs-reply (c .answer)) (enough image work h)), e ∙ cleared-same work after b ∙ sym (ap (λ c. c .work) (enough image work h)))

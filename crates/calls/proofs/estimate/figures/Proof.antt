@@ -1,0 +1,49 @@
+-- The figures of the tree: open, refused, or given.
+use mathlib.Core.Path.{subst}
+use native.Mathlib.Omega.{arith}
+use Rattle.estimator.specs.Answers.{LoopFound}
+use Rattle.calls.proofs.NeedsLaws.{nodes-low, beyond-entries, open-answered, steps-refused, figures-answered}
+use borrow.Author.Needs.{needs}
+use Rattle.calls.proofs.estimate.figures.Statement.{statement}
+use Rattle.calls.proofs.estimate.figures.Tie as tie
+use Rattle.calls.proofs.estimate.figures.Reads as reads
+use Rattle.calls.proofs.estimate.figures.Lts as lts
+use Rattle.estimator.proofs.has_loop.Reads as has-loop-reads
+use Rattle.estimator.proofs.routine.Reads as routine-reads
+
+routine-requires : tie.Need-routine-requires
+routine-requires c κs = search needs
+
+has-loop-requires : tie.Need-has-loop-requires
+has-loop-requires c κs = let start = c .before .before .before .before .before .before in let kept = c .before .before .before .routine .ensures .1 in (omega (arith, start .pre .0, kept .same-length), nodes-low (start .pre .1 .1 .1))
+
+same-length : tie.Need-same-length
+same-length c = search needs
+
+returns : tie.Need-returns
+returns c = let routine = c .before .before .before .before .before .routine .ensures in (open-answered _ _ _ _ _ (routine .0) (routine .1) (subst (LoopFound _ _) (c .if1 .taken) (c .before .has-loop .ensures)), beyond-entries (routine .1))
+
+same-length-2 : tie.Need-same-length-2
+same-length-2 c = search needs
+
+returns-2 : tie.Need-returns-2
+returns-2 c = let routine = c .before .before .before .before .before .before .before .routine .ensures in (steps-refused _ _ _ _ _ (routine .0) (routine .1) (subst (LoopFound _ _) (c .before .before .if1 .left) (c .before .before .before .has-loop .ensures)) (c .if2 .taken), beyond-entries (routine .1))
+
+same-length-3 : tie.Need-same-length-3
+same-length-3 c = search needs
+
+returns-3 : tie.Need-returns-3
+returns-3 c = let routine = c .before .before .before .before .before .before .before .routine .ensures in (figures-answered _ _ _ _ _ (routine .0) (routine .1) (subst (LoopFound _ _) (c .before .before .if1 .left) (c .before .before .before .has-loop .ensures)) (c .if2 .left), beyond-entries (routine .1))
+
+pub figures-spec : {M : Type 1} → statement M
+figures-spec =
+    tie.close
+    (tie.spec
+    routine-requires
+    has-loop-requires
+    same-length
+    returns
+    same-length-2
+    returns-2
+    same-length-3
+    returns-3)
