@@ -1,4 +1,5 @@
 mod BytesCounts
 mod BytesRun
 mod CheckNumbers
+mod NeedsNumbers
 mod RunNumbers

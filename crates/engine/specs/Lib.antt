@@ -2,3 +2,4 @@ pub mod Bytes
 pub mod BytesKept
 pub mod BytesRead
 pub mod Replies
+pub mod NeedsReplies

@@ -1,14 +1,17 @@
-// The engine as a C host calls it: the checker alone and the run, on words and, in `bytes`, on bytes.
+// The engine as a C host calls it: the checker alone, the needs alone and the run on words; in `bytes`, the checker and the run on bytes.
 pub mod bytes;
 
 ghost use mathlib.Core.Path.{_≡_};
-ghost use Rattle.rules.specs.paper.Engine.{checker};
+ghost use Rattle.rules.specs.paper.Engine.{checker, needs};
 ghost use Rattle.integers.specs.Words.{words-of};
 ghost use Rattle.calls.specs.Runs.{run-call};
 ghost use Rattle.engine.specs.Replies.{Replies, RunCalled};
+ghost use Rattle.engine.specs.NeedsReplies.{NeedsReplied};
 use calls::Checked;
+use calls::Estimated;
 use calls::Ran;
 use calls::check;
+use calls::needs;
 use calls::run;
 
 // What a check answers to a C host: refusal 0 where the image passes, and then the value is the root's code or 8 for a command.
@@ -17,6 +20,19 @@ pub struct CheckReply {
     pub refusal: u64,
     pub value: u64,
     pub place: u64,
+}
+
+// What the needs come to for a C host: refusal 0 where there are figures; open 1 where a Loop leaves the steps open, which are 0 then.
+#[repr(C)]
+pub struct NeedsReply {
+    pub refusal: u64,
+    pub place: u64,
+    pub control: u64,
+    pub values: u64,
+    pub cells: u64,
+    pub bindings: u64,
+    pub steps: u64,
+    pub open: u64,
 }
 
 // A run's answer for a C host: refusal 0 where the run ends, and then the outcome is 1 for a number, 2 for a truth, 3 for a cell and 0
@@ -52,6 +68,47 @@ pub extern "C" fn pi_check(image: &[u32], work: &mut [u64]) -> CheckReply
             refusal: number,
             value: 0,
             place: place as u64,
+        },
+    }
+}
+
+// `needs` for a C host.
+#[no_mangle]
+pub extern "C" fn pi_needs(image: &[u32], work: &mut [u64]) -> NeedsReply
+    ensures { λ r. ⌜ NeedsReplied (needs (now (image .entry)) (now (work .entry)) .answer) r ⌝ }
+    ensures { λ r. ⌜ now (work .exit) ≡ needs (now (image .entry)) (now (work .entry)) .work ⌝ }
+{
+    let answer = needs(image, work);
+    match answer {
+        Estimated::Figures(control, values, cells, bindings, steps) => NeedsReply {
+            refusal: 0,
+            place: 0,
+            control,
+            values,
+            cells,
+            bindings,
+            steps,
+            open: 0,
+        },
+        Estimated::Open(control, values, cells, bindings) => NeedsReply {
+            refusal: 0,
+            place: 0,
+            control,
+            values,
+            cells,
+            bindings,
+            steps: 0,
+            open: 1,
+        },
+        Estimated::Refused(number, place) => NeedsReply {
+            refusal: number,
+            place: place as u64,
+            control: 0,
+            values: 0,
+            cells: 0,
+            bindings: 0,
+            steps: 0,
+            open: 0,
         },
     }
 }
