@@ -26,17 +26,22 @@ fn figures(work: &mut [u64], registers: usize, nodes: usize) -> Estimated
     let need = routine(work, registers, nodes);
     let open = has_loop(work, nodes);
     if open {
-        return Estimated::Open(need.control, need.values, need.cells, need.bindings);
+        return Estimated::Open(
+            need.control as u64,
+            need.values as u64,
+            need.cells as u64,
+            need.bindings as u64,
+        );
     }
     if MOST_STEPS < need.steps {
         return Estimated::Refused(REFUSED_STEPS, 0);
     }
     Estimated::Figures(
-        need.control,
-        need.values,
-        need.cells,
-        need.bindings,
-        need.steps,
+        need.control as u64,
+        need.values as u64,
+        need.cells as u64,
+        need.bindings as u64,
+        need.steps as u64,
     )
 }
 

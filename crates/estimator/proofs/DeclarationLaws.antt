@@ -21,7 +21,7 @@ use Rattle.estimator.specs.Answers.{SomeExpression, SomeFormals, SomeCom
 use Rattle.estimator.specs.declared.figures.Need.{Need}
 use Rattle.estimator.specs.declared.commands.Declared.{Declared}
 use Rattle.estimator.proofs.FigureLaws.{Are, are, unary-law, scoped-law}
-use Rattle.estimator.proofs.EntryLaws.{entries-nodes, names-kept}
+use Rattle.estimator.proofs.EntryLaws.{entries-nodes, entries-same, names-kept}
 use Rattle.estimator.proofs.DeclarationSizes.{declaration-cells, declaration-bindings}
 
 -- The node after the first child and its descendants.
@@ -209,7 +209,7 @@ module _ (words : List ℕ) (node which : ℕ) (known : which ≡ packed-kind (g
       module _ (words₁ : List ℕ) (scope name : ℕ) (none : Need) (low : scope ≤ node) (no-need : none ≡ numbers 0 0 0 0 0) (named : name ≡ packed-operand (getD words node 0))
           (written : KeptEntry words words₁ node name scope none) where
         kept-none : WritesEntriesFrom words words (node + 1)
-        kept-none = record { same-length = refl; same-below = λ i h. refl; same-beyond = λ i h. refl }
+        kept-none = entries-same words (node + 1)
 
         plain-named : (x : ℕ) (N : Needs) → packed-operand (getD words node 0) ≡ x → NamesAt words scope N → NamesAt words₁ (node + 1) (record { name = x; need = nothing } ∷ N)
         plain-named x N o s = name-given words words₁ scope name none named kept-none written x nothing N o no-need low s

@@ -15,52 +15,53 @@ use Rattle.rules.specs.proofs.Basics.{true-test, false-test}
 use Rattle.reader.specs.StoredLaws.{SameNodes}
 use Rattle.estimator.specs.Figures.{numbers, figures}
 use Rattle.estimator.proofs.FigureLaws.{same-need}
-use Rattle.estimator.specs.Entries.{entries-from, entries-end, entry-of, room, name-word, sizes-word, others-word, SmallFigures, HasEntry, WritesEntriesFrom, KeptEntry, NamesAt, no-entries, one-name, EntryAt, NeedFoundAt}
+use Rattle.estimator.specs.Entries.{pointers-from, pointed-needs-from, entries-end, row-of, need-at, room, name-word, sizes-word, others-word, SmallFigures, HasEntry, WritesEntriesFrom, KeptEntry, NamesAt, no-entries, one-name, EntryAt, NeedFoundAt}
 use Rattle.estimator.specs.declared.figures.Need.{Need}
 
 -- ---- Writing an entry.
 
 pub entry-kept : (words : List ℕ) (node name link : ℕ) (n : Need) → entries-end ≤ length words → node < most-nodes → name < names → link ≤ node →
-    KeptEntry words (set (set (set words (entry-of node) (name-word name link)) (entry-of node + 1) (sizes-word n)) (entry-of node + 2) (others-word n)) node name link n
+    KeptEntry words (set (set (set words (row-of node) (name-word name link)) (need-at node) (sizes-word n)) (need-at node + 1) (others-word n)) node name link n
 entry-kept words node name link n long low named linked =
     record {
       entry = record {
+        row-word =
+            getD-set-other two (need-at node + 1) (row-of node) (others-word n) 0 (omega (arith, low))
+            ∙ getD-set-other one (need-at node) (row-of node) (sizes-word n) 0 (omega (arith, low))
+            ∙ getD-set-same words (row-of node) (name-word name link) 0 (omega (arith, long, low));
         first-word =
-            getD-set-other two (entry-of node + 2) (entry-of node) (others-word n) 0 (omega arith)
-            ∙ getD-set-other one (entry-of node + 1) (entry-of node) (sizes-word n) 0 (omega arith)
-            ∙ getD-set-same words (entry-of node) (name-word name link) 0 (omega (arith, long, low));
-        second-word =
-            getD-set-other two (entry-of node + 2) (entry-of node + 1) (others-word n) 0 (omega arith)
-            ∙ getD-set-same one (entry-of node + 1) (sizes-word n) 0 (omega (arith, long, low, one-long));
-        third-word = getD-set-same two (entry-of node + 2) (others-word n) 0 (omega (arith, long, low, one-long, two-long));
+            getD-set-other two (need-at node + 1) (need-at node) (others-word n) 0 (omega arith)
+            ∙ getD-set-same one (need-at node) (sizes-word n) 0 (omega (arith, long, low, one-long));
+        second-word = getD-set-same two (need-at node + 1) (others-word n) 0 (omega (arith, long, low, one-long, two-long));
         node-low = low;
         name-low = named;
         link-low = linked;
       };
       others = record {
-        same-length = length-set two (entry-of node + 2) (others-word n) ∙ two-long ∙ one-long;
-        same-below = λ i l. elsewhere i (omega (arith, l)) (omega (arith, l)) (omega (arith, l));
+        same-length = length-set two (need-at node + 1) (others-word n) ∙ two-long ∙ one-long;
+        same-below = λ i l. elsewhere i (omega (arith, l)) (omega (arith, l, low)) (omega (arith, l, low));
+        same-needs = λ i h l. elsewhere i (omega (arith, h, low)) (omega (arith, l)) (omega (arith, l));
         same-beyond = λ i l. elsewhere i (omega (arith, l, low)) (omega (arith, l, low)) (omega (arith, l, low));
       };
     }
   where
     one : List ℕ
-    one = set words (entry-of node) (name-word name link)
+    one = set words (row-of node) (name-word name link)
 
     two : List ℕ
-    two = set one (entry-of node + 1) (sizes-word n)
+    two = set one (need-at node) (sizes-word n)
 
     one-long : length one ≡ length words
-    one-long = length-set words (entry-of node) (name-word name link)
+    one-long = length-set words (row-of node) (name-word name link)
 
     two-long : length two ≡ length one
-    two-long = length-set one (entry-of node + 1) (sizes-word n)
+    two-long = length-set one (need-at node) (sizes-word n)
 
-    elsewhere : (i : ℕ) → i ≢ entry-of node → i ≢ entry-of node + 1 → i ≢ entry-of node + 2 → getD (set two (entry-of node + 2) (others-word n)) i 0 ≡ getD words i 0
+    elsewhere : (i : ℕ) → i ≢ row-of node → i ≢ need-at node → i ≢ need-at node + 1 → getD (set two (need-at node + 1) (others-word n)) i 0 ≡ getD words i 0
     elsewhere i f g h =
-        getD-set-other two (entry-of node + 2) i (others-word n) 0 h
-        ∙ getD-set-other one (entry-of node + 1) i (sizes-word n) 0 g
-        ∙ getD-set-other words (entry-of node) i (name-word name link) 0 f
+        getD-set-other two (need-at node + 1) i (others-word n) 0 h
+        ∙ getD-set-other one (need-at node) i (sizes-word n) 0 g
+        ∙ getD-set-other words (row-of node) i (name-word name link) 0 f
 
 -- ---- Reading one.
 
@@ -74,25 +75,25 @@ first-of a b c h = omega arith
 second-of : (a b c : ℕ) → a < room → b < room → (a + room * b + room * room * c) / room % room ≡ b
 second-of a b c h g = omega arith
 
-third-of : (a b c : ℕ) → a < room → b < room → (a + room * b + room * room * c) / (room * room) ≡ c
-third-of a b c h g = omega arith
+third-of : (a b c : ℕ) → a < room → b < room → c < room → (a + room * b + room * room * c) / (room * room) % room ≡ c
+third-of a b c h g k = omega arith
 
 lower-of : (a b : ℕ) → a < room → (a + room * b) % room ≡ a
 lower-of a b h = omega arith
 
-upper-of : (a b : ℕ) → a < room → (a + room * b) / room ≡ b
-upper-of a b h = omega arith
+upper-of : (a b : ℕ) → a < room → b < room → (a + room * b) / room % room ≡ b
+upper-of a b h g = omega arith
 
 -- The five numbers of an entry, unpacked.
 pub entry-read : (words : List ℕ) (at : ℕ) →
     EntryAt words at
-    (numbers (getD words (1997 + 3 * at + 1) 0 % room) (getD words (1997 + 3 * at + 1) 0 / room % room) (getD words (1997 + 3 * at + 1) 0 / (room * room)) (getD words (1997 + 3 * at + 2) 0 % room)
-    (getD words (1997 + 3 * at + 2) 0 / room))
+    (numbers (getD words (pointed-needs-from + 2 * at) 0 % room) (getD words (pointed-needs-from + 2 * at) 0 / room % room) (getD words (pointed-needs-from + 2 * at) 0 / (room * room) % room) (getD words (pointed-needs-from + 2 * at + 1) 0 % room)
+    (getD words (pointed-needs-from + 2 * at + 1) 0 / room % room))
 entry-read words at k x l n q e =
     same-need (ap (λ w. w % room) second ∙ first-of (m .control) (m .values) (m .cells) (small .control-small))
     (ap (λ w. w / room % room) second ∙ second-of (m .control) (m .values) (m .cells) (small .control-small) (small .values-small))
-    (ap (λ w. w / (room * room)) second ∙ third-of (m .control) (m .values) (m .cells) (small .control-small) (small .values-small))
-    (ap (λ w. w % room) third ∙ lower-of (m .bindings) (m .steps) (small .bindings-small)) (ap (λ w. w / room) third ∙ upper-of (m .bindings) (m .steps) (small .bindings-small))
+    (ap (λ w. w / (room * room) % room) second ∙ third-of (m .control) (m .values) (m .cells) (small .control-small) (small .values-small) (small .cells-small))
+    (ap (λ w. w % room) third ∙ lower-of (m .bindings) (m .steps) (small .bindings-small)) (ap (λ w. w / room % room) third ∙ upper-of (m .bindings) (m .steps) (small .bindings-small) (small .steps-small))
   where
     m : Need
     m = figures n
@@ -100,11 +101,11 @@ entry-read words at k x l n q e =
     small : SmallFigures (figures n)
     small = figures-small n
 
-    second : getD words (1997 + 3 * at + 1) 0 ≡ sizes-word (figures n)
-    second = ap (λ i. getD words i 0) (omega (arith, q)) ∙ e .second-word
+    second : getD words (pointed-needs-from + 2 * at) 0 ≡ sizes-word (figures n)
+    second = ap (λ i. getD words i 0) (omega (arith, q)) ∙ e .first-word
 
-    third : getD words (1997 + 3 * at + 2) 0 ≡ others-word (figures n)
-    third = ap (λ i. getD words i 0) (omega (arith, q)) ∙ e .third-word
+    third : getD words (pointed-needs-from + 2 * at + 1) 0 ≡ others-word (figures n)
+    third = ap (λ i. getD words i 0) (omega (arith, q)) ∙ e .second-word
 
 -- ---- Looking for a name.
 
@@ -130,16 +131,16 @@ pub pointed : {words : List ℕ} {at : ℕ} {M : Needs} → NamesAt words at M �
 pointed (no-entries e) f = absurd (f refl)
 pointed (one-name {k = k} {l = l} {n = n} {N = N} e s) f = record { node = k; link = l; newest = n; older = N; is-node = refl; whole = refl; entry = e; names-older = s }
 
-first-there : {words : List ℕ} {at : ℕ} {M : Needs} (p : Pointed words at M) → getD words (1997 + 3 * at) 0 ≡ name-word (p .newest .name) (p .link)
-first-there {words} p = ap (λ i. getD words i 0) (omega (arith, p .is-node)) ∙ p .entry .first-word
+first-there : {words : List ℕ} {at : ℕ} {M : Needs} (p : Pointed words at M) → getD words (pointers-from + at) 0 ≡ name-word (p .newest .name) (p .link)
+first-there {words} p = ap (λ i. getD words i 0) (omega (arith, p .is-node)) ∙ p .entry .row-word
 
-name-there : {words : List ℕ} {at : ℕ} {M : Needs} (p : Pointed words at M) → getD words (1997 + 3 * at) 0 % names ≡ p .newest .name
+name-there : {words : List ℕ} {at : ℕ} {M : Needs} (p : Pointed words at M) → getD words (pointers-from + at) 0 % names ≡ p .newest .name
 name-there {words} p = ap (λ w. w % names) (first-there p) ∙ lowest (p .newest .name) (p .link) (p .entry .name-low)
   where
     lowest : (x l : ℕ) → x < names → (x + names * l) % names ≡ x
     lowest x l h = omega arith
 
-link-there : {words : List ℕ} {at : ℕ} {M : Needs} (p : Pointed words at M) → getD words (1997 + 3 * at) 0 / names ≡ p .link
+link-there : {words : List ℕ} {at : ℕ} {M : Needs} (p : Pointed words at M) → getD words (pointers-from + at) 0 / names ≡ p .link
 link-there {words} p = ap (λ w. w / names) (first-there p) ∙ highest (p .newest .name) (p .link) (p .entry .name-low)
   where
     highest : (x l : ℕ) → x < names → (x + names * l) / names ≡ l
@@ -152,10 +153,10 @@ module _ (words : List ℕ) (scope name at : ℕ) (some-names : (N : Needs) × N
   pub walk-low : (1 ≤ at) × (at ≤ most-nodes)
   walk-low = (omega (arith, here .is-node), omega (arith, here .is-node, here .entry .node-low))
 
-  pub walk-less : getD words (1997 + 3 * at) 0 / names < at
+  pub walk-less : getD words (pointers-from + at) 0 / names < at
   walk-less = omega (arith, link-there here, here .is-node, here .entry .link-low)
 
-  pub walk-on : (getD words (1997 + 3 * at) 0 % names ≡ name → ⊥) → Walked words scope name (getD words (1997 + 3 * at) 0 / names)
+  pub walk-on : (getD words (pointers-from + at) 0 % names ≡ name → ⊥) → Walked words scope name (getD words (pointers-from + at) 0 / names)
   unfolding need-of
   walk-on other N s =
       let w = walked N s in
@@ -165,7 +166,7 @@ module _ (words : List ℕ) (scope name at : ℕ) (some-names : (N : Needs) × N
       passed-by : {M : Needs} (p : Pointed words at M) → need-of name (p .newest ∷ p .older) ≡ need-of name (p .older)
       passed-by p = rw (false-test (eqb (p .newest .name) name) (λ t. other (name-there p ∙ eqb→eq (p .newest .name) name t)))
 
-  pub walk-found : getD words (1997 + 3 * at) 0 % names ≡ name → (r : Need) → EntryAt words at r → NeedFoundAt words scope name r
+  pub walk-found : getD words (pointers-from + at) 0 % names ≡ name → (r : Need) → EntryAt words at r → NeedFoundAt words scope name r
   unfolding need-of
   walk-found this r e N s =
       let w = walked N s in
@@ -188,16 +189,17 @@ walk-none words scope name at walked ended r q N s = let w = walked N s in q ∙
 -- ---- What `WritesEntriesFrom` leaves as it was.
 
 pub entries-same : (words : List ℕ) (node : ℕ) → WritesEntriesFrom words words node
-entries-same words node = record { same-length = refl; same-below = λ i h. refl; same-beyond = λ i h. refl }
+entries-same words node = record { same-length = refl; same-below = λ i h. refl; same-needs = λ i h l. refl; same-beyond = λ i h. refl }
 
 pub entries-lower : {words words′ : List ℕ} {low node : ℕ} → WritesEntriesFrom words words′ node → low ≤ node → WritesEntriesFrom words words′ low
-entries-lower k h = record { same-length = k .same-length; same-below = λ i l. k .same-below i (omega (arith, h, l)); same-beyond = k .same-beyond }
+entries-lower k h = record { same-length = k .same-length; same-below = λ i l. k .same-below i (omega (arith, h, l)); same-needs = λ i m l. k .same-needs i m (omega (arith, h, l)); same-beyond = k .same-beyond }
 
 pub entries-then : {words words′ words″ : List ℕ} {low node : ℕ} → WritesEntriesFrom words words′ low → WritesEntriesFrom words′ words″ node → low ≤ node → WritesEntriesFrom words words″ low
 entries-then a b h =
     record {
       same-length = b .same-length ∙ a .same-length;
       same-below = λ i l. b .same-below i (omega (arith, h, l)) ∙ a .same-below i l;
+      same-needs = λ i m l. b .same-needs i m (omega (arith, h, l)) ∙ a .same-needs i m l;
       same-beyond = λ i l. b .same-beyond i l ∙ a .same-beyond i l;
     }
 
@@ -210,9 +212,9 @@ names-kept k l (no-entries e) = no-entries e
 names-kept {words} {words′} {node} k l (one-name {k = i} {l = j} {n = n} e s) =
     one-name
     (record {
-      first-word = k .same-below (entry-of i) (omega (arith, l)) ∙ e .first-word;
-      second-word = k .same-below (entry-of i + 1) (omega (arith, l)) ∙ e .second-word;
-      third-word = k .same-below (entry-of i + 2) (omega (arith, l)) ∙ e .third-word;
+      row-word = k .same-below (row-of i) (omega (arith, l)) ∙ e .row-word;
+      first-word = k .same-needs (need-at i) (omega arith) (omega (arith, l)) ∙ e .first-word;
+      second-word = k .same-needs (need-at i + 1) (omega arith) (omega (arith, l)) ∙ e .second-word;
       node-low = e .node-low;
       name-low = e .name-low;
       link-low = e .link-low;

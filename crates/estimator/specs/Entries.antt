@@ -1,5 +1,6 @@
--- The names in scope as the work words hold them: three words for each node that binds a name, from word `entries-from` on, with the pointer
--- of the entry before it. A pointer is one more than its entry's node; pointer 0 stands for the registers, whose names have no need.
+-- The names in scope as the work words hold them: for each node that binds a name a row, with the pointer of the row before it, from word
+-- `rows-from` on, and two words with its need, from `needs-from` on. A pointer is one more than its row's node; pointer 0 stands for the
+-- registers, whose names have no need.
 use Prim.Native.Nat.{ℕ, suc, _+_, _*_, _-_, _/_, _%_, _<_, _≤_}
 use mathlib.Core.Path.{_≡_}
 use mathlib.Core.List.{List, _∷_}
@@ -10,17 +11,27 @@ use Rattle.rules.specs.paper.Needs as Rules
 use Rattle.estimator.specs.Figures.{figures}
 use Rattle.estimator.specs.declared.figures.Need.{Need}
 
-abbrev pub entries-from : ℕ
-entries-from = most-nodes
+abbrev pub rows-from : ℕ
+rows-from = most-nodes
 
-abbrev pub entry-words : ℕ
-entry-words = 3
+abbrev pub needs-from : ℕ
+needs-from = rows-from + most-nodes
 
-abbrev pub entry-of : ℕ → ℕ
-entry-of node = entries-from + entry-words * node
+-- where the row of a pointer stands, less the pointer, and its need, less twice the pointer
+abbrev pub pointers-from : ℕ
+pointers-from = rows-from - 1
+
+abbrev pub pointed-needs-from : ℕ
+pointed-needs-from = needs-from - 2
+
+abbrev pub row-of : ℕ → ℕ
+row-of node = rows-from + node
+
+abbrev pub need-at : ℕ → ℕ
+need-at node = needs-from + 2 * node
 
 abbrev pub entries-end : ℕ
-entries-end = entries-from + entry-words * most-nodes
+entries-end = needs-from + 2 * most-nodes
 
 -- The room of one number where several stand in a word.
 abbrev pub room : ℕ
@@ -44,17 +55,19 @@ pub record SmallFigures (n : Need) : Type 0 where
 
 -- The entry of a node.
 pub record HasEntry (words : List ℕ) (node name link : ℕ) (n : Need) : Type 0 where
-  pub first-word : getD words (entry-of node) 0 ≡ name-word name link
-  pub second-word : getD words (entry-of node + 1) 0 ≡ sizes-word n
-  pub third-word : getD words (entry-of node + 2) 0 ≡ others-word n
+  pub row-word : getD words (row-of node) 0 ≡ name-word name link
+  pub first-word : getD words (need-at node) 0 ≡ sizes-word n
+  pub second-word : getD words (need-at node + 1) 0 ≡ others-word n
   pub node-low : node < most-nodes
   pub name-low : name < names
   pub link-low : link ≤ node
 
--- Only entries of nodes from this one on are written: the words below its entry and those from `entries-end` on are as they were.
+-- Only entries of nodes from this one on are written: the words below its row, those from the first need to its own, and those from
+-- `entries-end` on are as they were.
 pub record WritesEntriesFrom (words words′ : List ℕ) (node : ℕ) : Type 0 where
   pub same-length : length words′ ≡ length words
-  pub same-below : (i : ℕ) → i < entry-of node → getD words′ i 0 ≡ getD words i 0
+  pub same-below : (i : ℕ) → i < row-of node → getD words′ i 0 ≡ getD words i 0
+  pub same-needs : (i : ℕ) → needs-from ≤ i → i < need-at node → getD words′ i 0 ≡ getD words i 0
   pub same-beyond : (i : ℕ) → entries-end ≤ i → getD words′ i 0 ≡ getD words i 0
 
 pub record KeptEntry (words words′ : List ℕ) (node name link : ℕ) (n : Need) : Type 0 where

@@ -61,7 +61,7 @@ fn call(work: &[u64], scope: usize, node: usize) -> Need
     let count = word / NAMES;
     let given = actuals(work, node + 1, count);
     let function = need_of(work, scope, word % NAMES);
-    called(given, count as u64, function)
+    called(given, count as u32, function)
 }
 
 // The need of the command at a node in the scope at a pointer.

@@ -50,6 +50,6 @@ pub(crate) fn actuals(work: &[u64], node: usize, count: usize) -> Need
     let next = end(work, node);
     let later = actuals(work, next, count - 1);
     let sooner = over(later, 1, 0, 0, 0);
-    let last = over(first, 0, (count - 1) as u64, 0, 0);
+    let last = over(first, 0, (count - 1) as u32, 0, 0);
     in_turn(sooner, last)
 }

@@ -4,21 +4,21 @@ ghost use Prim.Native.Nat.{_+_, max};
 ghost use Rattle.estimator.specs.Figures.{stopped, numbers, one-step, raised, both-in-turn, larger-of, unary-figures, binary-figures, tested-figures, sequence-figures, scoped-figures, called-figures};
 
 // The most steps that are given as a figure.
-pub const MOST_STEPS: u64 = 1000000;
+pub const MOST_STEPS: u32 = 1000000;
 
 // Where every sum stops.
-const STOP: u64 = MOST_STEPS + 1;
+const STOP: u32 = MOST_STEPS + 1;
 
 // How far each size rises over what lies there already, and how many steps are made.
 pub struct Need {
-    pub control: u64,
-    pub values: u64,
-    pub cells: u64,
-    pub bindings: u64,
-    pub steps: u64,
+    pub control: u32,
+    pub values: u32,
+    pub cells: u32,
+    pub bindings: u32,
+    pub steps: u32,
 }
 
-pub(crate) fn sum(first: u64, second: u64) -> u64
+pub(crate) fn sum(first: u32, second: u32) -> u32
     ensures { λ r. ⌜ r ≡ stopped (first + second) ⌝ }
 {
     if STOP <= first {
@@ -30,7 +30,7 @@ pub(crate) fn sum(first: u64, second: u64) -> u64
     first + second
 }
 
-fn larger(first: u64, second: u64) -> u64
+fn larger(first: u32, second: u32) -> u32
     ensures { λ r. ⌜ r ≡ max first second ⌝ }
 {
     if first < second {
@@ -53,7 +53,7 @@ pub(crate) fn nothing() -> Need
 }
 
 // One step.
-pub(crate) fn step(control: u64, values: u64, cells: u64, bindings: u64) -> Need
+pub(crate) fn step(control: u32, values: u32, cells: u32, bindings: u32) -> Need
     ensures { λ r. ⌜ r ≡ one-step control values cells bindings ⌝ }
 {
     Need {
@@ -66,7 +66,7 @@ pub(crate) fn step(control: u64, values: u64, cells: u64, bindings: u64) -> Need
 }
 
 // A need over what lies under it.
-pub(crate) fn over(need: Need, control: u64, values: u64, cells: u64, bindings: u64) -> Need
+pub(crate) fn over(need: Need, control: u32, values: u32, cells: u32, bindings: u32) -> Need
     ensures { λ r. ⌜ r ≡ raised need control values cells bindings ⌝ }
 {
     Need {
@@ -105,7 +105,7 @@ pub(crate) fn either(first: Need, second: Need) -> Need
 }
 
 // A node with one child: its step, the child over the mark and so many entries of the value stack, and the mark.
-pub(crate) fn unary(child: Need, under: u64, values: u64, cells: u64, bindings: u64) -> Need
+pub(crate) fn unary(child: Need, under: u32, values: u32, cells: u32, bindings: u32) -> Need
     ensures { λ r. ⌜ r ≡ unary-figures child under values cells bindings ⌝ }
 {
     let mark = step(1, values, cells, bindings);
@@ -153,11 +153,11 @@ pub(crate) fn sequence(first: Need, second: Need) -> Need
 // A Blk or DSeq: a declaration, its mark, what runs over what it left, and the last mark.
 pub(crate) fn scoped(
     declared: Need,
-    under: u64,
+    under: u32,
     inner: Need,
-    values: u64,
-    cells: u64,
-    bindings: u64,
+    values: u32,
+    cells: u32,
+    bindings: u32,
 ) -> Need
     ensures { λ r. ⌜ r ≡ scoped-figures declared under inner values cells bindings ⌝ }
 {
@@ -173,7 +173,7 @@ pub(crate) fn scoped(
 }
 
 // A Call of so many actuals, and the function's Blk.
-pub(crate) fn called(actuals: Need, count: u64, function: Need) -> Need
+pub(crate) fn called(actuals: Need, count: u32, function: Need) -> Need
     ensures { λ r. ⌜ r ≡ called-figures actuals count function ⌝ }
 {
     let left = step(1, 2, 0, count);

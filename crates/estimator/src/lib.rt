@@ -46,7 +46,7 @@ pub fn routine(work: &mut [u64], registers: usize, nodes: usize) -> Need
     ensures { λ r. ⌜ WritesEntriesFrom (now (work .entry)) (now (work .exit)) 0 ⌝ }
 {
     let need = root(work, nodes);
-    over(need, 0, 0, registers as u64, registers as u64)
+    over(need, 0, 0, registers as u32, registers as u32)
 }
 
 // Whether a Loop is among so many nodes.

@@ -1,28 +1,30 @@
-// The names in scope: three work words for each node that binds one, with the need of its function, or none.
+// The names in scope: a row for each node that binds one, and the need of its function, or none.
 ghost use mathlib.Core.Path.{_≡_};
 ghost use Prim.Native.Nat.{_≤_, _<_};
 ghost use lib.ListN.{length};
 ghost use Rattle.rules.specs.paper.Limits.{most-nodes, names};
 ghost use Rattle.rules.specs.paper.Needs.{Needs};
-ghost use Rattle.estimator.specs.Entries.{entries-end, entry-of, SmallFigures, EntryAt, KeptEntry, NamesAt, NeedFoundAt};
+ghost use Rattle.estimator.specs.Entries.{entries-end, SmallFigures, EntryAt, KeptEntry, NamesAt, NeedFoundAt};
 use crate::figures::Need;
 use crate::figures::nothing;
 use reader::MOST_NODES;
 use reader::NAMES;
 
-// Where the entries begin among the work words: a node's stands at ENTRIES + ENTRY_WORDS × its place. A pointer is one more than its
-// entry's node, so its entry stands at POINTERS + ENTRY_WORDS × the pointer; 0 points at no entry.
-const ENTRIES: usize = MOST_NODES;
+// Where the rows begin among the work words: a node's stands at ROWS + its place. A pointer is one more than its row's node, so its row
+// stands at POINTERS + the pointer; 0 points at no row. A row's word is its name + NAMES × the pointer of the row before it.
+const ROWS: usize = MOST_NODES;
 
-const ENTRY_WORDS: usize = 3;
+const POINTERS: usize = ROWS - 1;
 
-const POINTERS: usize = ENTRIES - ENTRY_WORDS;
+// Where the needs begin, two words for each node: control, values and cells in the first, bindings and steps in the second.
+const NEEDS: usize = ROWS + MOST_NODES;
 
-// The room of one number where several stand in a word. An entry's first word is its name + NAMES × the pointer of the entry before it; the
-// second has control, values and cells, the third bindings and steps.
+const POINTED_NEEDS: usize = NEEDS - 2;
+
+// The room of one number where several stand in a word.
 const ROOM: u64 = 1 << 20;
 
-// The entry of a node: its name, the pointer of the entry before it, and the need of what the name is bound to.
+// The entry of a node: its name, the pointer of the row before it, and the need of what the name is bound to.
 pub(crate) fn keep(work: &mut [u64], node: usize, name: usize, link: usize, need: Need)
     requires { ⌜ entries-end ≤ length (now work) ⌝ }
     requires { ⌜ node < most-nodes ⌝ }
@@ -31,10 +33,12 @@ pub(crate) fn keep(work: &mut [u64], node: usize, name: usize, link: usize, need
     requires { ⌜ SmallFigures need ⌝ }
     ensures { λ r. ⌜ KeptEntry (now (work .entry)) (now (work .exit)) node name link need ⌝ }
 {
-    let at = ENTRIES + ENTRY_WORDS * node;
-    work[at] = (name + NAMES * link) as u64;
-    work[at + 1] = need.control + ROOM * need.values + ROOM * ROOM * need.cells;
-    work[at + 2] = need.bindings + ROOM * need.steps;
+    work[ROWS + node] = (name + NAMES * link) as u64;
+    let at = NEEDS + 2 * node;
+    work[at] = need.control as u64
+        + ROOM * (need.values as u64)
+        + ROOM * ROOM * (need.cells as u64);
+    work[at + 1] = need.bindings as u64 + ROOM * (need.steps as u64);
 }
 
 // The need that an entry has.
@@ -44,14 +48,14 @@ fn kept(work: &[u64], at: usize) -> Need
     requires { ⌜ entries-end ≤ length (now work) ⌝ }
     ensures { λ r. ⌜ EntryAt (now (work .entry)) at r ⌝ }
 {
-    let sizes = work[POINTERS + ENTRY_WORDS * at + 1];
-    let others = work[POINTERS + ENTRY_WORDS * at + 2];
+    let sizes = work[POINTED_NEEDS + 2 * at];
+    let others = work[POINTED_NEEDS + 2 * at + 1];
     Need {
-        control: sizes % ROOM,
-        values: sizes / ROOM % ROOM,
-        cells: sizes / (ROOM * ROOM),
-        bindings: others % ROOM,
-        steps: others / ROOM,
+        control: (sizes % ROOM) as u32,
+        values: (sizes / ROOM % ROOM) as u32,
+        cells: (sizes / (ROOM * ROOM) % ROOM) as u32,
+        bindings: (others % ROOM) as u32,
+        steps: (others / ROOM % ROOM) as u32,
     }
 }
 
@@ -63,11 +67,11 @@ pub(crate) fn need_of(work: &[u64], scope: usize, name: usize) -> Need
 {
     let mut at = scope;
     while at != 0 {
-        let entry = work[POINTERS + ENTRY_WORDS * at] as usize;
-        if entry % NAMES == name {
+        let row = work[POINTERS + at] as usize;
+        if row % NAMES == name {
             return kept(work, at);
         }
-        at = entry / NAMES;
+        at = row / NAMES;
     }
     nothing()
 }

@@ -24,6 +24,11 @@ actuals-requires c κs = let start = c .before .before in let given = call-actua
 need-of-requires : tie.Need-need-of-requires
 need-of-requires c κs = search needs
 
+cast-called : tie.Need-cast-called
+cast-called c =
+    let start = c .before .before .before .before in
+    record { fits = omega (arith, call-actuals _ _ _ (c .before .before .operand .ensures) (start .pre .1 .1) .0) }
+
 called-requires : tie.Need-called-requires
 called-requires c κs = search needs
 
@@ -38,5 +43,6 @@ call-spec =
     add-actuals
     actuals-requires
     need-of-requires
+    cast-called
     called-requires
     returns)

@@ -61,6 +61,9 @@ actuals-over-requires t c κs = tt
 actuals-sub-over : (t : ℕ) → actuals-lts.Need-sub-over (actuals-calls t) (actuals-at t) actuals.Post
 actuals-sub-over t c = omega (arith, c .before .before .before .before .if1 .left)
 
+actuals-cast-over : (t : ℕ) → actuals-lts.Need-cast-over (actuals-calls t) (actuals-at t) actuals.Post
+actuals-cast-over t c = let start = c .before .before .before .before .before .before in record { fits = omega (arith, start .pre .1 .1 .0) }
+
 actuals-over-requires-2 : (t : ℕ) → actuals-lts.Need-over-requires-2 (actuals-calls t) (actuals-at t) actuals.Post
 actuals-over-requires-2 t c κs = tt
 
@@ -85,6 +88,7 @@ pub +actuals-spec : {M : Type 1} → statement M
     (actuals-actuals-requires t)
     (actuals-over-requires t)
     (actuals-sub-over t)
+    (actuals-cast-over t)
     (actuals-over-requires-2 t)
     (actuals-in-turn-requires t)
     (actuals-returns-2 t)

@@ -13,9 +13,6 @@ mul-sizes c = search needs
 add-sizes : tie.Need-add-sizes
 add-sizes c = search needs
 
-add-sizes-2 : tie.Need-add-sizes-2
-add-sizes-2 c = search needs
-
 mul-sizes-2 : tie.Need-mul-sizes-2
 mul-sizes-2 c = search needs
 
@@ -37,11 +34,26 @@ mul-others-2 c = search needs
 shared-slice-read-others : tie.Need-shared-slice-read-others
 shared-slice-read-others c = search needs
 
-mul-t14 : tie.Need-mul-t14
-mul-t14 c = search needs
+cast-t12 : tie.Need-cast-t12
+cast-t12 c = search needs
 
-div-t15 : tie.Need-div-t15
-div-t15 c = search needs
+cast-t15 : tie.Need-cast-t15
+cast-t15 c = search needs
+
+mul-t16 : tie.Need-mul-t16
+mul-t16 c = search needs
+
+div-t17 : tie.Need-div-t17
+div-t17 c = search needs
+
+cast-t19 : tie.Need-cast-t19
+cast-t19 c = search needs
+
+cast-t21 : tie.Need-cast-t21
+cast-t21 c = search needs
+
+cast-t24 : tie.Need-cast-t24
+cast-t24 c = search needs
 
 returns : tie.Need-returns
 returns c = entry-read (now (c .before .before .args .work)) (c .before .before .args .at)
@@ -52,7 +64,6 @@ kept-spec =
     (tie.spec
     mul-sizes
     add-sizes
-    add-sizes-2
     mul-sizes-2
     shared-slice-read-sizes
     mul-others
@@ -60,6 +71,11 @@ kept-spec =
     add-others-2
     mul-others-2
     shared-slice-read-others
-    mul-t14
-    div-t15
+    cast-t12
+    cast-t15
+    mul-t16
+    div-t17
+    cast-t19
+    cast-t21
+    cast-t24
     returns)

@@ -18,17 +18,14 @@ abbrev μ-loop : tie.MeasureT-loop
 loop-holds : tie.Need-loop-holds Inv-loop μ-loop
 loop-holds c = walk-start _ _ _
 
-mul-entry : tie.Need-mul-entry Inv-loop μ-loop
-mul-entry c = record { fits = omega (arith, walk-low _ _ _ _ (c .before .before .before .pre .1) (c .before .loop .inv) (c .loop-test .taken)) }
+add-row : tie.Need-add-row Inv-loop μ-loop
+add-row c = record { fits = omega (arith, walk-low _ _ _ _ (c .before .before .before .pre .1) (c .before .loop .inv) (c .loop-test .taken)) }
 
-add-entry : tie.Need-add-entry Inv-loop μ-loop
-add-entry c = record { fits = omega (arith, walk-low _ _ _ _ (c .before .before .before .pre .1) (c .before .loop .inv) (c .loop-test .taken)) }
+mul-row : tie.Need-mul-row Inv-loop μ-loop
+mul-row c = record { fits = omega (arith, walk-low _ _ _ _ (c .before .before .before .pre .1) (c .before .loop .inv) (c .loop-test .taken)) }
 
-mul-entry-2 : tie.Need-mul-entry-2 Inv-loop μ-loop
-mul-entry-2 c = record { fits = omega (arith, walk-low _ _ _ _ (c .before .before .before .pre .1) (c .before .loop .inv) (c .loop-test .taken)) }
-
-shared-slice-read-entry : tie.Need-shared-slice-read-entry Inv-loop μ-loop
-shared-slice-read-entry c = omega (arith, walk-low _ _ _ _ (c .before .before .before .before .pre .1) (c .before .before .loop .inv) (c .before .loop-test .taken), c .before .before .before .before .pre .0)
+shared-slice-read-row : tie.Need-shared-slice-read-row Inv-loop μ-loop
+shared-slice-read-row c = omega (arith, walk-low _ _ _ _ (c .before .before .before .before .pre .1) (c .before .before .loop .inv) (c .before .loop-test .taken), c .before .before .before .before .pre .0)
 
 kept-requires : tie.Need-kept-requires Inv-loop μ-loop
 kept-requires c κs =
@@ -57,10 +54,9 @@ need-of-spec =
     Inv-loop
     μ-loop
     loop-holds
-    mul-entry
-    add-entry
-    mul-entry-2
-    shared-slice-read-entry
+    add-row
+    mul-row
+    shared-slice-read-row
     kept-requires
     returns
     loop-less
