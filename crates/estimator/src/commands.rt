@@ -64,7 +64,8 @@ fn call(work: &[u64], scope: usize, node: usize) -> Need
     called(given, count as u32, function)
 }
 
-// The need of the command at a node in the scope at a pointer.
+// The need of the command at a node in the scope at a pointer. The needs of its parts stand in the same two locals, whatever it is: each
+// level of the tree has this frame on the stack.
 pub(crate) fn command(work: &mut [u64], scope: usize, node: usize) -> Need
     requires { ⌜ entries-end ≤ length (now work) ⌝ }
     requires { ⌜ scope ≤ node ⌝ }
@@ -73,10 +74,12 @@ pub(crate) fn command(work: &mut [u64], scope: usize, node: usize) -> Need
     ensures { λ r. ⌜ CommandNeeds (now (work .entry)) scope node r ⌝ }
     ensures { λ r. ⌜ WritesEntriesFrom (now (work .entry)) (now (work .exit)) node ⌝ }
 {
+    let mut first = nothing();
+    let mut second = nothing();
     let which = kind(work, node);
     if which == kinds::ASSIGN {
-        let value = expression(work, node + 1);
-        return unary(value, 1, 2, 0, 0);
+        first = expression(work, node + 1);
+        return unary(first, 1, 2, 0, 0);
     }
     if which == kinds::CALL {
         return call(work, scope, node);
@@ -84,26 +87,26 @@ pub(crate) fn command(work: &mut [u64], scope: usize, node: usize) -> Need
     if which == kinds::BLK {
         let declared = declaration(work, scope, node + 1);
         let inside = end(work, node + 1);
-        let body = command(work, declared.newest, inside);
+        second = command(work, declared.newest, inside);
         let cells = declared.need.cells;
         let bindings = declared.need.bindings;
-        return scoped(declared.need, 1, body, 2, cells, bindings);
+        return scoped(declared.need, 1, second, 2, cells, bindings);
     }
     if which == kinds::CSEQ {
-        let first = command(work, scope, node + 1);
+        first = command(work, scope, node + 1);
         let after = end(work, node + 1);
-        let second = command(work, scope, after);
+        second = command(work, scope, after);
         return sequence(first, second);
     }
     let test = expression(work, node + 1);
     let where_true = end(work, node + 1);
-    let first = command(work, scope, where_true);
+    first = command(work, scope, where_true);
     if which == kinds::LOOP {
         let turn = over(first, 1, 0, 0, 0);
         return tested(test, turn);
     }
     let where_false = end(work, where_true);
-    let second = command(work, scope, where_false);
+    second = command(work, scope, where_false);
     let larger = either(first, second);
     tested(test, larger)
 }
