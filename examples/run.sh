@@ -1,11 +1,13 @@
 #!/usr/bin/env bash
-# Makes the image of each sample routine, runs it, and compares with the output stored beside it.
+# Makes the image of each sample routine, runs it, and compares with the output stored beside it; works out its needs and
+# compares with those stored; and holds the price list to them.
 # A part that cannot run counts as failed. The last line is 'N passed, M failed'; the exit status is 0 only when M is 0.
 set -u
 
 help='usage: examples/run.sh [PROGRAM [ARGUMENT..]]
 
-Runs every sample routine and compares what PROGRAM prints with what is stored.
+Runs every sample routine and compares what PROGRAM prints with what is stored;
+and compares the needs of each, which the image tool prints, and the price list.
 PROGRAM reads an image and its starting values from standard input. It is
 target/bin/pirun if none is named; another one is the second interpreter:
   examples/run.sh tests/second/target/release/second program
@@ -65,15 +67,52 @@ runs_as_stored() { # NAME
     diff "examples/$1.out" "$made/output"
 }
 
-for name in $(basename -a examples/*.pi examples/*.values | sed 's/\.[a-z]*$//' | sort -u); do
-    if runs_as_stored "$name"; then
+# The needs of a routine, which no program runs for.
+needs_as_stored() { # NAME
+    "$image" needs "examples/$1.pi" >"$made/needs" && diff "examples/$1.needs" "$made/needs"
+}
+
+# The price list, which a C program prints (tests/host/run.sh runs it), has what is stored of each routine it names; and
+# README.md shows it.
+price_list_as_stored() {
+    local line name control values cells bindings steps rows=0
+    while read -r name line; do
+        rows=$((rows + 1))
+        case $line in
+        refused*)
+            sed -E 's/^refused ([0-9]+) at [0-9]+ \((.*)\)$/\1 \2/' <<<"$line" >"$made/needs"
+            sed 's/^[^ ]*: //' "examples/$name.needs" | diff - "$made/needs" || return
+            ;;
+        *)
+            read -r control values cells bindings steps <<<"$line"
+            printf '%s\n' "control $control" "values $values" "cells $cells" "bindings $bindings" "steps $steps" |
+                diff "examples/$name.needs" - || return
+            ;;
+        esac
+    done < <(sed 1d examples/price_list.out)
+    while IFS= read -r line; do
+        grep -qxF -- "    $line" README.md || { echo "README.md does not show: $line"; return 1; }
+    done <examples/price_list.out
+    [ "$rows" -gt 0 ]
+}
+
+one_check() { # NAME COMMAND..
+    local name=$1
+    shift
+    if "$@"; then
         passed=$((passed + 1))
         echo "$name: ok"
     else
         failed=$((failed + 1))
         echo "$name: FAILED"
     fi
+}
+
+for name in $(basename -a examples/*.pi examples/*.values examples/*.needs | sed 's/\.[a-z]*$//' | sort -u); do
+    one_check "$name" runs_as_stored "$name"
+    one_check "$name, needs" needs_as_stored "$name"
 done
+one_check 'price list' price_list_as_stored
 
 echo "$passed passed, $failed failed"
 [ "$failed" -eq 0 ]

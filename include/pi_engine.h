@@ -1,6 +1,6 @@
 /*
- * The Π IR routine engine, for a C host: checks the image of a routine and runs it over the site's
- * registers. For C99 and later, and C++11 and later.
+ * The Π IR routine engine, for a C host: checks the image of a routine, works out what its runs may
+ * need, and runs it over the site's registers. For C99 and later, and C++11 and later.
  *
  * The target is x86-64 Linux, with the System V calling convention; code for other targets is not
  * made. The static library needs nothing but the C library's memory functions. To make it, and to
@@ -59,7 +59,8 @@
  *     }
  *
  * It prints `number 25` and `steps 7`. A run checks the image itself, so a host calls pi_check only
- * to know beforehand whether an image passes.
+ * to know beforehand whether an image passes, and pi_needs only to know beforehand how much room and
+ * how many steps its runs may take (examples/price_list.c).
  *
  * What holds of every call:
  *
@@ -92,9 +93,9 @@ extern "C" {
  * and what changed in which version, is in CHANGELOG.md. PI_VERSION_NUMBER is for #if.
  */
 #define PI_VERSION_MAJOR 5
-#define PI_VERSION_MINOR 0
+#define PI_VERSION_MINOR 1
 #define PI_VERSION_PATCH 0
-#define PI_VERSION "5.0.0"
+#define PI_VERSION "5.1.0"
 #define PI_VERSION_NUMBER (PI_VERSION_MAJOR * 10000 + PI_VERSION_MINOR * 100 + PI_VERSION_PATCH)
 
 /* The work words of 64 bits that a call needs. */
@@ -104,7 +105,7 @@ extern "C" {
 #define PI_MOST_REGISTERS 16
 /* The greatest depth of a node; the root has depth 1. */
 #define PI_MOST_DEPTH 64
-/* The greatest budget of steps. */
+/* The greatest budget of steps, and the greatest figure of steps that pi_needs gives. */
 #define PI_MOST_BUDGET 1000000
 /* The most live cells (the registers are cells), live bindings, and entries on either stack. */
 #define PI_MOST_CELLS 256
@@ -117,10 +118,10 @@ extern "C" {
 #define PI_NAMES 64
 
 /*
- * The most bytes of stack that a call takes, to size a thread's stack with: the word forms, pi_check
- * and pi_run; and the byte forms, pi_check_bytes and pi_run_bytes, which lay the words out there.
- * What the thread itself and a signal handler take comes on top. The figures are measured with the
- * deepest images (tests/host), not proved, and have 4 KB to spare.
+ * The most bytes of stack that a call takes, to size a thread's stack with: the word forms, pi_check,
+ * pi_run and pi_needs; and the byte forms, pi_check_bytes and pi_run_bytes, which lay the words out
+ * there. What the thread itself and a signal handler take comes on top. The figures are measured with
+ * the deepest images (tests/host), not proved, and have 4 KB to spare.
  */
 #define PI_STACK_WORD_FORMS 28672
 #define PI_STACK_BYTE_FORMS 45056
@@ -200,12 +201,13 @@ typedef enum PiCode {
  * The place of 3 to 6 and of 10 to 14 is a node, by its number in preorder; the root's is 0. It is
  * the node judged; for 5 the node that may not stand there, or n where a node is missing, or the
  * first of the nodes left over; for 12 the DSeq with a name on both sides, or the Formal that
- * repeats one. The place of 1, 2 and 20 to 36 is 0 and means no node, so look at the refusal first.
+ * repeats one. The place of 1, 2 and 20 to 40 is 0 and means no node, so look at the refusal first.
  *
  * More exactly: 1 is fewer than 2 words, or a length other than 2 + 2n (in bytes: see below); 6 is
  * depth 65; 14 is no function, or one with another count of Formals; 21 and 22 touch nothing. With
  * 30 to 36 a step is withheld, and the reply has the steps that were made before it; with 30 they
- * equal the budget and the routine has not ended.
+ * equal the budget and the routine has not ended. 40 comes from pi_needs alone: no Loop is in the
+ * tree, and the most steps of its runs come out above 1,000,000.
  */
 #define PI_REFUSAL_LIST(ROW) \
     /* Caused by the maker of the image. */ \
@@ -232,7 +234,9 @@ typedef enum PiCode {
     ROW(PI_REFUSAL_CELLS, 33, "cells", "a 257th cell would be live") \
     ROW(PI_REFUSAL_BINDINGS, 34, "bindings", "a 513th binding would be live") \
     ROW(PI_REFUSAL_VALUES, 35, "values", "a 513th entry would be on the value stack") \
-    ROW(PI_REFUSAL_CONTROL, 36, "control", "a 513th entry would be on the control stack")
+    ROW(PI_REFUSAL_CONTROL, 36, "control", "a 513th entry would be on the control stack") \
+    /* Caused by the needs, before any run. */ \
+    ROW(PI_REFUSAL_TOO_MANY_STEPS, 40, "too many steps", "the steps come out above 1,000,000")
 
 #define PI_REFUSAL_ENUMERATOR(enumerator, number, name, sentence) enumerator = number,
 typedef enum PiRefusal {
@@ -264,6 +268,21 @@ typedef struct PiRunReply {
     uint64_t place;   /* the refusal's place; 0 where the run ends */
     uint64_t steps;   /* the steps made; 0 for refusals 1 to 22 */
 } PiRunReply;
+
+/*
+ * What pi_needs answers: eight 64-bit words. With a refusal all but the first two are 0. A figure of
+ * room may be above its limit, PI_MOST_CONTROL, PI_MOST_VALUES, PI_MOST_CELLS or PI_MOST_BINDINGS.
+ */
+typedef struct PiNeedsReply {
+    uint64_t refusal;  /* a PiRefusal: PI_REFUSAL_NONE where there are figures */
+    uint64_t place;    /* the refusal's place; 0 where there are figures */
+    uint64_t control;  /* the most entries on the control stack */
+    uint64_t values;   /* the most entries on the value stack */
+    uint64_t cells;    /* the most live cells, the registers among them */
+    uint64_t bindings; /* the most live bindings, the registers among them */
+    uint64_t steps;    /* the most steps, at most PI_MOST_BUDGET; 0 where they are open */
+    uint64_t open;     /* 1 where a Loop is in the tree, so that the steps have no figure; else 0 */
+} PiNeedsReply;
 
 /*
  * Checks an image of so many 32-bit words. Tested in this order: the work words (22), the image (1 to
@@ -299,6 +318,28 @@ PiRunReply pi_run_bytes(const uint8_t *image, size_t image_length,
                         uint8_t *registers, size_t registers_length,
                         uint64_t budget,
                         uint64_t *work, size_t work_length);
+
+/*
+ * Works out the needs of a routine before it is loaded, from an image of so many 32-bit words alone:
+ * the most control entries, value entries, cells and bindings that a run could reach, whatever the
+ * registers hold, and the most steps that it could make, were no step withheld and every test free to
+ * fall either way. Of a Cond each figure takes the larger of the two commands. A Loop's command counts
+ * as run; how often it is run takes no more room, but leaves the steps open. A function adds what its
+ * Blk needs wherever it is called, and where it is not called its Bind alone. So:
+ *
+ * - No run passes a figure. With the four figures of room within their limits no run is refused with
+ *   33 to 36, and with a budget of the steps, where they are not open, none is refused with 30.
+ * - The figures are reached: each by some choice of the tests' truths. In a tree without Loop and Cond
+ *   every run that ends reaches all of them, and its steps are the figure.
+ * - A Loop anywhere in the tree, be it in a function that is never called, leaves the steps open.
+ *
+ * Tested in this order: the work words (22), the image (1 to 14), and where no Loop is in the tree the
+ * steps (40), of which 1,000,000 are given as a figure and 1,000,001 are refused. An image with no node
+ * needs its registers alone: control 0, values 0, cells r, bindings r, steps 0. There is no form of this
+ * call on bytes.
+ */
+PiNeedsReply pi_needs(const uint32_t *image, size_t image_length,
+                      uint64_t *work, size_t work_length);
 
 #ifdef __cplusplus
 }

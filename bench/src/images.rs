@@ -5,7 +5,7 @@ use second::engine::{check, Answer, WORK_WORDS};
 use second::generate::limits::with_nodes;
 use second::kinds::{MOST_DEPTH, MOST_NODES};
 use second::node::Node;
-use second::tree::{Command, Expression, Name};
+use second::tree::{Command, Declaration, Expression, Name};
 use second::{encode, Refusal};
 
 /// An image and what it is.
@@ -30,11 +30,25 @@ impl Timed {
 /// The images whose check is timed for each node.
 pub fn checked() -> Vec<Timed> {
     vec![
-        Timed::new("straight line: Assigns under CSeqs", encode(&with_nodes(MOST_NODES as usize))),
-        Timed::new("nested blocks and names", image(1, nested())),
+        straight_line(),
+        nested_blocks(),
         Timed::new("deep: Sums down to depth 64", image(1, deep())),
         Timed::new("small: 5 × (3 + 2)", image(0, mul(num(5), sum(num(3), num(2))))),
     ]
+}
+
+/// The images whose needs are timed beside their check.
+pub fn needed() -> Vec<Timed> {
+    let functions = Timed::new("many functions, each called often", image(1, functions()));
+    vec![straight_line(), nested_blocks(), functions]
+}
+
+fn straight_line() -> Timed {
+    Timed::new("straight line: Assigns under CSeqs", encode(&with_nodes(MOST_NODES as usize)))
+}
+
+fn nested_blocks() -> Timed {
+    Timed::new("nested blocks and names", image(1, nested()))
 }
 
 /// The smallest images there are, whose check is timed for each call: with one node, and
@@ -70,7 +84,7 @@ fn nested() -> Command {
         let name = outer(index as u32);
         assign(name, if index < sums { sum(id(name), id(1)) } else { id(name) })
     };
-    around(balanced((0..(room + 1 - 2 * sums) / 3).map(command).collect()))
+    around(balanced((0..(room + 1 - 2 * sums) / 3).map(command).collect(), cseq))
 }
 
 /// Sums nested to the right down to the greatest depth, from a spine of CSeqs:
@@ -83,12 +97,35 @@ fn deep() -> Command {
     (1..=SPINE).rev().fold(assign(0, num(0)), |rest, depth| cseq(assign(0, value(depth + 1)), rest))
 }
 
-fn balanced(mut all: Vec<Command>) -> Command {
+/// Functions of one Formal in one declaration: nearly 2,000 nodes. Each but the first calls
+/// the one before it once and the first one, which is bound before all others, eight times.
+/// So the steps of all together stay few.
+fn functions() -> Command {
+    const FUNCTIONS: Name = 60;
+    const CALLS: usize = 8;
+    let called = |function| call(function, vec![id(61)]);
+    let function = |name: Name| {
+        let command = match name {
+            1 => assign(0, id(62)),
+            _ => {
+                let mut calls = vec![called(1); CALLS];
+                calls.push(called(name - 1));
+                balanced(calls, cseq)
+            }
+        };
+        bind_abs(name, &[(61, 0)], block(bind(62, id(61)), command))
+    };
+    let all: Vec<Declaration> = (1..=FUNCTIONS).map(function).collect();
+    blk(balanced(all, dseq), call(FUNCTIONS, vec![num(7)]))
+}
+
+/// All of them in their order, joined two by two, so that the tree stays shallow.
+fn balanced<T>(mut all: Vec<T>, join: fn(T, T) -> T) -> T {
     if all.len() == 1 {
         return all.remove(0);
     }
     let second = all.split_off(all.len() / 2);
-    cseq(balanced(all), balanced(second))
+    join(balanced(all, join), balanced(second, join))
 }
 
 fn nodes(command: &Command) -> usize {

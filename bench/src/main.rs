@@ -8,26 +8,28 @@ mod rows;
 
 use compare::progress::{in_words, Progress};
 use measure::REPETITIONS;
-use race::{table, Race};
-use rows::{check_race, clearing, run_race};
+use race::{needs_table, table, Pair, Race};
+use rows::{check_race, clearing, needs_pair, run_race};
 use second::command_line::{arguments, complain, write_out, Reader};
 use std::process::ExitCode;
 
 const HELP: &str = "\
 bench: times the engine's static library beside the second interpreter
 
-usage: bench           measures, and prints three tables
+usage: bench           measures, and prints four tables
        bench --help    prints this; so do -h and help
 
 The tables:
 
   check    nanoseconds a node, for four images
+  needs    nanoseconds a node, for three images: the check and the needs, by the
+           engine alone, and how many times longer the needs take; 2 is asked at most
   calls    nanoseconds a call: checks of the smallest images, with one node and with
            none, the run of a slot with no routine; and to clear the work words
   run      nanoseconds a step, for seven routines
 
-Each has the engine's time and the second interpreter's, and the first and the last say
-how many times longer the second takes. A time is the median of 501 repetitions.
+The others have the engine's time and the second interpreter's, and check and run say how
+many times longer the second takes. A time is the median of 501 repetitions.
 
 It takes 10 seconds in a release build. On a terminal the row that is measured is shown
 on standard error. The machine should have little else to do.
@@ -82,16 +84,19 @@ fn print(text: &str) -> Result<(), End> {
 }
 
 fn measure_all() -> Result<(), End> {
-    let turns =
-        format!("Medians of {REPETITIONS} repetitions, engine and second interpreter in turn.");
-    print(&format!("{turns}\n\n"))?;
-    let (images, smallest) = (images::checked(), images::smallest());
+    print(&format!("Medians of {REPETITIONS} repetitions, the calls of a row in turn.\n\n"))?;
+    let (images, needed, smallest) = (images::checked(), images::needed(), images::smallest());
     let (empty, routines) = (routines::empty(), routines::timed());
-    let mut rows = Rows::of(images.len() + smallest.len() + 1 + routines.len());
+    let all = images.len() + needed.len() + smallest.len() + 1 + routines.len();
+    let mut rows = Rows::of(all);
 
     let races: Result<Vec<Race>, End> =
         images.iter().map(|timed| rows.measure(timed.name, || check_race(timed))).collect();
     print(&table("check, nanoseconds a node", "nodes", &races?))?;
+
+    let pairs: Result<Vec<Pair>, End> =
+        needed.iter().map(|timed| rows.measure(timed.name, || needs_pair(timed))).collect();
+    print(&format!("\n{}", needs_table(&pairs?)))?;
 
     let mut calls = String::new();
     for timed in &smallest {
@@ -128,16 +133,16 @@ impl Rows {
         Rows { progress: Progress::begin(), begun: 0, all }
     }
 
-    fn measure(
+    fn measure<T>(
         &mut self,
         name: &str,
-        race: impl FnOnce() -> Result<Race, String>,
-    ) -> Result<Race, End> {
+        row: impl FnOnce() -> Result<T, String>,
+    ) -> Result<T, End> {
         self.begun += 1;
         let Rows { progress, begun, all } = self;
         let gone = in_words(progress.gone());
         progress.show(&format!("row {begun} of {all}, {gone} gone: {name}"));
-        let measured = race();
+        let measured = row();
         progress.erase();
         measured.map_err(|message| End::Fault(1, message))
     }

@@ -1,5 +1,5 @@
-//! Times of calls: the median of many repetitions, all calls of a race taken in
-//! turn, so that what slows the machine for a while slows all of them.
+//! Times of calls: the median or the least of many repetitions, all calls of a race
+//! taken in turn, so that what slows the machine for a while slows all of them.
 
 use std::time::Instant;
 
@@ -12,6 +12,17 @@ const BATCH_NANOSECONDS: f64 = 100_000.0;
 
 /// The median of each call, in nanoseconds a call.
 pub fn medians<const COUNT: usize>(calls: [&mut dyn FnMut(); COUNT]) -> [f64; COUNT] {
+    sorted(calls).map(|times| times[times.len() / 2])
+}
+
+/// The least of each call, which is what a machine with nothing else to do takes.
+#[cfg(test)]
+pub fn leasts<const COUNT: usize>(calls: [&mut dyn FnMut(); COUNT]) -> [f64; COUNT] {
+    sorted(calls).map(|times| times[0])
+}
+
+/// The times of each call, the least first.
+fn sorted<const COUNT: usize>(calls: [&mut dyn FnMut(); COUNT]) -> [Vec<f64>; COUNT] {
     let mut racers = calls.map(|call| {
         // The first batch warms up; the second says how long a call takes.
         batch(call, 1);
@@ -24,7 +35,10 @@ pub fn medians<const COUNT: usize>(calls: [&mut dyn FnMut(); COUNT]) -> [f64; CO
             times.push(batch(call, *size));
         }
     }
-    racers.map(|(_, _, times)| median(times))
+    racers.map(|(_, _, mut times)| {
+        times.sort_by(f64::total_cmp);
+        times
+    })
 }
 
 /// So many calls one after another, in nanoseconds a call.
@@ -34,9 +48,4 @@ fn batch(call: &mut dyn FnMut(), size: u32) -> f64 {
         call();
     }
     began.elapsed().as_nanos() as f64 / f64::from(size)
-}
-
-fn median(mut times: Vec<f64>) -> f64 {
-    times.sort_by(f64::total_cmp);
-    times[times.len() / 2]
 }

@@ -1,13 +1,14 @@
 //! One row each: the check of an image and the run of a routine, by both, which must
-//! give the same answer first; and the clearing of the work words.
+//! give the same answer first; the needs of an image beside its check; and the clearing
+//! of the work words.
 
 use crate::images::Timed;
 use crate::measure::medians;
-use crate::race::Race;
+use crate::race::{Pair, Race};
 use crate::routines::Routine;
 use compare::difference::Difference;
 use compare::run::as_words;
-use compare::{check, engine, run};
+use compare::{check, engine, needs, run};
 use second::engine::{MOST_BUDGET, WORK_WORDS};
 use second::generate::random::Random;
 use second::generate::Case;
@@ -27,6 +28,28 @@ pub fn check_race(timed: &Timed) -> Result<Race, String> {
         },
     ]);
     Ok(Race { name, units: timed.nodes().into(), engine, second })
+}
+
+/// The needs of one image beside its check, by the engine. Both interpreters must find the
+/// same needs.
+pub fn needs_pair(timed: &Timed) -> Result<Pair, String> {
+    let Timed { name, image } = timed;
+    must_agree(name, needs::compare(image, WORK_WORDS, &mut Random::new(0)))?;
+    let [check, needs] = check_and_needs(image, medians);
+    Ok(Pair { name, nodes: timed.nodes(), check, needs })
+}
+
+/// The times of the two calls, as a measure has them.
+fn check_and_needs(image: &[u32], measure: fn([&mut dyn FnMut(); 2]) -> [f64; 2]) -> [f64; 2] {
+    let (mut work, mut other_work) = (vec![0; WORK_WORDS], vec![0; WORK_WORDS]);
+    measure([
+        &mut || {
+            black_box(engine::check(black_box(image), black_box(&mut work)));
+        },
+        &mut || {
+            black_box(engine::needs(black_box(image), black_box(&mut other_work)));
+        },
+    ])
 }
 
 /// The run of one routine by both; a unit is a step.
@@ -73,4 +96,29 @@ fn must_agree<T>(name: &str, compared: Result<T, Box<Difference>>) -> Result<(),
         format!("{name}: the answers differ, so there is nothing to time\n{difference}")
     };
     compared.map(|_| ()).map_err(told)
+}
+
+#[cfg(test)]
+mod tests {
+    use super::check_and_needs;
+    use crate::images::needed;
+    use crate::measure::leasts;
+    use crate::race::MOST_RATIO;
+
+    const TRIALS: usize = 5;
+
+    /// By the least times, which what else the machine does makes greater and never less;
+    /// and tried again where the ratio is too great.
+    #[test]
+    fn the_needs_take_at_most_twice_a_check() {
+        for timed in needed() {
+            let ratio = |_| {
+                let [check, needs] = check_and_needs(&timed.image, leasts);
+                needs / check
+            };
+            let is_too_great = |ratio: &f64| *ratio > MOST_RATIO;
+            let too_great: Vec<f64> = (0..TRIALS).map(ratio).take_while(is_too_great).collect();
+            assert!(too_great.len() < TRIALS, "{}: {too_great:?}", timed.name);
+        }
+    }
 }

@@ -1,6 +1,7 @@
 #include "calls.h"
 
 #include "buffers.h"
+#include "figures.h"
 #include "report.h"
 
 #include <inttypes.h>
@@ -43,17 +44,18 @@ void registers_settled(const Buffer *registers, uint64_t refusal)
     buffer_kept(registers, "registers", before_the_run(refusal) ? 0 : registers->bytes);
 }
 
-/* By the refusal's number. */
-static size_t answered[PI_REFUSAL_CONTROL + 1];
+/* By the refusal's number, of which this is the last. */
+#define LAST PI_REFUSAL_TOO_MANY_STEPS
+static size_t answered[LAST + 1];
 
 size_t times_answered(PiRefusal refusal)
 {
-    return refusal <= PI_REFUSAL_CONTROL ? answered[refusal] : 0;
+    return refusal <= LAST ? answered[refusal] : 0;
 }
 
 static void count_answer(uint64_t refusal)
 {
-    if (refusal <= PI_REFUSAL_CONTROL)
+    if (refusal <= LAST)
         answered[refusal] += 1;
 }
 
@@ -101,6 +103,42 @@ static void check_makes_sense(const PiCheckReply *reply, const Call *call)
     }
 }
 
+/* Whether figures may be those of this image, and not of a refusal. */
+static int figures_fit(const PiNeedsReply *reply, const Call *call)
+{
+    uint64_t registers = call->image[1];
+
+    if (reply->open > 1 || reply->steps > (reply->open ? 0 : PI_MOST_BUDGET))
+        return 0;
+    if (call->image[0] == 0)
+        return reply->control == 0 && reply->values == 0 && reply->cells == registers &&
+               reply->bindings == registers && reply->steps == 0 && reply->open == 0;
+    /* The root is on control; a step pushes an entry. */
+    return reply->control >= 1 && reply->values >= 1 && reply->cells >= registers &&
+           reply->bindings >= registers && (reply->open || reply->steps >= 1);
+}
+
+static int is_no_figure(const PiNeedsReply *reply)
+{
+    return reply->control == 0 && reply->values == 0 && reply->cells == 0 &&
+           reply->bindings == 0 && reply->steps == 0 && reply->open == 0;
+}
+
+static void needs_make_sense(const PiNeedsReply *reply, const Call *call)
+{
+    uint64_t refusal = reply->refusal;
+    int fits;
+
+    if (refusal == PI_REFUSAL_NONE)
+        fits = reply->place == 0 && figures_fit(reply, call);
+    else
+        fits = is_refusal(refusal) && is_no_figure(reply) && reply->place < places(refusal, call) &&
+               (refusal <= PI_REFUSAL_CALL || refusal == PI_REFUSAL_WORK ||
+                refusal == PI_REFUSAL_TOO_MANY_STEPS);
+    if (!fits)
+        test_fault("needs answers what makes no sense: " NEEDS_FORMAT, NEEDS_ARGUMENTS(reply));
+}
+
 static int value_fits(const PiRunReply *reply)
 {
     /* The enum has 32 bits, and the reply's word must fit. */
@@ -138,8 +176,9 @@ static void run_makes_sense(const PiRunReply *reply, const Call *call)
     if (reply->refusal == PI_REFUSAL_NONE)
         fits = fits && reply->place == 0 && value_fits(reply);
     else
-        fits = fits && is_refusal(reply->refusal) && reply->outcome == PI_OUTCOME_NONE &&
-               reply->value == 0 && reply->place < places(reply->refusal, call);
+        fits = fits && is_refusal(reply->refusal) && reply->refusal <= PI_REFUSAL_CONTROL &&
+               reply->outcome == PI_OUTCOME_NONE && reply->value == 0 &&
+               reply->place < places(reply->refusal, call);
     if (!fits)
         test_fault("run answers refusal %" PRIu64 " at %" PRIu64 ", outcome %" PRIu64
                    ", value %" PRId64 ", steps %" PRIu64,
@@ -156,6 +195,22 @@ PiCheckReply call_check(const Call *call)
     buffer_kept(&image, "image", 0);
     work_settled(&work, reply.refusal);
     check_makes_sense(&reply, call);
+    count_answer(reply.refusal);
+    buffer_free(&image);
+    buffer_free(&work);
+    return reply;
+}
+
+PiNeedsReply call_needs(const Call *call)
+{
+    Buffer image = buffer_holding(call->image, call->image_length * sizeof(uint32_t), 0);
+    Buffer work = lend_work(call->work_length, 0);
+    PiNeedsReply reply = pi_needs((const uint32_t *)(const void *)image.start, call->image_length,
+                                  (uint64_t *)(void *)work.start, call->work_length);
+
+    buffer_kept(&image, "image", 0);
+    work_settled(&work, reply.refusal);
+    needs_make_sense(&reply, call);
     count_answer(reply.refusal);
     buffer_free(&image);
     buffer_free(&work);
@@ -297,6 +352,7 @@ Ran call_all(const Call *call)
 
     if (expected != PI_REFUSAL_NONE && ran.reply.refusal != expected)
         test_fault("refusal %" PRIu64 " in place of %" PRIu64, ran.reply.refusal, expected);
+    fits_the_needs(call, &ran);
     if (touches_nothing(ran.reply.refusal))
         return ran;
     fits_the_check(call, &ran);

@@ -26,8 +26,9 @@ typedef struct Ran {
     int64_t left[MOST_STARTS];
 } Ran;
 
-/* Lends buffers to pi_check, and to pi_run. */
+/* Lends buffers to pi_check, to pi_needs, and to pi_run. */
 PiCheckReply call_check(const Call *call);
+PiNeedsReply call_needs(const Call *call);
 Ran call_run(const Call *call);
 
 /* The work buffer of a call, which it may clear or not. */
@@ -48,7 +49,8 @@ uint64_t refusal_by_lengths(const Call *call);
 
 /*
  * Checks and runs, and notes where the two do not fit together: the run of what passes, its outcome's
- * sort, the count of registers, and the same run with one step less, just enough, and other junk.
+ * sort, the count of registers, and the same run with one step less, just enough, and other junk. And
+ * works out the needs, which must fit both.
  */
 Ran call_all(const Call *call);
 

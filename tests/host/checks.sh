@@ -52,7 +52,7 @@ newest_version() {
 has_every_call() {
     local call missing=0
     nm "$archive" >"$built/symbols" || return
-    for call in pi_check pi_run pi_check_bytes pi_run_bytes; do
+    for call in pi_check pi_run pi_check_bytes pi_run_bytes pi_needs; do
         grep -q " T $call\$" "$built/symbols" || { echo "it has no $call"; missing=1; }
     done
     return $missing
@@ -83,6 +83,16 @@ same_example() {
 
 example_says() { # PROGRAM
     "$1" >"$built/embed.out" && diff "$built/embed.out" examples/embed.out
+}
+
+# The price list is the stored one, and so it is where the example is built as its first comment says.
+price_list_says() {
+    local command
+    "$built/price_list" >"$built/price_list.out" && diff "$built/price_list.out" examples/price_list.out || return
+    command=$(sed -n 's/^ \*     \(cc .*\)/\1/p' examples/price_list.c)
+    read -r -a command <<<"$command"
+    [ "${command[*]: -3}" = 'target/staticlib/libengine.a -o price_list' ] || { echo "it is ${command[*]}"; return 1; }
+    "${command[@]:0:${#command[@]}-3}" "$archive" -o "$built/as_told" && "$built/as_told" | diff - examples/price_list.out
 }
 
 # The command that the header's first comment has, with this archive, and with its program in the folder.

@@ -45,8 +45,12 @@ int main(int count, char **arguments)
     test_refusals();
     test_no_routine();
     test_choice();
+    test_needs();
+    test_needs_refused();
+    test_needed_steps();
     test_names();
     test_chance((size_t)images, seed);
+    test_needed_room((size_t)images, seed);
     test_bytes((size_t)images, seed);
     test_threads();
     test_stack();

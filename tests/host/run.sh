@@ -15,7 +15,7 @@ $usage
             50 of them under valgrind
   SEED      what they are made from, 1 if it is left out
 
-It takes 8 seconds, and two minutes with a COUNT of 100,000. On a terminal it shows on
+It takes 20 seconds, and three minutes with a COUNT of 100,000. On a terminal it shows on
 standard error which part is at work.
 
 It needs gcc (by this name and as cc), g++, nm and valgrind; a part that cannot run counts
@@ -175,6 +175,8 @@ all_parts() {
         'refused 11 at 0 (type: the node takes another type)'
     one_check 'example is refused by the run' example_refused 's/PI_MOST_BUDGET/6/' \
         'refused 30 at 0 (steps: the budget is used up before the routine has ended)'
+    one_check 'price list builds' gcc -std=c99 "${stricter[@]}" -o "$built/price_list" examples/price_list.c "$archive"
+    one_check 'price list says what is stored' price_list_says
     one_check 'usage of this script' usage_says
     one_check 'host builds' gcc -std=c99 "${strict[@]}" -O2 -g -pthread -o "$built/host" tests/host/*.c "$archive"
     host_run 'host' "$built/host" "$count" "$seed"

@@ -32,6 +32,11 @@ static void check_words(void)
     pi_check(image, image_length, work, PI_WORK_WORDS);
 }
 
+static void needs_words(void)
+{
+    pi_needs(image, image_length, work, PI_WORK_WORDS);
+}
+
 static void run_words(void)
 {
     pi_run(image, image_length, registers, image[1], PI_MOST_BUDGET, work, PI_WORK_WORDS);
@@ -142,6 +147,33 @@ static void deep_functions(Tree *tree)
     }
 }
 
+/* Loops below Loops to depth 62, and CSeqs below CSeqs in the first command, and two levels below. */
+static void deep_loops(Tree *tree)
+{
+    size_t level;
+
+    tree_clear(tree, 1);
+    for (level = 1; level < PI_MOST_DEPTH - 1; level += 1) {
+        tree_add(tree, PI_KIND_LOOP, 0);
+        tree_add(tree, PI_KIND_BOO, 0);
+    }
+    tree_add(tree, PI_KIND_ASSIGN, 0);
+    tree_add(tree, PI_KIND_NUM, 7);
+}
+
+static void deep_sequences(Tree *tree)
+{
+    size_t level;
+
+    tree_clear(tree, 1);
+    for (level = 1; level < PI_MOST_DEPTH - 1; level += 1)
+        tree_add(tree, PI_KIND_CSEQ, 0);
+    for (level = 0; level < PI_MOST_DEPTH - 1; level += 1) {
+        tree_add(tree, PI_KIND_ASSIGN, 0);
+        tree_add(tree, PI_KIND_NUM, 7);
+    }
+}
+
 /* Conds below Conds to depth 62, in the second command or in the first, and two levels below them. */
 static void deep_second_choices(Tree *tree)
 {
@@ -204,11 +236,11 @@ static void fits(const char *what, size_t taken, size_t figure)
 void test_stack(void)
 {
     static void (*const shapes[])(Tree *) = {
-        deep_commands, deep_functions, deep_second_choices, deep_first_choices,
-        deep_second_declarations, deep_first_declarations, deep_expressions,
+        deep_commands, deep_functions, deep_loops, deep_sequences, deep_second_choices,
+        deep_first_choices, deep_second_declarations, deep_first_declarations, deep_expressions,
     };
     static Tree tree;
-    size_t taken[4] = {0, 0, 0, 0};
+    size_t taken[5] = {0, 0, 0, 0, 0};
     size_t index;
 
     /* A memory checker has stacks of its own. */
@@ -224,11 +256,14 @@ void test_stack(void)
         taken[1] = most(taken[1], used_by(run_words));
         taken[2] = most(taken[2], used_by(check_bytes));
         taken[3] = most(taken[3], used_by(run_bytes));
+        taken[4] = most(taken[4], used_by(needs_words));
     }
     fits("check", taken[0], PI_STACK_WORD_FORMS);
     fits("run", taken[1], PI_STACK_WORD_FORMS);
     fits("check of bytes", taken[2], PI_STACK_BYTE_FORMS);
     fits("run of bytes", taken[3], PI_STACK_BYTE_FORMS);
-    test_end_with("check takes %lu bytes, run %lu, on bytes %lu and %lu", (unsigned long)taken[0],
-                  (unsigned long)taken[1], (unsigned long)taken[2], (unsigned long)taken[3]);
+    fits("needs", taken[4], PI_STACK_WORD_FORMS);
+    test_end_with("check takes %lu bytes, run %lu, on bytes %lu and %lu, needs %lu",
+                  (unsigned long)taken[0], (unsigned long)taken[1], (unsigned long)taken[2],
+                  (unsigned long)taken[3], (unsigned long)taken[4]);
 }

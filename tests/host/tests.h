@@ -23,6 +23,14 @@ void test_choice(void);
 size_t choice_calls(void);
 Call choice_call(size_t index, uint32_t *image);
 
+/* Needs of routines that are listed by hand; that are refused; and of a given number of steps. */
+void test_needs(void);
+void test_needs_refused(void);
+void test_needed_steps(void);
+
+/* Needs of routines made by chance that reach just to a limit, or just beyond. */
+void test_needed_room(size_t count, uint64_t seed);
+
 /* The header's list of refusals, all of which the calls before have met; and its version. */
 void test_names(void);
 

@@ -7,6 +7,7 @@
 #include <pthread.h>
 
 #define THREADS 4
+/* So many runs, and as many times the needs. */
 #define CALLS 300
 
 /* What a thread calls with, and how many of its calls went wrong. */
@@ -28,12 +29,17 @@ static void *work_alone(void *argument)
     for (index = 0; index < CALLS; index += 1) {
         int64_t registers[2];
         PiRunReply reply;
+        PiNeedsReply needs;
 
         registers[0] = 1;
         registers[1] = worker->above;
         reply = pi_run(factorial, factorial_length, registers, 2, PI_MOST_BUDGET, worker->work,
                        PI_WORK_WORDS);
         if (reply.refusal != PI_REFUSAL_NONE || registers[0] != worker->expected)
+            worker->faults += 1;
+        needs = pi_needs(factorial, factorial_length, worker->work, PI_WORK_WORDS);
+        if (needs.refusal != PI_REFUSAL_NONE || needs.control != 6 || needs.values != 3 ||
+            needs.cells != 2 || needs.bindings != 2 || needs.open != 1)
             worker->faults += 1;
     }
     return NULL;
@@ -65,5 +71,5 @@ void test_threads(void)
             test_fault("thread %lu: %lu calls went wrong", (unsigned long)index,
                        (unsigned long)workers[index].faults);
     }
-    test_end_with("%d threads of %d calls", THREADS, CALLS);
+    test_end_with("%d threads of %d calls", THREADS, 2 * CALLS);
 }

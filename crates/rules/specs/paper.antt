@@ -14,3 +14,4 @@ pub mod Needs
 pub mod Engine
 pub mod Cases
 pub mod Choices
+pub mod Prices

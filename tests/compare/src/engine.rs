@@ -38,6 +38,23 @@ pub const NUMBER: u64 = 1;
 pub const TRUTH: u64 = 2;
 pub const CELL: u64 = 3;
 
+/// What `pi_needs` returns, the header's `PiNeedsReply`. Refusal 0: the most control
+/// entries, value entries, cells and bindings, and the most steps with open 0; where a Loop
+/// is in the tree the steps are 0 and open is 1. Otherwise the paper's number and place, and
+/// all others are 0.
+#[repr(C)]
+#[derive(Clone, Copy, Debug, Default, PartialEq, Eq)]
+pub struct NeedsReply {
+    pub refusal: u64,
+    pub place: u64,
+    pub control: u64,
+    pub values: u64,
+    pub cells: u64,
+    pub bindings: u64,
+    pub steps: u64,
+    pub open: u64,
+}
+
 extern "C" {
     fn pi_check(image: *const u32, image_len: usize, work: *mut u64, work_len: usize)
         -> CheckReply;
@@ -51,6 +68,9 @@ extern "C" {
         work: *mut u64,
         work_len: usize,
     ) -> RunReply;
+
+    fn pi_needs(image: *const u32, image_len: usize, work: *mut u64, work_len: usize)
+        -> NeedsReply;
 
     fn pi_check_bytes(
         image: *const u8,
@@ -90,6 +110,12 @@ pub fn run(image: &[u32], registers: &mut [u64], budget: u64, work: &mut [u64]) 
             work.len(),
         )
     }
+}
+
+/// The engine's needs of an image.
+pub fn needs(image: &[u32], work: &mut [u64]) -> NeedsReply {
+    // Each pointer is its slice's own, and each length its slice's length.
+    unsafe { pi_needs(image.as_ptr(), image.len(), work.as_mut_ptr(), work.len()) }
 }
 
 /// The engine's answer to an image of bytes.

@@ -2,7 +2,7 @@
 //! interpreter.
 //!
 //! [`engine`] is the engine's C interface as safe functions. A comparison, as in
-//! [`check`], [`run`] and [`bytes`], makes one call on [`guarded`] buffers full of
+//! [`check`], [`run`], [`needs`] and [`bytes`], makes one call on [`guarded`] buffers full of
 //! junk, asks the second interpreter what must have come of it, and answers a
 //! [`difference`] where anything is otherwise: the reply, the registers, the work
 //! words, a word outside the slices. [`program`] does so with a run of the program.
@@ -18,6 +18,7 @@ pub mod difference;
 pub mod engine;
 pub mod guarded;
 pub mod inputs;
+pub mod needs;
 pub mod program;
 pub mod progress;
 pub mod run;

@@ -3,8 +3,8 @@
 use compare::difference::Difference;
 use compare::program::Program;
 use compare::progress::{of_all, Progress};
-use compare::sample::{compare_bytes, compare_check, compare_program, compare_run};
-use compare::sample::{Mixture, Sample, CHECKED, RUN};
+use compare::sample::{compare_bytes, compare_check, compare_needs, compare_program, compare_run};
+use compare::sample::{Mixture, Sample, CHECKED, NEEDED, RUN};
 use compare::tally::Tally;
 use second::command_line::{arguments, asks_for_help, complain, write_out};
 use second::generate::Family;
@@ -22,6 +22,10 @@ usage: compare COMMAND
   run COUNT SEED             compares the runs of COUNT images: a short run at
                              every budget, a long one at some
   run COUNT SEED FAMILY      the same, of one family
+  needs COUNT SEED           compares the needs of COUNT images; those whose free runs
+                             are too many for the second interpreter are counted
+                             apart, and compared as far as it has gone
+  needs COUNT SEED FAMILY    the same, of one family
   bytes COUNT SEED           compares the calls on bytes of COUNT images: whole, at
                              some budgets, and with lengths, bytes, registers, work
                              words or a budget changed
@@ -37,20 +41,22 @@ Exit status: 0 no difference, 1 a difference, 2 bad usage or an output that cann
 written. The program is target/bin/pirun, or what PIRUN names.
 
 In a release build a second is enough for about 5,000 images of check, 500 of run,
-1,000 of bytes and 350 of program: 100,000 images take 20 seconds, 3 minutes, 2 minutes
-and 5 minutes. On a terminal the count and the time left are shown on standard error.
+1,500 of needs, 1,000 of bytes and 350 of program: 100,000 images take 20 seconds,
+3 minutes, 1 minute, 2 minutes and 5 minutes. On a terminal the count and the time left
+are shown on standard error.
 
-families: small medium large faulty sequences choices limits damaged empty shaped
-          plausible words host
+families: small medium large faulty sequences choices functions limits damaged empty
+          shaped plausible words host
 ";
 
 /// Compares one sample and counts what it was answered.
 type Comparison = fn(Sample, &mut Tally) -> Result<(), Box<Difference>>;
 
 /// The comparisons by their command, each with the mixture of families it takes.
-const COMPARISONS: [(&str, Comparison, &Mixture); 4] = [
+const COMPARISONS: [(&str, Comparison, &Mixture); 5] = [
     ("check", compare_check, &CHECKED),
     ("run", compare_run, &RUN),
+    ("needs", compare_needs, &NEEDED),
     ("bytes", compare_bytes, &CHECKED),
     (PROGRAM, compare_program, &RUN),
 ];

@@ -8,7 +8,7 @@ use crate::inputs::changed;
 use crate::program::{self, Program};
 use crate::run::Ran;
 use crate::tally::Tally;
-use crate::{check, run};
+use crate::{check, needs, run};
 use second::encode::program_input;
 use second::engine::{MOST_BUDGET, WORK_WORDS};
 use second::generate::random::{starting_value, Random};
@@ -39,41 +39,61 @@ pub struct Sample {
 }
 
 /// How many of each hundred samples are of which family.
-pub type Mixture = [(usize, Family); 13];
+pub type Mixture = [(usize, Family); 14];
 
 /// For checks, and for calls on bytes. Large cases take the second interpreter
 /// longest and are seldom.
 pub const CHECKED: Mixture = [
-    (14, Family::Small),
+    (12, Family::Small),
     (6, Family::Medium),
     (2, Family::Large),
     (6, Family::Faulty),
     (8, Family::Sequences),
     (8, Family::Choices),
+    (6, Family::Functions),
     (6, Family::Limits),
-    (20, Family::Damaged),
+    (18, Family::Damaged),
     (4, Family::Empty),
-    (9, Family::Shaped),
-    (8, Family::Plausible),
+    (8, Family::Shaped),
+    (7, Family::Plausible),
     (4, Family::Words),
     (5, Family::Host),
 ];
 
 /// For runs, the program's too: more of what passes the checker.
 pub const RUN: Mixture = [
-    (22, Family::Small),
-    (10, Family::Medium),
+    (20, Family::Small),
+    (9, Family::Medium),
     (4, Family::Large),
-    (11, Family::Faulty),
-    (10, Family::Sequences),
-    (11, Family::Choices),
+    (10, Family::Faulty),
+    (9, Family::Sequences),
+    (10, Family::Choices),
+    (7, Family::Functions),
     (8, Family::Limits),
-    (7, Family::Damaged),
+    (6, Family::Damaged),
     (3, Family::Empty),
     (5, Family::Shaped),
     (2, Family::Plausible),
     (2, Family::Words),
     (5, Family::Host),
+];
+
+/// For needs: more functions and Conds, and more near the limits.
+pub const NEEDED: Mixture = [
+    (14, Family::Small),
+    (8, Family::Medium),
+    (3, Family::Large),
+    (4, Family::Faulty),
+    (10, Family::Sequences),
+    (13, Family::Choices),
+    (20, Family::Functions),
+    (9, Family::Limits),
+    (9, Family::Damaged),
+    (2, Family::Empty),
+    (3, Family::Shaped),
+    (1, Family::Plausible),
+    (1, Family::Words),
+    (3, Family::Host),
 ];
 
 impl Sample {
@@ -106,25 +126,43 @@ impl Sample {
     }
 }
 
-/// Compares the check of one sample: with a work slice that is long enough, with
-/// the case's own where that is another, and sometimes with one too short.
+/// Compares the check of one sample, with each of its work slices.
 pub fn compare_check(sample: Sample, tally: &mut Tally) -> Result<(), Box<Difference>> {
-    let case = sample.case();
+    let Case { image, work_length, .. } = sample.case();
     let random = &mut sample.random();
-    let mut lengths = vec![*random.pick(&ENOUGH)];
-    if case.work_length != WORK_WORDS {
-        lengths.push(case.work_length);
-    }
-    if random.chance(1, 16) {
-        lengths.push(*random.pick(&TOO_SHORT));
-    }
-    for length in lengths {
-        let answer = check::compare(&case.image, length, random)
+    for length in work_lengths(work_length, random) {
+        let answer = check::compare(&image, length, random)
             .map_err(|difference| sample.named(difference))?;
         let (refusal, words) = check::in_words(answer);
         tally.count(refusal, words);
     }
     Ok(())
+}
+
+/// Compares the needs of one sample, with each of its work slices.
+pub fn compare_needs(sample: Sample, tally: &mut Tally) -> Result<(), Box<Difference>> {
+    let Case { image, work_length, .. } = sample.case();
+    let random = &mut sample.random();
+    for length in work_lengths(work_length, random) {
+        let needs = needs::compare(&image, length, random)
+            .map_err(|difference| sample.named(difference))?;
+        let (refusal, words) = needs::in_words(needs);
+        tally.count(refusal, words);
+    }
+    Ok(())
+}
+
+/// The lengths of the work slices for a call that has no others: one that is enough, the
+/// case's own where that is another, and sometimes one too short.
+fn work_lengths(own: usize, random: &mut Random) -> Vec<usize> {
+    let mut lengths = vec![*random.pick(&ENOUGH)];
+    if own != WORK_WORDS {
+        lengths.push(own);
+    }
+    if random.chance(1, 16) {
+        lengths.push(*random.pick(&TOO_SHORT));
+    }
+    lengths
 }
 
 /// Compares the runs of one sample: a short run at every budget, a longer one at

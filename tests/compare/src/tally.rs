@@ -24,6 +24,12 @@ impl Tally {
         counts.map(|(_, count)| count).sum()
     }
 
+    /// How often an answer came up in these words.
+    pub fn said(&self, words: &str) -> u64 {
+        let counts = self.counts.iter().filter(|((_, answer), _)| answer == words);
+        counts.map(|(_, count)| count).sum()
+    }
+
     /// One line an answer.
     pub fn text(&self) -> String {
         self.counts.iter().map(|((_, answer), count)| format!("{count:>10}  {answer}\n")).collect()

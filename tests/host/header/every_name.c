@@ -13,6 +13,12 @@
 HOLDS(version_is_text, sizeof PI_VERSION >= sizeof "0.0.0");
 HOLDS(check_reply_is_three_words, sizeof(PiCheckReply) == 3 * sizeof(uint64_t));
 HOLDS(run_reply_is_five_words, sizeof(PiRunReply) == 5 * sizeof(uint64_t));
+HOLDS(needs_reply_is_eight_words, sizeof(PiNeedsReply) == 8 * sizeof(uint64_t));
+HOLDS(needs_reply_in_order,
+      offsetof(PiNeedsReply, refusal) == 0 && offsetof(PiNeedsReply, place) == 8 &&
+          offsetof(PiNeedsReply, control) == 16 && offsetof(PiNeedsReply, values) == 24 &&
+          offsetof(PiNeedsReply, cells) == 32 && offsetof(PiNeedsReply, bindings) == 40 &&
+          offsetof(PiNeedsReply, steps) == 48 && offsetof(PiNeedsReply, open) == 56);
 HOLDS(smallest_image, PI_IMAGE_WORDS(0) == 2 && PI_IMAGE_BYTES(0) == 8);
 HOLDS(largest_image_in_words, PI_IMAGE_WORDS(PI_MOST_NODES) == 4002);
 HOLDS(largest_image_in_bytes, PI_IMAGE_BYTES(PI_MOST_NODES) == 16008);
@@ -49,7 +55,8 @@ static const char *name_of(uint64_t refusal)
 static const uint32_t image[PI_IMAGE_WORDS(2)] = {
     2, 0, PI_KIND_CALL, PI_KIND_NUM, PI_OPERAND(1, 1), 7,
 };
-/* Num 7: 1 node. */
+/* Num 7: 1 node, in words and in bytes. */
+static const uint32_t number[PI_IMAGE_WORDS(1)] = {1, 0, PI_KIND_NUM, 7};
 static const uint8_t bytes[PI_IMAGE_BYTES(1)] = {
     1, 0, 0, 0, 0, 0, 0, 0, PI_KIND_NUM, 0, 0, 0, 7, 0, 0, 0,
 };
@@ -61,19 +68,27 @@ int main(void)
     const PiKind kind = PI_KIND_CALL;
     PiCheckReply checked = pi_check(image, PI_IMAGE_WORDS(2), work, PI_WORK_WORDS);
     PiRunReply ran = pi_run(image, PI_IMAGE_WORDS(2), 0, 0, PI_MOST_BUDGET, work, PI_WORK_WORDS);
+    PiNeedsReply needs = pi_needs(image, PI_IMAGE_WORDS(2), work, PI_WORK_WORDS);
     PiRefusal refusal = (PiRefusal)checked.refusal;
     PiCode code;
     PiOutcome outcome;
 
     if (image[2] != (uint32_t)kind || refusal != PI_REFUSAL_UNBOUND || ran.refusal != checked.refusal)
         return 1;
-    if (name_of(checked.refusal) == 0 || name_of(PI_REFUSAL_NONE) != 0)
+    if (needs.refusal != checked.refusal || needs.place != checked.place || needs.steps != 0)
         return 2;
+    if (name_of(checked.refusal) == 0 || name_of(PI_REFUSAL_NONE) != 0)
+        return 3;
     checked = pi_check_bytes(bytes, PI_IMAGE_BYTES(1), work, PI_WORK_WORDS);
     ran = pi_run_bytes(bytes, PI_IMAGE_BYTES(1), 0, 0, PI_MOST_BUDGET, work, PI_WORK_WORDS);
     code = (PiCode)checked.value;
     outcome = (PiOutcome)ran.outcome;
     if (code != PI_CODE_INTEGER || outcome != PI_OUTCOME_NUMBER || ran.value != 7)
-        return 3;
+        return 4;
+    /* Num 7 again, in words. */
+    needs = pi_needs(number, PI_IMAGE_WORDS(1), work, PI_WORK_WORDS);
+    if (needs.refusal != PI_REFUSAL_NONE || needs.control != 1 || needs.values != 1 ||
+        needs.cells != 0 || needs.bindings != 0 || needs.steps != ran.steps || needs.open != 0)
+        return 5;
     return 0;
 }

@@ -99,6 +99,8 @@ int of_refusal(PiRefusal refusal)
     case PI_REFUSAL_VALUES:
     case PI_REFUSAL_CONTROL:
         return 4;
+    case PI_REFUSAL_TOO_MANY_STEPS:
+        return 5;
     }
     return 0;
 }

@@ -4,7 +4,7 @@ use crate::codes::in_words;
 use crate::files::named;
 use crate::parse::Listing;
 use second::engine::{check, Answer, WORK_WORDS};
-use second::refusal;
+use second::refusal::{self, Refusal};
 
 /// The position of the node with this number, on one line.
 pub fn find_node(file: &str, listing: &Listing, number: &str) -> Result<String, String> {
@@ -28,10 +28,17 @@ pub fn find_refusal(file: &str, listing: &Listing) -> String {
         Answer::Code(code) => {
             format!("{file}: passes with type code {code} ({})\n", in_words(code))
         }
-        // The shape of a text holds, so the place is one of its nodes.
-        Answer::Refused(refusal) => {
-            let position = listing.nodes[refusal.place as usize].position;
-            format!("{file}:{position}: {}\n", refusal::line(refusal.number))
-        }
+        Answer::Refused(refusal) => refusal_line(file, listing, refusal),
     }
+}
+
+/// A refusal on one line, with where in the text it is if it has a place there.
+pub fn refusal_line(file: &str, listing: &Listing, refusal: Refusal) -> String {
+    let row = refusal::row_of(refusal.number);
+    if !row.place_is_node {
+        return format!("{file}: {row}\n");
+    }
+    // The shape of a text holds, so the place is one of its nodes.
+    let position = listing.nodes[refusal.place as usize].position;
+    format!("{file}:{position}: {row}\n")
 }

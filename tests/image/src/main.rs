@@ -2,6 +2,7 @@
 
 use image::files::{image, text};
 use image::find::{find_node, find_refusal};
+use image::needs::needs_of;
 use image::parse::{parse, Listing};
 use image::print::print;
 use image::show::show;
@@ -26,6 +27,9 @@ usage: image COMMAND FILE
   text FILE              an image as a text, which make turns into the same image
   find FILE              where in a text its routine is refused, or what it passes as
   find FILE NUMBER       where in a text the node of this number stands
+  needs FILE             what a text's routine needs at most before it is loaded: entries
+                         of control and of values, cells, bindings, and steps, which are
+                         open where it has a Loop; or where it is refused
   refusals               the refusals, one a line: number, name and what it says
   help                   prints this, and so does --help behind any command
 
@@ -47,7 +51,7 @@ Exit status: 0 where the command is done, a refusal shown too; 2 where the text 
 command line is wrong or a stream fails.
 ";
 
-const COMMANDS: [&str; 5] = ["make", "show", "text", "find", "refusals"];
+const COMMANDS: [&str; 6] = ["make", "show", "text", "find", "needs", "refusals"];
 
 /// What a command line gives: the output, and what is to be said beside it.
 struct Given {
@@ -80,6 +84,10 @@ fn answer(arguments: &[String]) -> Result<Given, String> {
         ["text", file] => text_again(file)?,
         ["find", file] => find_refusal(file, &listing(file)?),
         ["find", file, number] => find_node(file, &listing(file)?, number)?,
+        ["needs", file] => {
+            let (output, note) = needs_of(file, &listing(file)?);
+            return Ok(Given { output: output.into(), note });
+        }
         ["refusals"] => refusal::TABLE.iter().map(|row| format!("{row}\n")).collect(),
         [] => return Err("no command; `image help` lists them".to_string()),
         [command, ..] if COMMANDS.contains(command) => {

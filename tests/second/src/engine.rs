@@ -1,8 +1,9 @@
-//! What the host calls: `check` and `run`, with the order of refusals, the
+//! What the host calls: `check`, `run` and `needs`, with the order of refusals, the
 //! registers and the work words (the paper's "What the engine says no with").
 
 use crate::checker::{self, Passed};
 use crate::execution::Execution;
+use crate::needs::{self, Needs};
 use crate::reader;
 use crate::refusal::{self, Refusal};
 use crate::state::{State, ValueEntry};
@@ -80,6 +81,17 @@ pub fn run_passed(routine: &Routine, registers: &mut [i64], budget: u64) -> Repl
     match reason {
         Some(reason) => refused(Refusal::whole(reason), execution.steps()),
         None => Reply { outcome: outcome(execution.state()), steps: execution.steps() },
+    }
+}
+
+/// The needs alone test 22, then the image, then 40. This effort is made to find them.
+pub fn needs(image: &[u32], work_length: usize, effort: u64) -> Needs {
+    if work_length < WORK_WORDS {
+        return Needs::Refused(Refusal::whole(refusal::WORK));
+    }
+    match pass(image) {
+        Ok((routine, _)) => needs::needs(&routine, effort),
+        Err(refusal) => Needs::Refused(refusal),
     }
 }
 

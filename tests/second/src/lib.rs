@@ -4,14 +4,15 @@
 //! and shares nothing with the engine it is held against. Data flows one way:
 //!
 //! words → [`reader`] → tree → [`checker`] → [`execution`] (states, rules,
-//! limits) → [`engine`] (the host's calls) → [`bytes`] (the same on bytes) and
-//! [`program`] (bytes to text).
+//! limits) and [`needs`] (free runs) → [`engine`] (the host's calls) → [`bytes`] (the
+//! same on bytes) and [`program`] (bytes to text).
 //!
 //! Beside that stand what test programs need: [`build`] to write a tree down,
 //! [`encode`] to turn it into an image, [`show`] to print it, [`generate`] to make
 //! cases from a seed; and for programs over these, [`command_line`] and [`streams`]
 //! to try one with.
 
+pub mod alike;
 pub mod arithmetic;
 pub mod build;
 pub mod bytes;
@@ -22,8 +23,10 @@ pub mod effect;
 pub mod encode;
 pub mod engine;
 pub mod execution;
+pub mod free_run;
 pub mod generate;
 pub mod kinds;
+pub mod needs;
 pub mod node;
 pub mod program;
 pub mod reader;
@@ -36,6 +39,6 @@ pub mod streams;
 pub mod tree;
 
 pub use encode::encode;
-pub use engine::{check, run, Answer, Outcome, Reply};
+pub use engine::{check, needs, run, Answer, Outcome, Reply};
 pub use program::program;
 pub use refusal::Refusal;

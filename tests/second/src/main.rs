@@ -2,9 +2,10 @@
 
 use second::bytes::{check, whole_image};
 use second::command_line::{arguments, asks_for_help, complain, write_out};
-use second::engine::{Answer, WORK_WORDS};
+use second::engine::{needs, Answer, WORK_WORDS};
 use second::generate::Family;
-use second::program::{print_answer, program, with_budget};
+use second::needs::{Needs, EFFORT};
+use second::program::{print_answer, print_needs, program, with_budget};
 use second::reader::read;
 use second::show::{from_hexadecimal, hexadecimal, show};
 use std::io::Read;
@@ -20,6 +21,11 @@ usage: second COMMAND [--hex]
   run BUDGET                 the same at another budget
   check                      standard input: an image; prints `code C`, `command`
                              or `refused N at P`
+  needs                      standard input: an image; prints its needs, one line
+                             each: `control N`, `values N`, `cells N`, `bindings N`
+                             and `steps N` or `steps open`; or `refused N at P`.
+                             Where the runs are too many to go through, each line
+                             has what some of them reach: `control at least N`
   show                       standard input: an image; prints it as a tree
   generate FAMILY SEED COUNT prints COUNT images made from SEED, SEED + 1, and so
                              on, one a line, as words in hexadecimal
@@ -29,17 +35,17 @@ usage: second COMMAND [--hex]
                              the program
   help                       prints this, and so does --help behind any command
 
-With --hex, program, run, check and show read words in hexadecimal, as generate
-prints them, in place of little-endian bytes.
+With --hex, program, run, check, needs and show read words in hexadecimal, as
+generate prints them, in place of little-endian bytes.
 
-families: small medium large faulty sequences choices limits damaged empty
-          shaped plausible words host
+families: small medium large faulty sequences choices functions limits damaged
+          empty shaped plausible words host
 
 Exit status: 0 where the command is done, a refusal printed too; 2 where the
 command line or the input is wrong or a stream fails.
 ";
 
-const COMMANDS: [&str; 5] = ["program", "run", "check", "show", "generate"];
+const COMMANDS: [&str; 6] = ["program", "run", "check", "needs", "show", "generate"];
 
 fn main() -> ExitCode {
     let done = arguments().and_then(|arguments| answer(&arguments)).and_then(write_out);
@@ -63,6 +69,13 @@ fn answer(arguments: &[String]) -> Result<Vec<u8>, String> {
             Ok(with_budget(&input(options)?, budget))
         }
         ["check", options @ ..] => Ok(print_answer(check(&input(options)?, WORK_WORDS)).into()),
+        ["needs", options @ ..] => {
+            let needs = match whole_image(&input(options)?) {
+                Ok(image) => needs(&image, WORK_WORDS, EFFORT),
+                Err(refusal) => Needs::Refused(refusal),
+            };
+            Ok(print_needs(needs).into())
+        }
         ["show", options @ ..] => {
             match whole_image(&input(options)?).and_then(|image| read(&image)) {
                 Ok(routine) => Ok(show(&routine).into()),

@@ -3,6 +3,7 @@
 
 use crate::bytes::{integers, words};
 use crate::engine::{run, Answer, Outcome, Reply, MOST_BUDGET, WORK_WORDS};
+use crate::needs::{Figures, Needs, Steps};
 use crate::reader::Counts;
 use crate::refusal::{self, Refusal};
 
@@ -70,6 +71,28 @@ pub fn print_answer(answer: Answer) -> String {
         Answer::Command => "command\n".to_string(),
         Answer::Refused(refusal) => refused_line(refusal),
     }
+}
+
+/// The needs, one line a figure, for the command line. What is only known to be reached
+/// says so.
+pub fn print_needs(needs: Needs) -> String {
+    let (Figures { room, steps }, reached) = match needs {
+        Needs::Figures(figures) => (figures, ""),
+        Needs::AtLeast(figures) => (figures, "at least "),
+        Needs::Refused(refusal) => return refused_line(refusal),
+    };
+    let sizes = [
+        ("control", room.control),
+        ("values", room.values),
+        ("cells", room.cells),
+        ("bindings", room.bindings),
+    ];
+    let lines = sizes.map(|(name, size)| format!("{name} {reached}{size}\n"));
+    let steps = match steps {
+        Steps::Most(steps) => format!("steps {reached}{steps}\n"),
+        Steps::Open => "steps open\n".to_string(),
+    };
+    lines.concat() + &steps
 }
 
 fn refused_line(refusal: Refusal) -> String {

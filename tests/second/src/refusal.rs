@@ -17,7 +17,7 @@ impl Refusal {
     }
 
     /// A refusal whose place is 0 by the paper: those of the image as a whole,
-    /// of the host and of the run.
+    /// of the host, of the run and of the needs.
     pub fn whole(number: u32) -> Refusal {
         Refusal { number, place: 0 }
     }
@@ -52,6 +52,9 @@ pub const BINDINGS: u32 = 34;
 pub const VALUES: u32 = 35;
 pub const CONTROL: u32 = 36;
 
+// Caused by the wish for the needs.
+pub const TOO_MANY_STEPS: u32 = 40;
+
 /// Refusals 1 to 22 come before the first step: they report 0 steps and keep
 /// the registers.
 pub fn before_the_run(number: u32) -> bool {
@@ -77,7 +80,7 @@ const fn whole(number: u32, name: &'static str, sentence: &'static str) -> Row {
 }
 
 /// Every refusal, by number.
-pub const TABLE: [Row; 21] = [
+pub const TABLE: [Row; 22] = [
     whole(LENGTH, "length", "the length does not fit the counts"),
     whole(COUNTS, "counts", "n is above 2,000, or r is above 16"),
     at_node(KIND, "kind", "no such kind of node"),
@@ -99,6 +102,7 @@ pub const TABLE: [Row; 21] = [
     whole(BINDINGS, "bindings", "a 513th binding would be live"),
     whole(VALUES, "values", "a 513th entry would be on the value stack"),
     whole(CONTROL, "control", "a 513th entry would be on the control stack"),
+    whole(TOO_MANY_STEPS, "too many steps", "the steps come out above 1,000,000"),
 ];
 
 /// The row of a refusal.

@@ -9,7 +9,7 @@ use lib.Dec.{T}
 use lib.IntN.{ℤ}
 use lib.ListN.{length}
 use Rattle.rules.specs.paper.Tree.{Arithmetic, arithmetic, Expression, Command, Loop, Cond, Root}
-use Rattle.rules.specs.paper.Refusals.{Reason, Cells, Bindings, ValueEntries, ControlEntries}
+use Rattle.rules.specs.paper.Refusals.{Reason, Steps, Cells, Bindings, ValueEntries, ControlEntries}
 use Rattle.rules.specs.paper.Limits.{most-nodes, most-registers, most-cells, most-bindings, most-value-entries, most-control-entries}
 use Rattle.rules.specs.paper.Integers.{in-range, failed, compute}
 use Rattle.rules.specs.paper.Checker.{Passed}
@@ -109,6 +109,15 @@ RoomSuffices =
     ((f : Figure) → routine-need r t .most f ≤ limits f) →
     (budget steps : ℕ) (σ : State) (h : History) → Reach budget (start r t registers) r steps σ h →
     (x : Rule) (e : Effect) → Applies x σ e → (f : Figure) → ReasonHolds budget steps e (room-reason f) → ⊥)
+
+-- Without Loop a budget of the steps is enough: 30 holds nowhere in it.
+abbrev pub BudgetSuffices : Type 0
+BudgetSuffices =
+    ForPassed
+    (λ r t a registers.
+    has-loop t ≡ false →
+    (budget steps : ℕ) → routine-need r t .steps ≤ budget → (σ : State) (h : History) → Reach budget (start r t registers) r steps σ h →
+    (x : Rule) (e : Effect) → Applies x σ e → ReasonHolds budget steps e Steps → ⊥)
 
 -- 4. Without Loop and Cond, a run that ends normally reaches each figure exactly, and its steps are the figure.
 pub record SizeMet (budget : ℕ) (first : State) (r : ℕ) (f : Figure) (most : ℕ) : Type 0 where

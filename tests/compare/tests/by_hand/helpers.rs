@@ -6,12 +6,14 @@ use compare::byte_calls::ByteCall;
 use compare::bytes::RanOnBytes;
 use compare::run::Ran;
 use compare::sample::SHORT_RUN;
-use compare::{bytes, check, run, Difference};
+use compare::{bytes, check, engine, needs, run, Difference};
 use second::build::image;
 use second::encode::{bytes_of, register_bytes};
 use second::engine::{Answer, Outcome, Reply, MOST_BUDGET, WORK_WORDS};
 use second::generate::random::Random;
 use second::generate::Case;
+use second::needs::{Figures, Needs, Steps};
+use second::state::Heights;
 use second::tree::{Place, Root};
 use second::Refusal;
 
@@ -97,6 +99,45 @@ pub fn run_bytes(image: &[u8], starts: &[u8], budget: u64, work_length: usize) -
 
 pub fn answer_refused(number: u32, place: Place) -> Answer {
     Answer::Refused(Refusal::new(number, place))
+}
+
+/// The needs of an image with a work slice of this length.
+pub fn needed_with(image: &[u32], work_length: usize) -> Needs {
+    agreed(needs::compare(image, work_length, &mut Random::new(0)))
+}
+
+/// The needs of an image, given work words enough.
+pub fn needed(image: &[u32]) -> Needs {
+    needed_with(image, WORK_WORDS)
+}
+
+/// The needs of a tree with this many registers.
+pub fn needed_tree(registers: u32, root: impl Into<Root>) -> Needs {
+    needed(&image(registers, root))
+}
+
+/// The engine's needs of an image must be these, also where its free runs are too many for
+/// the second interpreter to go through.
+pub fn needs_are(image: &[u32], expected: Needs) {
+    needed(image);
+    let reply = engine::needs(image, &mut vec![1; WORK_WORDS]);
+    assert_eq!(Some(reply), needs::reply_of(expected));
+}
+
+/// Figures without a Loop.
+pub fn given(control: usize, values: usize, cells: usize, bindings: usize, steps: u64) -> Needs {
+    let room = Heights { cells, bindings, values, control };
+    Needs::Figures(Figures { room, steps: Steps::Most(steps) })
+}
+
+/// Figures with a Loop.
+pub fn open(control: usize, values: usize, cells: usize, bindings: usize) -> Needs {
+    let room = Heights { cells, bindings, values, control };
+    Needs::Figures(Figures { room, steps: Steps::Open })
+}
+
+pub fn needs_refused(number: u32, place: Place) -> Needs {
+    Needs::Refused(Refusal::new(number, place))
 }
 
 fn agreed<T>(compared: Result<T, Box<Difference>>) -> T {

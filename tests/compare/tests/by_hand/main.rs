@@ -25,6 +25,16 @@ mod choice_types;
 mod choices;
 #[path = "../../../second/tests/suite/limits.rs"]
 mod limits;
+#[path = "../../../second/tests/suite/need_functions.rs"]
+mod need_functions;
+#[path = "../../../second/tests/suite/need_limits.rs"]
+mod need_limits;
+#[path = "../../../second/tests/suite/need_refusals.rs"]
+mod need_refusals;
+#[path = "../../../second/tests/suite/need_steps.rs"]
+mod need_steps;
+#[path = "../../../second/tests/suite/needs.rs"]
+mod needs;
 #[path = "../../../second/tests/suite/no_routine.rs"]
 mod no_routine;
 #[path = "../../../second/tests/suite/sequence_limits.rs"]

@@ -5,6 +5,7 @@ mod bytes;
 mod check;
 mod command_line;
 mod helpers;
+mod needs;
 mod program;
 mod run;
 mod scripts;

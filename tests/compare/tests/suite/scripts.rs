@@ -71,8 +71,17 @@ fn what_is_missing_is_said() {
 #[test]
 fn another_program_fails_the_samples() {
     let (output, _, status) = script("examples/run.sh", &["true"]);
-    assert!(output.contains("factorial: FAILED\n"), "{output}");
-    assert!(output.lines().last().expect("a line").starts_with("0 passed, "), "{output}");
+    let mut samples = 0;
+    for entry in std::fs::read_dir(repository().join("examples")).expect("the samples") {
+        let path = entry.expect("a sample").path();
+        if path.extension().is_some_and(|extension| extension == "pi") {
+            let name = path.file_stem().expect("a name").to_string_lossy();
+            assert!(output.contains(&format!("{name}: FAILED\n")), "{output}");
+            samples += 1;
+        }
+    }
+    let last = output.lines().last().expect("a line");
+    assert!(samples > 5 && last.contains(" passed, ") && !last.ends_with(" 0 failed"), "{last}");
     assert_eq!(status, Some(1));
 }
 

@@ -96,6 +96,7 @@ fn an_image_where_a_text_is_wanted() {
         wrong(&["make", &file, "5"], b"", &message);
         wrong(&["find", &file], b"", &message);
         wrong(&["find", &file, "0"], b"", &message);
+        wrong(&["needs", &file], b"", &message);
     }
     let message = "standard input is an image, not a text; `image text -` makes a text of it";
     wrong(&["make", "-"], &bytes_of(&double()), message);

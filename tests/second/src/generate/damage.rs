@@ -284,6 +284,26 @@ fn change_a_choice(random: &mut Random, parts: &mut Parts) {
     }
 }
 
+/// The same image with a change at one of its Calls.
+pub fn change_a_function_of(random: &mut Random, image: &[u32]) -> Vec<u32> {
+    let mut parts = Parts::of(image);
+    change_a_function(random, &mut parts);
+    parts.image()
+}
+
+/// Another function is called, or what a Call names is hidden by another Bind or Formal.
+fn change_a_function(random: &mut Random, parts: &mut Parts) {
+    let calls = parts.places(|kind| kind == Kind::Call);
+    let binds = parts.places(|kind| kind == Kind::Bind);
+    let formals = parts.places(|kind| kind == Kind::Formal);
+    match random.below(4) {
+        0 => parts.take_a_name(random, &calls, &calls),
+        1 => parts.take_a_name(random, &binds, &calls),
+        2 => parts.take_a_name(random, &formals, &calls),
+        _ => change_a_call(random, parts, 0..parts.nodes.len()),
+    }
+}
+
 /// An Assign among some places takes a name that a Bind or a Formal has: one that may
 /// not be set.
 fn set_another_name(random: &mut Random, parts: &mut Parts, places: Range<usize>) {

@@ -4,6 +4,7 @@ pub mod choices;
 pub mod damage;
 pub mod declarations;
 pub mod empty;
+pub mod functions;
 pub mod limits;
 pub mod noise;
 pub mod random;
@@ -46,6 +47,9 @@ pub enum Family {
     /// Conds in each other, in blocks, loops and functions, up to some 200 nodes; one in
     /// three has a change in one of its Conds, taken or not, which may be a fault.
     Choices,
+    /// Functions that call functions, some with Loops and some of very many steps, up to
+    /// 300 nodes; one in three has a change at a Call, which may be a fault.
+    Functions,
     /// Near a limit of nodes, depth, cells, bindings or stack entries.
     Limits,
     /// A well-typed image with one fault.
@@ -63,13 +67,14 @@ pub enum Family {
 }
 
 impl Family {
-    pub const ALL: [(&'static str, Family); 13] = [
+    pub const ALL: [(&'static str, Family); 14] = [
         ("small", Family::Small),
         ("medium", Family::Medium),
         ("large", Family::Large),
         ("faulty", Family::Faulty),
         ("sequences", Family::Sequences),
         ("choices", Family::Choices),
+        ("functions", Family::Functions),
         ("limits", Family::Limits),
         ("damaged", Family::Damaged),
         ("empty", Family::Empty),
@@ -103,6 +108,11 @@ impl Family {
                 random,
                 |generator, scope| generator.choices(scope),
                 damage::change_a_choice_of,
+            ),
+            Family::Functions => changed_case(
+                random,
+                |generator, scope| generator.functions(scope),
+                damage::change_a_function_of,
             ),
             Family::Limits => {
                 let image = encode(&limits::near_a_limit(random));

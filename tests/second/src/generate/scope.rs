@@ -38,6 +38,14 @@ impl Scope {
         scope
     }
 
+    /// The scope inside, where this name hides another and is used by no one.
+    pub fn without(&self, name: Name) -> Scope {
+        let mut scope = self.clone();
+        scope.meanings[name as usize] = None;
+        scope.earlier &= !(1 << name);
+        scope
+    }
+
     /// The scope of a DSeq's second declaration, which sees what the first one
     /// declares.
     pub fn with_earlier(&self, declared: &[(Name, Meaning)]) -> Scope {

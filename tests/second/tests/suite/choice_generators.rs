@@ -2,6 +2,7 @@
 //! and that it shows which, and faults in either command, taken or not.
 
 use crate::helpers::*;
+use crate::other_choices::with_choices;
 use second::encode;
 use second::engine::pass;
 use second::execution::Execution;
@@ -124,47 +125,6 @@ fn runs_take_either_command_and_both_in_turn() {
     }
 }
 
-/// The tree with the two commands of every Cond exchanged.
-fn exchanged(command: &Command) -> Command {
-    let below = |command: &Command| Box::new(exchanged(command));
-    match command {
-        Command::Assign(_) | Command::Call(_) => command.clone(),
-        Command::Loop(node) => {
-            Command::Loop(Loop { command: below(&node.command), ..node.clone() })
-        }
-        Command::CSeq(node) => {
-            let (first, second) = (below(&node.first), below(&node.second));
-            Command::CSeq(CSeq { first, second, ..node.clone() })
-        }
-        Command::Blk(node) => Command::Blk(exchanged_in_block(node)),
-        Command::Cond(node) => {
-            let (first, second) = (below(&node.second), below(&node.first));
-            Command::Cond(Cond { first, second, ..node.clone() })
-        }
-    }
-}
-
-fn exchanged_in_block(node: &Blk) -> Blk {
-    let declaration = exchanged_in_declaration(&node.declaration);
-    Blk { declaration, command: Box::new(exchanged(&node.command)), ..node.clone() }
-}
-
-fn exchanged_in_declaration(declaration: &Declaration) -> Declaration {
-    match declaration {
-        Declaration::Bind(Bind { place, name, bound: Bound::Abs(abs) }) => {
-            let body = Box::new(exchanged_in_block(&abs.body));
-            let bound = Bound::Abs(Abs { body, ..abs.clone() });
-            Declaration::Bind(Bind { place: *place, name: *name, bound })
-        }
-        Declaration::Bind(_) => declaration.clone(),
-        Declaration::DSeq(node) => {
-            let below = |one: &Declaration| Box::new(exchanged_in_declaration(one));
-            let (first, second) = (below(&node.first), below(&node.second));
-            Declaration::DSeq(DSeq { first, second, ..node.clone() })
-        }
-    }
-}
-
 /// Of the runs that come by a Cond, most answer otherwise with the commands exchanged:
 /// by their steps, their registers or the fault that they meet.
 #[test]
@@ -178,7 +138,8 @@ fn it_shows_which_command_was_taken() {
             if taken(&routine, &case.registers).is_empty() {
                 continue;
             }
-            let other = Routine { root: Root::Command(exchanged(root)), ..routine.clone() };
+            let other = with_choices(root, &|first, second| (second, first));
+            let other = Routine { root: Root::Command(other), ..routine.clone() };
             let run = |image: &[u32]| run_at(image, &case.registers, 2_000);
             let (answer, another) = (run(&case.image), run(&encode(&other)));
             met += 1;

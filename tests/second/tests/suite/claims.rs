@@ -150,6 +150,21 @@ fn claims_hold_in_choices() {
 }
 
 #[test]
+fn claims_hold_in_functions() {
+    // A function's environment has those of all before it: of many there would be too much
+    // to look at.
+    const ABS: u32 = 41;
+    let few = |image: &[u32]| image.iter().filter(|word| **word == ABS).count() <= 8;
+    let steps: u64 = (0..600)
+        .map(|seed| {
+            let case = Family::Functions.case(seed);
+            hold(&case, 1_500, few(&case.image))
+        })
+        .sum();
+    assert!(steps > 20_000, "{steps} steps are few");
+}
+
+#[test]
 fn claims_hold_near_the_limits() {
     let steps: u64 = (0..80).map(|seed| hold(&Family::Limits.case(seed), 8_000, false)).sum();
     assert!(steps > 20_000, "{steps} steps are few");

@@ -3,14 +3,15 @@
 use second::build::*;
 use second::encode::{bytes_of, program_input};
 use second::streams::full;
+use second::tree::{Command, Name};
 use std::ffi::OsStr;
 use std::fs::File;
 use std::io::Write;
 use std::os::unix::ffi::OsStrExt;
-use std::process::{Child, Command, Stdio};
+use std::process::{Child, Stdio};
 
-fn command(arguments: &[&str]) -> Command {
-    let mut command = Command::new(env!("CARGO_BIN_EXE_second"));
+fn command(arguments: &[&str]) -> std::process::Command {
+    let mut command = std::process::Command::new(env!("CARGO_BIN_EXE_second"));
     command.args(arguments);
     command.stdin(Stdio::piped()).stdout(Stdio::piped()).stderr(Stdio::piped());
     command
@@ -59,6 +60,38 @@ fn check_says_code_command_or_refusal() {
     odd.push(0);
     assert_eq!(said(&["check"], &odd), "refused 1 at 0\n");
     assert_eq!(said(&["check"], &odd[..14]), "refused 1 at 0\n");
+}
+
+#[test]
+fn needs_says_figures_or_refusal() {
+    let set = bytes_of(&image(1, assign(0, num(1))));
+    assert_eq!(said(&["needs"], &set), "control 2\nvalues 2\ncells 1\nbindings 1\nsteps 3\n");
+    let rounds = bytes_of(&image(2, factorial()));
+    let expected = "control 6\nvalues 3\ncells 2\nbindings 2\nsteps open\n";
+    assert_eq!(said(&["needs"], &rounds), expected);
+    let slot = "control 0\nvalues 0\ncells 3\nbindings 3\nsteps 0\n";
+    assert_eq!(said(&["needs", "--hex"], b"0 3"), slot);
+    assert_eq!(said(&["needs"], &bytes_of(&image(0, id(3)))), "refused 10 at 0\n");
+    assert_eq!(said(&["needs"], &set[..set.len() - 1]), "refused 1 at 0\n");
+    // Functions that call the one before them twice: too many steps; with a Loop too many
+    // states.
+    let doubling = |first: Command| {
+        let once = |name: Name| call(name, vec![]);
+        let function = |name: Name| {
+            let twice = || cseq(once(name - 1), once(name - 1));
+            let command = if name == 1 { first.clone() } else { twice() };
+            bind_abs(name, &[], block(bind(63, num(0)), command))
+        };
+        let root = (1..=30).rev().fold(once(30), |command, name| blk(function(name), command));
+        bytes_of(&image(1, root))
+    };
+    let set = || assign(0, num(1));
+    assert_eq!(said(&["needs"], &doubling(set())), "refused 40 at 0\n");
+    let text = said(&["needs"], &doubling(repeat(boo(true), set())));
+    let lines: Vec<&str> = text.lines().collect();
+    let [control, values, cells, bindings, "steps open"] = lines[..] else { panic!("{text}") };
+    assert_eq!((cells, bindings), ("cells at least 1", "bindings at least 61"));
+    assert!(control.starts_with("control at least ") && values.starts_with("values at least "));
 }
 
 #[test]
@@ -120,6 +153,7 @@ fn bad_usage_says_what_is_wrong() {
     wrong(&["generate", "tiny", "1", "1"], "no family tiny");
     wrong(&["generate", "small", "x", "1"], "SEED must be a whole number, not x");
     wrong(&["check", "--octal"], "no option --octal");
+    wrong(&["needs", "7"], "no option 7");
     wrong(&["check", "--hex"], "zz is no 32-bit word");
     wrong(&["walk", "--help"], "no command walk");
     let mut bytes = command(&["check"]);
@@ -136,7 +170,7 @@ fn help_is_everywhere() {
     for arguments in [&["--help"], &["-h"]] {
         assert_eq!(said(arguments, &[]), help);
     }
-    for command in ["program", "run", "check", "show", "generate"] {
+    for command in ["program", "run", "check", "needs", "show", "generate"] {
         assert!(help.contains(&format!("\n  {command} ")), "{command}");
         assert_eq!(said(&["help", command], &[]), help);
         assert_eq!(said(&[command, "--help"], &[]), help);

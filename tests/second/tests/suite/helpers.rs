@@ -2,7 +2,10 @@
 
 use second::build::image;
 use second::bytes;
-use second::engine::{check, run, Answer, Outcome, Reply, MOST_BUDGET, WORK_WORDS};
+use second::engine::{check, needs, run, Answer, Outcome, Reply, MOST_BUDGET, WORK_WORDS};
+use second::needs::{Figures, Needs, Steps, EFFORT};
+use second::refusal::TOO_MANY_STEPS;
+use second::state::Heights;
 use second::tree::{Place, Root};
 use second::Refusal;
 
@@ -64,4 +67,58 @@ pub fn run_bytes(image: &[u8], starts: &[u8], budget: u64, work_length: usize) -
 
 pub fn answer_refused(number: u32, place: Place) -> Answer {
     Answer::Refused(Refusal::new(number, place))
+}
+
+/// The needs of an image with a work slice of this length.
+pub fn needed_with(image: &[u32], work_length: usize) -> Needs {
+    needs(image, work_length, EFFORT)
+}
+
+/// The needs of an image, given work words enough.
+pub fn needed(image: &[u32]) -> Needs {
+    needed_with(image, WORK_WORDS)
+}
+
+/// The needs of a tree with this many registers.
+pub fn needed_tree(registers: u32, root: impl Into<Root>) -> Needs {
+    needed(&image(registers, root))
+}
+
+/// The needs of an image must be these, also where its free runs are too many to go
+/// through: what they reach then is no more.
+pub fn needs_are(image: &[u32], expected: Needs) {
+    match (needed(image), expected) {
+        (Needs::AtLeast(reached), Needs::Figures(most)) => assert!(within(reached, most)),
+        (Needs::AtLeast(reached), Needs::Refused(refusal)) => {
+            assert!(reached.steps != Steps::Open && refusal == Refusal::whole(TOO_MANY_STEPS));
+        }
+        (found, expected) => assert_eq!(found, expected),
+    }
+}
+
+/// No figure is above the other's.
+pub fn within(some: Figures, most: Figures) -> bool {
+    let mut raised = most.room;
+    raised.raise(some.room);
+    let steps = match (some.steps, most.steps) {
+        (Steps::Most(some), Steps::Most(most)) => some <= most,
+        (some, most) => some == most,
+    };
+    raised == most.room && steps
+}
+
+/// Figures without a Loop.
+pub fn given(control: usize, values: usize, cells: usize, bindings: usize, steps: u64) -> Needs {
+    let room = Heights { cells, bindings, values, control };
+    Needs::Figures(Figures { room, steps: Steps::Most(steps) })
+}
+
+/// Figures with a Loop.
+pub fn open(control: usize, values: usize, cells: usize, bindings: usize) -> Needs {
+    let room = Heights { cells, bindings, values, control };
+    Needs::Figures(Figures { room, steps: Steps::Open })
+}
+
+pub fn needs_refused(number: u32, place: Place) -> Needs {
+    Needs::Refused(Refusal::new(number, place))
 }

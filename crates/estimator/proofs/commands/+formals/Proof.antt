@@ -43,7 +43,7 @@ formals-nothing-requires t c κs = tt
 formals-keep-requires : (t : ℕ) → formals-lts.Need-keep-requires (formals-calls t) (formals-at t) formals.Post
 formals-keep-requires t c κs =
     let start = c .before .before .before .before .before .before in
-    (start .pre .1 .0, (formal-low _ _ _ (c .before .before .before .before .if1 .left) (start .pre .1 .1 .1 .1), (omega arith, (start .pre .1 .1 .0, subst SmallFigures (sym (c .before .nothing .ensures)) (figures-small nothing)))))
+    (start .pre .1 .0, (formal-low _ _ _ (c .before .before .before .before .if1 .left) (start .pre .1 .1 .1 .1), (omega arith, (omega (arith, start .pre .1 .1 .0), subst SmallFigures (sym (c .before .nothing .ensures)) (figures-small nothing)))))
 
 formals-add-formals : (t : ℕ) → formals-lts.Need-add-formals (formals-calls t) (formals-at t) formals.Post
 formals-add-formals t c = let start = c .before .before .before .before .before .before .before .before .before .before in record { fits = omega (arith, formal-low _ _ _ (c .before .before .before .before .before .before .before .before .if1 .left) (start .pre .1 .1 .1 .1)) }

@@ -18,18 +18,19 @@ use Rattle.rules.specs.paper.Run.{ended}
 use Rattle.rules.specs.paper.Needs.{Figure, control, values, cells, bindings, Need, routine-need, is-loop, is-conditional, has-loop, has-conditional}
 use Rattle.rules.specs.paper.Engine.{check-image, passed, start}
 use Rattle.rules.specs.claims.History.{History, Reach, at-start, step-made}
-use Rattle.rules.specs.claims.Claim.{ReasonHolds, cells-full, bindings-full, values-full, control-full, AllInRange}
+use Rattle.rules.specs.claims.Claim.{ReasonHolds, budget-used, cells-full, bindings-full, values-full, control-full, AllInRange}
 use Rattle.rules.specs.claims.Ends.{EndsWell, normally}
-use Rattle.rules.specs.claims.FreeRun.{FreeStep, by-rule, FreeReach, one-more, size, RunIsFree, RunExceedsNothing, limits, room-reason, RoomSuffices, SizeMet, ReachesExactly}
+use Rattle.rules.specs.claims.FreeRun.{FreeStep, by-rule, FreeReach, one-more, size, RunIsFree, RunExceedsNothing, limits, room-reason, RoomSuffices, BudgetSuffices, SizeMet, ReachesExactly}
 use Rattle.rules.specs.claims.FreeRun as FreeRun
 use Rattle.rules.specs.proofs.running.RunEnds.{run-ends}
+use Rattle.rules.specs.proofs.running.WholeRun.{rule-left}
 use Rattle.rules.specs.proofs.needs.Outlook.{through, ahead-of}
 use Rattle.rules.specs.proofs.needs.StretchLaws.{Target, shown, shown-size, Replaced}
 use Rattle.rules.specs.proofs.needs.TestStretches.{Nearer, in-first, in-second, still-ahead}
 use Rattle.rules.specs.proofs.needs.StepKinds.{StepKind, replacing, turning, choosing}
 use Rattle.rules.specs.proofs.needs.FreeStates.{FreeInvariant, free-classified}
 use Rattle.rules.specs.proofs.needs.Without.{WithoutValues, Without, start-without}
-use Rattle.rules.specs.proofs.needs.FreeSteps.{replaced-nearer, replaced-counts, no-loop, no-conditional}
+use Rattle.rules.specs.proofs.needs.FreeSteps.{goes-on, replaced-nearer, replaced-counts, no-loop, no-conditional}
 use Rattle.rules.specs.proofs.needs.FreeMost.{beginning, start-free, reach-free, reach-without, nothing-exceeds, control-left, none-ahead-of}
 
 -- ---- 3. Every run of the engine is a free run.
@@ -59,6 +60,12 @@ room-suffices image r t a passes zs count ranged fits budget steps σ h reached 
     by-reason values (values-full τ q l) = omega (arith, next-fits τ q values, l)
     by-reason cells (cells-full τ q l) = omega (arith, next-fits τ q cells, l)
     by-reason bindings (bindings-full τ q l) = omega (arith, next-fits τ q bindings, l)
+
+pub budget-suffices : BudgetSuffices
+budget-suffices image r t a passes zs count ranged no-loops budget steps enough σ h reached x e applies (budget-used q) =
+    let free = run-is-free budget r steps (start r t zs) σ h reached in
+    let step = goes-on σ (reach-free (start-free image r t a passes zs ranged) free) (rule-left x σ e applies) in
+    omega (arith, nothing-exceeds image r t a passes zs count ranged (suc steps) (step .after) (one-more free (step .free)) .1 no-loops, enough, q)
 
 -- ---- 4. Without Loop and Cond.
 

@@ -154,19 +154,20 @@ start-invariant image r t a m zs h =
 advance-of : {a : Passed} {r : ℕ} {σ : State} {h : History} {e : Effect} (τ : State) → Next a r σ h e → e ≡ goes τ → Advance a r σ h τ
 advance-of {a} {r} {σ} {h} τ n q = subst (Next a r σ h) q n
 
+-- Where a rule applies control is not empty.
+pub rule-left : (x : Rule) (ρ : State) (e : Effect) → Applies x ρ e → control-of ρ ≡ [] → ⊥
+rule-left x (state [] X E S L n) e l q = l
+rule-left x (state (i ∷ C) X E S L n) e l q = subst IsSome q tt
+  where
+    IsSome : List Item → Type 0
+    IsSome [] = ⊥
+    IsSome (i ∷ C) = Unit {0}
+
 -- The step of a rule that applies keeps it.
 pub step-invariant : (a : Passed) (r : ℕ) (x : Rule) (ρ τ : State) (g : History) → Invariant a r ρ g → Applies x ρ (goes τ) → Invariant a r τ (note ρ g τ)
 step-invariant a r x ρ τ g before line =
-    let p = progress a r ρ g before (control-left x ρ (goes τ) line) in
+    let p = progress a r ρ g before (rule-left x ρ (goes τ) line) in
     advance-of τ (p .next) (one-rule ρ (p .rule) x (p .effect) (goes τ) (p .applies) line .1) .invariant
-  where
-    control-left : (x : Rule) (ρ : State) (e : Effect) → Applies x ρ e → control-of ρ ≡ [] → ⊥
-    control-left x (state [] X E S L n) e l q = l
-    control-left x (state (i ∷ C) X E S L n) e l q = subst IsSome q tt
-      where
-        IsSome : List Item → Type 0
-        IsSome [] = ⊥
-        IsSome (i ∷ C) = Unit {0}
 
 pub reach-invariant : (a : Passed) (r : ℕ) (budget : ℕ) (first : State) → Invariant a r first (first-history r) →
     (n : ℕ) (σ : State) (h : History) → Reach budget first r n σ h → Invariant a r σ h

@@ -48,6 +48,12 @@ fn choices() {
 }
 
 #[test]
+fn functions() {
+    let tally = family(Family::Functions, 200);
+    reaches(&tally, &[0, 1, 2, 10, 14, 20, 21, 22, 30], 5);
+}
+
+#[test]
 fn limits() {
     let tally = family(Family::Limits, 300);
     reaches(&tally, &[0, 1, 2, 6, 20, 30, 33, 34, 35, 36], 10);

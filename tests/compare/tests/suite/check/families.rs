@@ -47,6 +47,12 @@ fn choices() {
 }
 
 #[test]
+fn functions() {
+    let tally = family(Family::Functions, 6_000);
+    reaches(&tally, &[0, 5, 10, 11, 12, 14, 22], 10);
+}
+
+#[test]
 fn limits() {
     let tally = family(Family::Limits, 2_000);
     reaches(&tally, &[0, 2, 6, 22], 50);

@@ -42,6 +42,11 @@ fn choices() {
 }
 
 #[test]
+fn functions() {
+    reaches(&family(Family::Functions, 200), &[0, 1, 2, 10, 14, 30], 1);
+}
+
+#[test]
 fn limits() {
     reaches(&family(Family::Limits, 200), &[0, 1, 2, 6, 33, 34, 35, 36], 3);
 }

@@ -48,6 +48,12 @@ fn choices() {
 }
 
 #[test]
+fn functions() {
+    let tally = family(Family::Functions, 400);
+    reaches(&tally, &[0, 5, 10, 11, 14, 30], 5);
+}
+
+#[test]
 fn limits() {
     let tally = family(Family::Limits, 600);
     reaches(&tally, &[0, 2, 6, 30, 33, 34, 35, 36], 20);

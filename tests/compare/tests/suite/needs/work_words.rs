@@ -1,0 +1,95 @@
+//! The work words after each answer, for slices of many lengths: 22 touches nothing, and
+//! every other answer, 40 too, leaves the first 8,192 words 0 and the rest as they were.
+
+use crate::helpers::*;
+use compare::engine;
+use compare::guarded::Guarded;
+use compare::needs::{self, reply_of};
+use second::build::*;
+use second::encode;
+use second::engine::WORK_WORDS;
+use second::generate::limits::{near_a_limit, with_nodes};
+use second::generate::random::Random;
+use second::needs::{Needs, EFFORT};
+use second::tree::*;
+use second::Refusal;
+
+/// So many functions each of which calls the one before it twice.
+fn doubling(count: Name) -> Command {
+    let once = |name: Name| call(name, vec![]);
+    let function = |name: Name| {
+        let twice = || cseq(once(name - 1), once(name - 1));
+        let command = if name == 1 { assign(0, num(1)) } else { twice() };
+        bind_abs(name, &[], block(bind(63, num(0)), command))
+    };
+    (1..=count).rev().fold(once(count), |command, name| blk(function(name), command))
+}
+
+/// An image for each answer, and some for which many work words are used.
+fn images() -> Vec<Vec<u32>> {
+    let random = &mut Random::new(9);
+    let mut all: Vec<_> = papers_images().into_iter().map(|(_, image, _)| image).collect();
+    all.extend((0..20).map(|_| encode(&near_a_limit(random))));
+    all.extend([
+        vec![],
+        vec![0, 16],
+        vec![0, 17],
+        vec![1, 0, 99, 0],
+        vec![1, 0, 2, 2],
+        vec![1, 0, 15, 0],
+        image(0, (0..64).fold(boo(true), |operand, _| not(operand))),
+        image(0, id(0)),
+        image(0, sum(num(1), boo(true))),
+        image(1, blk(bind(1, num(0)), call(1, vec![]))),
+        image(1, blk(dseq(bind(1, num(0)), bind(1, num(0))), assign(0, num(0)))),
+        encode(&with_nodes(2_000)),
+        image(1, doubling(17)),
+        image(1, doubling(50)),
+        image(1, doubling(5)),
+    ]);
+    all
+}
+
+#[test]
+fn each_answer_with_each_length() {
+    let random = &mut Random::new(3);
+    let lengths =
+        [0, 1, WORK_WORDS / 2, WORK_WORDS - 1, WORK_WORDS, WORK_WORDS + 1, 3 * WORK_WORDS];
+    for image in images() {
+        for length in lengths {
+            let found = needs::compare(&image, length, random)
+                .unwrap_or_else(|difference| panic!("{difference}"));
+            let too_few = Needs::Refused(Refusal::whole(22));
+            assert_eq!(found == too_few, length < WORK_WORDS, "work of {length} words");
+        }
+    }
+}
+
+#[test]
+fn every_length_near_enough_words() {
+    let random = &mut Random::new(4);
+    for length in WORK_WORDS - 40..WORK_WORDS + 40 {
+        let found = needs::compare(&CALCULATOR, length, random)
+            .unwrap_or_else(|difference| panic!("{difference}"));
+        assert_eq!(found.refusal().is_some(), length < WORK_WORDS, "work of {length} words");
+    }
+}
+
+/// What an earlier call left, or anything else in the work words, changes no answer.
+#[test]
+fn what_the_work_words_hold_changes_nothing() {
+    let random = &mut Random::new(5);
+    for image in images() {
+        let expected = reply_of(second::needs(&image, WORK_WORDS, EFFORT)).expect("it is known");
+        for fill in [0, 1, u64::MAX, 1 << 63, u64::from(u32::MAX)] {
+            let before = vec![fill; WORK_WORDS + 9];
+            let mut after = before.clone();
+            after[..WORK_WORDS].fill(0);
+            let mut work = Guarded::holding(&before, random);
+            for _ in 0..2 {
+                assert_eq!(engine::needs(&image, work.slice_mut()), expected);
+                assert_eq!(work.fault("the work slice", &after), None);
+            }
+        }
+    }
+}
