@@ -1,16 +1,16 @@
 -- The needs alone: 22 first, then the image, then 40; and the figures of the tree that was loaded.
-use Prim.Native.Nat.{ℕ, suc, _<_, _≤_}
+use Prim.Native.Nat.{ℕ, _<_, _≤_}
 use mathlib.Core.Path.{_≡_, refl, sym, ap, _∙_, subst}
-use mathlib.Core.Bool.{Bool, true, false, cond}
+use mathlib.Core.Bool.{true, false}
 use mathlib.Core.List.{List}
 use native.Mathlib.Omega.{arith}
-use lib.Dec.{T, ltb, ltb→lt, lt→ltb}
+use lib.Dec.{ltb, ltb→lt, lt→ltb}
 use lib.ListN.{length}
 use Rattle.rules.specs.proofs.Basics.{true-test, false-test}
 use Rattle.rules.specs.paper.Refusals.{refusal-number}
 use Rattle.rules.specs.paper.Limits.{most-nodes, most-registers, most-steps, work-words}
 use Rattle.rules.specs.paper.Tree.{Root}
-use Rattle.rules.specs.paper.Needs.{control, values, cells, bindings, routine-need, has-loop}
+use Rattle.rules.specs.paper.Needs.{control, values, cells, bindings, routine-need}
 use Rattle.rules.specs.paper.Needs as Rules
 use Rattle.rules.specs.paper.Engine.{Checked, turned-back, passed, check-image, cleared, figures-of, needs-answer, needs}
 use Rattle.rules.specs.claims.Listing.{root-nodes}
@@ -20,7 +20,7 @@ use Rattle.reader.specs.Put.{KeptBeyond}
 use Rattle.reader.specs.Stored.{StoredRoot, root-expression, root-command, root-absent, RootAt}
 use Rattle.reader.specs.StoredLaws.{same-root}
 use Rattle.reader.specs.StandingLaws.{expression-root, command-root}
-use Rattle.estimator.specs.Figures.{stopped, figures}
+use Rattle.estimator.specs.Figures.{stopped}
 use Rattle.estimator.specs.Entries.{WritesEntriesFrom}
 use Rattle.estimator.specs.Answers.{RoutineNeeds, LoopFound}
 use Rattle.estimator.specs.declared.figures.Need.{Need}
@@ -28,7 +28,7 @@ use Rattle.estimator.proofs.EntryLaws.{entries-nodes}
 use Rattle.loader.specs.Answers.{LoadAnswer}
 use Rattle.loader.specs.declared.Loaded.{Loaded}
 use Rattle.loader.specs.declared.Loaded.the-variants as Load
-use Rattle.loader.proofs.LoadLaws.{beyond-then, drop-same}
+use Rattle.loader.proofs.LoadLaws.{drop-same}
 use Rattle.calls.specs.Needs.{needs-reply, SmallRoom, SmallTree, EstimatedAs}
 use Rattle.calls.specs.declared.Estimated.{Estimated}
 use Rattle.calls.specs.declared.Estimated.the-variants.{Figures, Open, Refused}

@@ -2,7 +2,7 @@
 use Prim.Native.Nat.{ℕ}
 use mathlib.Core.Path.{_≡_}
 use Rattle.rules.specs.paper.Refusals.{refusal-number}
-use Rattle.rules.specs.paper.Engine.{MostSteps, given, left-open, NeedsAnswer, figures, no-figures}
+use Rattle.rules.specs.paper.Engine.{given, left-open, NeedsAnswer, figures, no-figures}
 use Rattle.engine.specs.declared.NeedsReply.{NeedsReply}
 
 abbrev pub needs-refusal : NeedsAnswer → ℕ

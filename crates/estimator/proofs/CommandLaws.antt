@@ -1,25 +1,24 @@
 -- Commands by the kind of their node: what stands there, and its figures from its parts'. Entries that are written in between leave the
 -- nodes as they were.
-use Prim.Native.Nat.{ℕ, zero, suc, _+_, _<_, _≤_}
+use Prim.Native.Nat.{ℕ, suc, _+_, _<_, _≤_}
 use mathlib.Core.Path.{_≡_, refl, sym, ap, _∙_, subst}
-use mathlib.Core.List.{List, [], _∷_, _++_}
+use mathlib.Core.List.{List, _++_}
 use native.Mathlib.Omega.{arith}
-use lib.ListN.{length, getD}
-use Rattle.rules.specs.paper.Limits.{most-nodes}
-use Rattle.rules.specs.paper.Tree.{Expression, Command, Assign, Loop, CSeq, block, Call, Cond, Block, Blk, Declaration}
-use Rattle.rules.specs.paper.Needs.{Needs, expression-need, cells-left, bindings-left, command-need, block-need, declaration-need, names-given}
+use lib.ListN.{getD}
+use Rattle.rules.specs.paper.Tree.{Expression, Command, Assign, Loop, CSeq, block, Call, Cond, Blk, Declaration}
+use Rattle.rules.specs.paper.Needs.{Needs, expression-need, cells-left, bindings-left, command-need, block-need, names-given}
 use Rattle.reader.specs.KindNumbers.{assign-number, loop-number, cseq-number, blk-number, call-number, conditional-number}
 use Rattle.reader.specs.Pack.{packed-kind, packed-end}
-use Rattle.reader.specs.Stored.{kind-is, StoredExpression, StoredCommand, StoredBlock, StoredDeclaration}
+use Rattle.reader.specs.Stored.{kind-is, StoredExpression, StoredCommand, StoredDeclaration}
 use Rattle.reader.specs.Stored as Stored
 use Rattle.reader.specs.StoredLaws.{same-command, same-declaration}
-use Rattle.reader.specs.StandingLaws.{after-node, expression-low, expression-on, expression-end, command-low, command-on, command-end, declaration-low, declaration-on, declaration-end}
+use Rattle.reader.specs.StandingLaws.{after-node, expression-on, expression-end, command-on, command-end, declaration-on, declaration-end}
 use Rattle.estimator.specs.Figures.{stopped, figures, raised, larger-of, unary-figures, tested-figures, sequence-figures, scoped-figures}
 use Rattle.estimator.specs.Entries.{WritesEntriesFrom, NamesAt}
-use Rattle.estimator.specs.Answers.{SomeExpression, SomeCommand, SomeCall, SomeDeclaration, ExpressionNeeds, CallNeeds, CommandNeeds, DeclaredAs, DeclarationNeeds}
+use Rattle.estimator.specs.Answers.{SomeExpression, SomeCommand, SomeCall, SomeDeclaration, ExpressionNeeds, CallNeeds, CommandNeeds, DeclarationNeeds}
 use Rattle.estimator.specs.declared.figures.Need.{Need}
 use Rattle.estimator.specs.declared.commands.Declared.{Declared}
-use Rattle.estimator.proofs.FigureLaws.{Are, over-of, either-of, unary-law, tested-law, sequence-law, scoped-law}
+use Rattle.estimator.proofs.FigureLaws.{over-of, either-of, unary-law, tested-law, sequence-law, scoped-law}
 use Rattle.estimator.proofs.EntryLaws.{entries-nodes, names-kept}
 use Rattle.estimator.proofs.DeclarationSizes.{declaration-cells, declaration-bindings}
 

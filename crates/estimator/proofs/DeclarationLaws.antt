@@ -1,16 +1,16 @@
 -- Declarations by the kind of their node: what stands there, its figures from its parts', and the names that it gives.
-use Prim.Native.Nat.{ℕ, zero, suc, _+_, _<_, _≤_}
+use Prim.Native.Nat.{ℕ, suc, _+_, _<_, _≤_}
 use mathlib.Core.Path.{_≡_, refl, sym, ap, _∙_, subst}
-use mathlib.Core.List.{List, [], _∷_, _++_}
+use mathlib.Core.List.{List, _∷_, _++_}
 use native.Mathlib.Omega.{arith}
 use lib.ListN.{length, getD}
-use Rattle.rules.specs.paper.Limits.{most-nodes, names, most-parameters}
+use Rattle.rules.specs.paper.Limits.{most-nodes, names}
 use Rattle.rules.specs.proofs.Basics.{append-assoc}
-use Rattle.rules.specs.paper.Tree.{Expression, Formal, Command, block, Block, Declaration, Bind, DSeq, Bound, plain, Ref, Abs}
-use Rattle.rules.specs.paper.Needs.{NameNeed, Needs, nothing, push-step, expression-need, over-formals, cells-left, bindings-left, bound-need, command-need, block-need, declaration-need, names-given, bound-function}
+use Rattle.rules.specs.paper.Tree.{Expression, Formal, block, Block, Declaration, Bind, DSeq, Bound, plain, Ref, Abs}
+use Rattle.rules.specs.paper.Needs.{Needs, nothing, push-step, expression-need, over-formals, cells-left, bindings-left, bound-need, command-need, block-need, declaration-need, names-given, bound-function}
 use Rattle.reader.specs.KindNumbers.{dseq-number, ref-number, abs-number}
 use Rattle.reader.specs.Pack.{packed-kind, packed-end, packed-operand}
-use Rattle.reader.specs.Stored.{HasWord, kind-is, operand-is, StoredExpression, StoredFormals, no-formals, one-formal, StoredCommand, StoredBlock, StoredDeclaration, StoredBound}
+use Rattle.reader.specs.Stored.{kind-is, operand-is, StoredExpression, StoredFormals, no-formals, one-formal, StoredCommand, StoredBlock, StoredDeclaration, StoredBound}
 use Rattle.reader.specs.Stored as Stored
 use Rattle.reader.specs.StoredLaws.{same-expression, same-command, same-declaration}
 use Rattle.reader.specs.StandingLaws.{after-node, expression-low, expression-on, declaration-on, declaration-end, block-low, block-on, formals-on}
@@ -20,7 +20,7 @@ use Rattle.estimator.specs.Entries.{HasEntry, WritesEntriesFrom, KeptEnt
 use Rattle.estimator.specs.Answers.{SomeExpression, SomeFormals, SomeCommand, SomeDeclaration, ExpressionNeeds, CommandNeeds, FormalsNamed, DeclaredAs, DeclarationNeeds}
 use Rattle.estimator.specs.declared.figures.Need.{Need}
 use Rattle.estimator.specs.declared.commands.Declared.{Declared}
-use Rattle.estimator.proofs.FigureLaws.{Are, are, unary-law, scoped-law}
+use Rattle.estimator.proofs.FigureLaws.{unary-law, scoped-law}
 use Rattle.estimator.proofs.EntryLaws.{entries-nodes, entries-same, names-kept}
 use Rattle.estimator.proofs.DeclarationSizes.{declaration-cells, declaration-bindings}
 

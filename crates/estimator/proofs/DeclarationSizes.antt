@@ -1,5 +1,4 @@
 -- A declaration makes cells and bindings and leaves none before its block is left: the most of each are those that it leaves.
-use Prim.Native.Nat.{ℕ, _+_, max}
 use mathlib.Core.Path.{_≡_, refl}
 use mathlib.Core.List.{_++_}
 use native.Mathlib.Omega.{arith}

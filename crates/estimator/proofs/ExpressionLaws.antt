@@ -1,16 +1,16 @@
 -- Expressions by the kind of their node: what stands there, and its figures from its children's.
-use Prim.Native.Nat.{ℕ, zero, suc, _+_, _-_, _<_, _≤_}
-use mathlib.Core.Path.{_≡_, refl, sym, ap, _∙_, subst}
+use Prim.Native.Nat.{ℕ, suc, _+_, _-_, _<_, _≤_}
+use mathlib.Core.Path.{_≡_, sym, ap, _∙_, subst}
 use mathlib.Core.List.{List, [], _∷_}
 use native.Mathlib.Omega.{arith}
 use lib.ListN.{length, getD}
 use Rattle.rules.specs.paper.Limits.{most-nodes, most-parameters}
 use Rattle.rules.specs.paper.Tree.{Expression}
-use Rattle.rules.specs.paper.Needs.{sizes, over, in-turn, expression-need, actuals-need}
+use Rattle.rules.specs.paper.Needs.{sizes, over, expression-need, actuals-need}
 use Rattle.reader.specs.Pack.{packed-kind, packed-end}
 use Rattle.reader.specs.Stored.{kind-is, StoredExpression, num, boo, id, deref, valref, binary, negation, StoredActuals, no-actuals, one-actual}
-use Rattle.reader.specs.StandingLaws.{after-node, operator-above, operator-below, operator-low, expression-low, expression-on, expression-end, actuals-on}
-use Rattle.estimator.specs.Figures.{stopped, figures, numbers, one-step, raised, both-in-turn, unary-figures, binary-figures}
+use Rattle.reader.specs.StandingLaws.{after-node, operator-above, operator-below, operator-low, expression-low, expression-on, expression-end}
+use Rattle.estimator.specs.Figures.{stopped, numbers, one-step, raised, both-in-turn, unary-figures, binary-figures}
 use Rattle.estimator.specs.Answers.{SomeExpression, SomeActuals, ExpressionNeeds, ActualsNeed}
 use Rattle.estimator.specs.declared.figures.Need.{Need}
 use Rattle.estimator.proofs.FigureLaws.{over-of, turn-of, last-of, unary-law, binary-law}

@@ -1,5 +1,5 @@
 -- The code's figures are the rules' needs, stopped: each way to put needs together gives what the definition gives.
-use Prim.Native.Nat.{ℕ, suc, _+_, _≤_, min, max}
+use Prim.Native.Nat.{ℕ, _≤_}
 use mathlib.Core.Path.{_≡_, refl, sym, ap, _∙_, subst}
 use native.Mathlib.Omega.{arith}
 use mathlib.Core.List.{List, [], _∷_}

@@ -1,12 +1,12 @@
 -- A Call's need from its actuals' and its function's, and the Formals' names.
-use Prim.Native.Nat.{ℕ, zero, suc, _+_, _-_, _*_, _/_, _%_, _<_, _≤_}
-use mathlib.Core.Path.{_≡_, refl, sym, ap, _∙_, subst}
-use mathlib.Core.List.{List, [], _∷_}
+use Prim.Native.Nat.{ℕ, suc, _+_, _-_, _/_, _%_, _<_, _≤_}
+use mathlib.Core.Path.{_≡_, sym, ap, _∙_, subst}
+use mathlib.Core.List.{List, _∷_}
 use native.Mathlib.Omega.{arith}
 use lib.ListN.{length, getD}
 use Rattle.rules.specs.paper.Limits.{most-nodes, names, most-parameters}
-use Rattle.rules.specs.paper.Tree.{Formal, Expression, Command, Call}
-use Rattle.rules.specs.paper.Needs.{NameNeed, Needs, nothing, need-of, over-formals, command-need}
+use Rattle.rules.specs.paper.Tree.{Formal, Expression, Call}
+use Rattle.rules.specs.paper.Needs.{Needs, nothing, need-of, over-formals, command-need}
 use Rattle.reader.specs.Pack.{packed-operand}
 use Rattle.reader.specs.Stored.{operand-is, StoredActuals, StoredFormals, no-formals, one-formal, StoredCommand, call}
 use Rattle.reader.specs.StoredLaws.{same-formals}

@@ -1,16 +1,16 @@
 -- The whole routine: its root by the kind of node 0, the registers, and whether a Loop is among its nodes.
 use Prim.Native.Nat.{ℕ, zero, suc, _+_, _<_, _≤_}
-use mathlib.Core.Path.{_≡_, refl, sym, ap, _∙_, subst}
+use mathlib.Core.Path.{_≡_, refl, sym, ap, _∙_}
 use mathlib.Core.Bool.{Bool, true, false, cond, _||_}
-use mathlib.Core.List.{List, [], _∷_}
+use mathlib.Core.List.{List}
 use mathlib.Core.Logic.{_⊎_, inl, inr, ⊎-elim}
 use native.Mathlib.Omega.{arith}
 use lib.Dec.{eqb}
-use lib.ListN.{length, getD}
-use Rattle.rules.specs.paper.Limits.{most-nodes, most-registers}
+use lib.ListN.{getD}
+use Rattle.rules.specs.paper.Limits.{most-registers}
 use Rattle.rules.specs.paper.Tree.{Expression, Formal, Command, Block, Declaration, Bound, Root}
 use Rattle.rules.specs.paper.Tree as Tree
-use Rattle.rules.specs.paper.Needs.{NameNeed, Needs, nothing, need-of, register-needs, root-need, routine-need, is-loop, some-command, some-in-block, some-in-declaration, some-in-bound, some-in-root, has-loop}
+use Rattle.rules.specs.paper.Needs.{nothing, need-of, register-needs, root-need, routine-need, is-loop, some-command, some-in-block, some-in-declaration, some-in-bound, some-in-root, has-loop}
 use Rattle.reader.specs.KindNumbers.{assign-number, loop-number}
 use Rattle.reader.specs.Pack.{packed-kind}
 use Rattle.reader.specs.Stored.{HasWord, kind-is, StoredExpression, StoredActuals, no-actuals, one-actual, StoredFormals, no-formals, one-formal, StoredCommand, StoredBlock, StoredDeclaration, StoredBound, StoredRoot, root-expression, root-command, root-absent, RootAt}

@@ -1,7 +1,7 @@
 -- The names in scope as the work words hold them: for each node that binds a name a row, with the pointer of the row before it, from word
 -- `rows-from` on, and two words with its need, from `needs-from` on. A pointer is one more than its row's node; pointer 0 stands for the
 -- registers, whose names have no need.
-use Prim.Native.Nat.{ℕ, suc, _+_, _*_, _-_, _/_, _%_, _<_, _≤_}
+use Prim.Native.Nat.{ℕ, suc, _+_, _*_, _-_, _<_, _≤_}
 use mathlib.Core.Path.{_≡_}
 use mathlib.Core.List.{List, _∷_}
 use lib.ListN.{length, getD}

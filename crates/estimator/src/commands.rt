@@ -1,7 +1,6 @@
 // Commands and declarations.
 ghost use Prim.Native.Nat.{_≤_};
 ghost use lib.ListN.{length};
-ghost use Rattle.rules.specs.paper.Limits.{most-parameters};
 ghost use Rattle.rules.specs.paper.Needs.{Needs};
 ghost use Rattle.estimator.specs.Entries.{entries-end, WritesEntriesFrom, NamesAt};
 ghost use Rattle.estimator.specs.Answers.{SomeFormals, SomeCall, SomeCommand, SomeDeclaration, FormalsNamed, CallNeeds, CommandNeeds, DeclarationNeeds};

@@ -4,7 +4,6 @@ mod expressions;
 pub mod figures;
 mod names;
 
-ghost use mathlib.Core.Path.{_≡_};
 ghost use Prim.Native.Nat.{_≤_};
 ghost use lib.ListN.{length};
 ghost use Rattle.rules.specs.paper.Limits.{most-nodes, most-registers};

@@ -1,5 +1,4 @@
 // The names in scope: a row for each node that binds one, and the need of its function, or none.
-ghost use mathlib.Core.Path.{_≡_};
 ghost use Prim.Native.Nat.{_≤_, _<_};
 ghost use lib.ListN.{length};
 ghost use Rattle.rules.specs.paper.Limits.{most-nodes, names};

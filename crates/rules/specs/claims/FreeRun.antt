@@ -1,9 +1,9 @@
 -- The free runs, and what is claimed of the figures of Needs.antt (document 02, request 4): they are the most over all free runs, every run
 -- of the engine is a free run, and where they are within the limits 33 to 36 hold nowhere in it. This file names the automaton's
 -- definitions and nothing of the proofs, which stand in proofs/needs.
-use Prim.Native.Nat.{ℕ, zero, suc, _+_, _*_, _≤_}
+use Prim.Native.Nat.{ℕ, suc, _+_, _*_, _≤_}
 use mathlib.Core.Path.{_≡_}
-use mathlib.Core.Bool.{Bool, true, false}
+use mathlib.Core.Bool.{Bool, false}
 use mathlib.Core.List.{List, [], _∷_}
 use lib.Dec.{T}
 use lib.IntN.{ℤ}

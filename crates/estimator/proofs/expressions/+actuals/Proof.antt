@@ -1,5 +1,5 @@
 -- The proof of `actuals`, which calls itself for the later ones. The measure is how many are left.
-use Prim.Native.Nat.{_+_, _-_}
+use Prim.Native.Nat.{_-_}
 use mathlib.Core.Path.{sym, ap, _∙_, subst}
 use native.Mathlib.Omega.{arith}
 use denote.Ref.{now}

@@ -1,6 +1,6 @@
 -- The proof of `expression`, which calls itself: the node's kind says which expression stands there, and its figures follow from its
 -- children's. The measure is the number of nodes from this one on.
-use Prim.Native.Nat.{_+_, _-_}
+use Prim.Native.Nat.{_-_}
 use mathlib.Core.Path.{sym, subst}
 use native.Mathlib.Omega.{arith}
 use denote.Ref.{now}

@@ -1,15 +1,15 @@
 -- The step at a Call: it puts the stretches of its actuals, last to first, and that of its mark in the place of its own.
 use Prim.Native.Nat.{ℕ, zero, suc, _+_, _≤_}
-use mathlib.Core.Path.{_≡_, refl, sym, ap, _∙_, subst}
+use mathlib.Core.Path.{_≡_, refl, sym, ap, _∙_}
 use mathlib.Core.List.{List, [], _∷_, _++_}
 use mathlib.Core.Logic.{inl}
 use native.Mathlib.Omega.{arith}
 use lib.ListN.{length, drop}
 use Rattle.rules.specs.proofs.Basics.{append-assoc}
-use Rattle.rules.specs.paper.Tree.{Expression, Command, Call}
-use Rattle.rules.specs.paper.States.{Environment, Store, Entry, Item, expression, command, mark, call-mark, State, state}
+use Rattle.rules.specs.paper.Tree.{Expression, Call}
+use Rattle.rules.specs.paper.States.{Environment, Store, Entry, Item, expression, command, mark, call-mark, state}
 use Rattle.rules.specs.paper.Rules.{put-actuals}
-use Rattle.rules.specs.paper.Needs.{Figure, control, Sizes, sizes, Need, nothing, over, in-turn, expression-need, actuals-need, need-of, function-need, command-need}
+use Rattle.rules.specs.paper.Needs.{control, sizes, Need, nothing, over, in-turn, expression-need, actuals-need, need-of, function-need, command-need}
 use Rattle.rules.specs.proofs.needs.Outlook.{environment-needs, Sketch, a-value, sketches, Outlook, outlook, with-values, Stretch, once, through, lies, ahead}
 use Rattle.rules.specs.proofs.needs.StretchLaws.{by-figure, none-ahead, Spreads, spread-then, spread-end, spread-over, Replaced, unfolds}
 use Rattle.rules.specs.proofs.needs.NodeStretches.{own-node}

@@ -1,29 +1,27 @@
 -- The figures are the most over all free runs: nothing exceeds them (1), and each is reached (2).
 use Prim.Native.Nat.{ℕ, zero, suc, _+_, _≤_, _<_}
 use mathlib.Core.Path.{_≡_, refl, sym, ap, _∙_, subst}
-use mathlib.Core.Bool.{Bool, true, false}
+use mathlib.Core.Bool.{Bool}
 use mathlib.Core.List.{List, [], _∷_}
 use mathlib.Core.Logic.{_⊎_, inl, inr, ⊎-elim}
 use native.Mathlib.Omega.{arith}
 use lib.IntN.{ℤ}
-use lib.ListN.{length}
 use Rattle.rules.specs.paper.Tree.{Command, Root}
 use Rattle.rules.specs.paper.Tree as Tree
 use Rattle.rules.specs.paper.Checker.{Passed}
-use Rattle.rules.specs.paper.States.{Environment, Item, Entry, Store, State, state, control-of}
-use Rattle.rules.specs.paper.Needs.{Figure, control, Sizes, sizes, Need, nothing, over, expression-need, command-need, NameNeed, Needs, register-needs, root-need, routine-need, is-loop, has-loop}
+use Rattle.rules.specs.paper.States.{Item, State, state, control-of}
+use Rattle.rules.specs.paper.Needs.{Figure, control, sizes, Need, nothing, over, expression-need, command-need, Needs, register-needs, root-need, routine-need, is-loop, has-loop}
 use Rattle.rules.specs.paper.Engine.{check-image, passed, root-control, register-environment, register-store, start}
-use Rattle.rules.specs.claims.Image.{Meets}
 use Rattle.rules.specs.claims.Claim.{AllInRange}
 use Rattle.rules.specs.claims.History.{first-history}
-use Rattle.rules.specs.claims.FreeRun.{FreeStep, FreeReach, at-start, one-more, size, NothingExceeds, SizeReached, StepsReached, EachReached}
+use Rattle.rules.specs.claims.FreeRun.{FreeReach, at-start, one-more, NothingExceeds, SizeReached, StepsReached, EachReached}
 use Rattle.rules.specs.proofs.checking.ImageExact.{check-exact}
 use Rattle.rules.specs.proofs.running.RunEnds.{store-count}
 use Rattle.rules.specs.proofs.running.WholeRun.{start-invariant}
 use Rattle.rules.specs.proofs.needs.Outlook.{bindable-need, environment-needs, sketches, Outlook, outlook, Stretch, once, through, lies, ahead, ahead-of}
 use Rattle.rules.specs.proofs.needs.StretchLaws.{by-figure, AllAtMost, none-ahead, one-ahead, Target, this, later, shown, shown-size}
 use Rattle.rules.specs.proofs.needs.NodeStretches.{covers, expression-least, command-least}
-use Rattle.rules.specs.proofs.needs.TestStretches.{KeptWithin, Nearer, in-first, in-second, still-ahead}
+use Rattle.rules.specs.proofs.needs.TestStretches.{Nearer, in-first, in-second, still-ahead}
 use Rattle.rules.specs.proofs.needs.StepKinds.{Ordered, none-left, other}
 use Rattle.rules.specs.proofs.needs.FreeStates.{FreeInvariant, free-invariant}
 use Rattle.rules.specs.proofs.needs.Without.{Without, step-without, start-without}

@@ -1,6 +1,6 @@
 -- The states of free runs of a passed image: the invariant of the whole run holds in them, and every step is of one of the three kinds.
-use Prim.Native.Nat.{ℕ, zero, suc, _+_, _-_, _≤_}
-use mathlib.Core.Path.{_≡_, refl, sym, ap, _∙_, subst}
+use Prim.Native.Nat.{ℕ, _+_, _-_}
+use mathlib.Core.Path.{_≡_, refl, subst}
 use mathlib.Core.Bool.{Bool, true, false}
 use mathlib.Core.List.{List, [], _∷_}
 use native.Mathlib.Omega.{arith}
@@ -11,14 +11,14 @@ use Rattle.rules.specs.paper.Tree.{Arithmetic, arithmetic, Expression, C
 use Rattle.rules.specs.paper.Integers.{in-range, number}
 use Rattle.rules.specs.paper.Checker.{Scope, Passed}
 use Rattle.rules.specs.paper.States.{integer, truth, Environment, Store, remove, Entry, val, node, Item, mark, operator-mark, loop-mark, conditional-mark, leave-mark, State, state, control-of, bindings-of}
-use Rattle.rules.specs.paper.Rules.{Rule, Effect, goes, Applies}
+use Rattle.rules.specs.paper.Rules.{goes, Applies}
 use Rattle.rules.specs.paper.Rules as Rules
 use Rattle.rules.specs.paper.Fire.{after-test, chosen}
 use Rattle.rules.specs.claims.History.{History}
 use Rattle.rules.specs.claims.FreeRun.{FreeStep, by-rule, any-integer, either-turn, either-command}
-use Rattle.rules.specs.proofs.running.World.{World, ValueTyped, truth-typed, value-typed}
-use Rattle.rules.specs.proofs.running.Stores.{StoreTyped, store-length, Grown, same, grown, remove-grown, world-made}
-use Rattle.rules.specs.proofs.running.Continuation.{StackShape, ControlTyped, operator-mark-typed, loop-mark-typed, conditional-mark-typed, leave-mark-typed, arithmetic-typed, ValuesTyped, value-on, testing-on, frame-on, open-states, Invariant}
+use Rattle.rules.specs.proofs.running.World.{World, truth-typed, value-typed}
+use Rattle.rules.specs.proofs.running.Stores.{StoreTyped, store-length, Grown, same, grown, remove-grown}
+use Rattle.rules.specs.proofs.running.Continuation.{StackShape, ControlTyped, operator-mark-typed, loop-mark-typed, conditional-mark-typed, leave-mark-typed, arithmetic-typed, ValuesTyped, value-on, frame-on, open-states, Invariant}
 use Rattle.rules.specs.proofs.running.MarkSteps.{arithmetic-next}
 use Rattle.rules.specs.proofs.running.WholeRun.{step-invariant}
 use Rattle.rules.specs.proofs.needs.StepKinds.{Ordered, Classified, LeavesCells, classified, integer-classified, turn-classified, choice-classified}

@@ -1,26 +1,24 @@
 -- From every state of a free run with control not empty some free step goes on, and it can be chosen so that what is ahead is met.
-use Prim.Native.Nat.{ℕ, zero, suc, _+_, _≤_, _<_}
+use Prim.Native.Nat.{ℕ, suc, _≤_}
 use mathlib.Core.Path.{_≡_, refl, sym, ap, _∙_, subst}
-use mathlib.Core.Bool.{Bool, true, false, _||_}
+use mathlib.Core.Bool.{Bool, true, false}
 use mathlib.Core.List.{List, [], _∷_, _++_}
-use mathlib.Core.Logic.{_⊎_, inl, inr, ⊎-elim}
 use native.Mathlib.Omega.{arith}
 use lib.IntN.{ℤ, pos}
-use lib.ListN.{length}
 use Rattle.rules.specs.paper.Tree.{Arithmetic, arithmetic, Loop, Cond}
 use Rattle.rules.specs.paper.Refusals.{Reason}
 use Rattle.rules.specs.paper.Integers.{Result, number, failed, compute}
 use Rattle.rules.specs.paper.Checker.{Passed}
-use Rattle.rules.specs.paper.States.{integer, truth, Environment, Store, Entry, val, node, Item, mark, operator-mark, State, state, control-of, values-of}
-use Rattle.rules.specs.paper.Rules.{Rule, Effect, goes, fails, Table, Applies, pushed}
+use Rattle.rules.specs.paper.States.{integer, Environment, Store, Entry, val, node, Item, mark, operator-mark, State, state, control-of, values-of}
+use Rattle.rules.specs.paper.Rules.{Rule, Effect, goes, fails, Table, pushed}
 use Rattle.rules.specs.paper.Rules as Rules
-use Rattle.rules.specs.paper.Needs.{Figure, Sizes, Need, is-loop, is-conditional, some-command}
+use Rattle.rules.specs.paper.Needs.{Figure, is-loop, is-conditional, some-command}
 use Rattle.rules.specs.claims.FreeRun.{FreeStep, by-rule, any-integer, either-turn, either-command}
 use Rattle.rules.specs.proofs.running.Progress.{Progress}
 use Rattle.rules.specs.proofs.running.WholeRun.{progress}
-use Rattle.rules.specs.proofs.needs.Outlook.{Stretch, once, through, ahead-of}
-use Rattle.rules.specs.proofs.needs.StretchLaws.{AllAtMost, one-ahead, at-most-append, at-most-more, Target, this, later, target-append, target-behind, through-append, shown, Met, now, next, onward, Replaced}
-use Rattle.rules.specs.proofs.needs.TestStretches.{KeptWithin, Nearer, in-first, in-second, still-ahead, OneWay, turn-within, turn-nearer, choice-within, choice-nearer, choice-counts, choice-longest}
+use Rattle.rules.specs.proofs.needs.Outlook.{once, through, ahead-of}
+use Rattle.rules.specs.proofs.needs.StretchLaws.{AllAtMost, one-ahead, at-most-append, at-most-more, Target, this, later, target-append, target-behind, through-append, Met, now, next, onward, Replaced}
+use Rattle.rules.specs.proofs.needs.TestStretches.{KeptWithin, Nearer, in-first, in-second, still-ahead, turn-within, turn-nearer, choice-within, choice-nearer, choice-counts, choice-longest}
 use Rattle.rules.specs.proofs.needs.StepKinds.{StepKind, replacing, turning, choosing}
 use Rattle.rules.specs.proofs.needs.FreeStates.{FreeInvariant, free-classified}
 use Rattle.rules.specs.proofs.needs.Without.{WithoutValues, one-entry, Without}

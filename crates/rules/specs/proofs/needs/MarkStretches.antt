@@ -1,20 +1,20 @@
 -- The steps at leaves and marks: each takes its stretch off, but for a call's mark, which puts its function's Blk there. A Loop's and a
 -- Cond's mark stand in TestStretches.antt.
 use Prim.Native.Nat.{ℕ, zero, suc, _+_, _-_, _≤_}
-use mathlib.Core.Path.{_≡_, refl, sym, ap, _∙_, subst}
+use mathlib.Core.Path.{_≡_, refl, sym, ap, _∙_}
 use mathlib.Core.Bool.{Bool, true, false, cond}
 use mathlib.Core.List.{List, [], _∷_, _++_}
-use mathlib.Core.Option.{Option, none, some, Option·some-injective}
+use mathlib.Core.Option.{Option, some, Option·some-injective}
 use native.Mathlib.Omega.{arith}
 use lib.Dec.{eqb}
 use lib.ListN.{length, drop}
-use Rattle.rules.specs.proofs.Basics.{missing, append-assoc}
-use Rattle.rules.specs.paper.Tree.{Operator, Expression, Formal, Block, block}
-use Rattle.rules.specs.paper.States.{Value, location, Bindable, value, closure, Environment, empty, bound, lookup, join, Cell, Store, store-at, remove, Entry, bindable, name, node, environment, locations, val, Item, expression, command, abstraction, mark, operator-mark, not-mark, assign-mark, ref-mark, bind-mark, dseq-extend-mark, dseq-join-mark, extend-mark, leave-mark, call-mark, State, state}
+use Rattle.rules.specs.proofs.Basics.{missing}
+use Rattle.rules.specs.paper.Tree.{Operator, Formal, Block, block}
+use Rattle.rules.specs.paper.States.{Value, Bindable, value, closure, Environment, empty, bound, lookup, join, Cell, Store, store-at, remove, Entry, bindable, name, node, environment, locations, val, Item, command, mark, operator-mark, not-mark, assign-mark, ref-mark, bind-mark, dseq-extend-mark, dseq-join-mark, extend-mark, leave-mark, call-mark, state}
 use Rattle.rules.specs.paper.Rules.{Matched, match-formals}
-use Rattle.rules.specs.paper.Needs.{Figure, Sizes, sizes, Need, nothing, step, over, in-turn, NameNeed, Needs, need-of, over-formals, function-need, command-need, block-need}
-use Rattle.rules.specs.proofs.needs.Outlook.{bindable-need, environment-needs, Sketch, a-bindable, a-name, an-environment, a-location-set, sketches, Outlook, knowing, outlook, with-values, Stretch, once, lies, after, after-mark, ahead, ahead-of, stretches-of}
-use Rattle.rules.specs.proofs.needs.StretchLaws.{by-figure, Spreads, spread-next, spread-end, shown, Replaced, unfolds-into, grows, shrinks, settles}
+use Rattle.rules.specs.paper.Needs.{sizes, step, over, Needs, need-of, over-formals, function-need, command-need, block-need}
+use Rattle.rules.specs.proofs.needs.Outlook.{bindable-need, environment-needs, an-environment, sketches, Outlook, knowing, outlook, with-values, once, lies, after-mark, ahead, stretches-of}
+use Rattle.rules.specs.proofs.needs.StretchLaws.{by-figure, spread-next, spread-end, Replaced, unfolds-into, grows, shrinks, settles}
 use Rattle.rules.specs.proofs.needs.NodeStretches.{covers, block-least, same-outlook}
 
 -- ---- What names carry.

@@ -1,15 +1,14 @@
 -- The steps at nodes: each puts the stretches of what it puts on control in the place of its node's.
-use Prim.Native.Nat.{ℕ, zero, suc, _+_, _-_, _≤_}
-use mathlib.Core.Path.{_≡_, refl, sym, ap, _∙_, subst}
-use mathlib.Core.Bool.{Bool}
+use Prim.Native.Nat.{ℕ, suc, _+_, _-_, _≤_}
+use mathlib.Core.Path.{_≡_, refl, ap, _∙_}
 use mathlib.Core.List.{List, [], _∷_, _++_}
 use native.Mathlib.Omega.{arith}
 use lib.ListN.{length}
-use Rattle.rules.specs.paper.Tree.{Operator, Expression, Num, Boo, Id, DeRef, ValRef, Binary, Not, Formal, Command, Assign, Loop, CSeq, block, Call, Cond, Block, Blk, Declaration, Bind, DSeq, Bound, plain, Ref, Abs}
-use Rattle.rules.specs.paper.States.{Value, Environment, Store, Entry, val, name, node, locations, Item, expression, command, declaration, reference, abstraction, mark, operator-mark, not-mark, assign-mark, loop-mark, conditional-mark, ref-mark, bind-mark, dseq-extend-mark, dseq-join-mark, extend-mark, leave-mark, bound-item, State, state}
-use Rattle.rules.specs.paper.Needs.{Figure, control, Sizes, sizes, Need, step, over, in-turn, either, push-step, expression-need, Needs, cells-left, bindings-left, bound-need, tested-need, command-need, block-need, declaration-need, names-given, bound-function}
-use Rattle.rules.specs.proofs.needs.Outlook.{environment-needs, Sketch, an-environment, sketches, Outlook, knowing, outlook, Stretch, once, lies, after, ahead, ahead-of, stretches-of}
-use Rattle.rules.specs.proofs.needs.StretchLaws.{by-figure, Spreads, spread-next, spread-end, Replaced, unfolds-into, unfolds-again, grows, shrinks, settles}
+use Rattle.rules.specs.paper.Tree.{Operator, Expression, Num, Boo, Id, DeRef, ValRef, Binary, Not, Command, Assign, Loop, CSeq, block, Call, Cond, Block, Blk, Declaration, Bind, DSeq, Bound, plain, Ref, Abs}
+use Rattle.rules.specs.paper.States.{Environment, Store, Entry, name, node, locations, Item, expression, command, declaration, reference, abstraction, mark, operator-mark, not-mark, assign-mark, loop-mark, conditional-mark, ref-mark, bind-mark, dseq-extend-mark, dseq-join-mark, extend-mark, leave-mark, bound-item, state}
+use Rattle.rules.specs.paper.Needs.{Figure, control, sizes, Need, step, over, in-turn, either, push-step, expression-need, Needs, cells-left, bindings-left, bound-need, tested-need, command-need, block-need, declaration-need, names-given, bound-function}
+use Rattle.rules.specs.proofs.needs.Outlook.{environment-needs, Sketch, an-environment, sketches, Outlook, knowing, outlook, once, lies, after, ahead, ahead-of, stretches-of}
+use Rattle.rules.specs.proofs.needs.StretchLaws.{by-figure, spread-next, spread-end, Replaced, unfolds-into, unfolds-again, grows, shrinks, settles}
 
 -- A node's own step finds it on control.
 pub own-node : (h : ℕ) (o : Outlook) (f : Figure) → lies h o f + sizes 1 0 0 0 f ≡ lies (suc h) o f

@@ -2,13 +2,12 @@
 -- entry gives a stretch of the run, with the most of each size in it and its steps. A state's size is among those of the stretches ahead
 -- of it, and a step puts other stretches in the place of the first (StretchLaws.antt, NodeStretches.antt, MarkStretches.antt).
 -- Names carry their function's need: an environment's are computed from its closures.
-use Prim.Native.Nat.{ℕ, zero, suc, _+_, _-_}
-use mathlib.Core.Bool.{Bool, true, false}
+use Prim.Native.Nat.{ℕ, suc, _+_, _-_}
 use mathlib.Core.List.{List, [], _∷_, _++_}
 use lib.ListN.{length, drop}
-use Rattle.rules.specs.paper.Tree.{Expression, Formal, Command, Assign, Loop, CSeq, block, Call, Cond, Block, Declaration}
-use Rattle.rules.specs.paper.States.{Bindable, value, closure, Environment, empty, bound, Store, Entry, bindable, name, node, environment, locations, Mark, operator-mark, not-mark, assign-mark, loop-mark, conditional-mark, ref-mark, bind-mark, dseq-extend-mark, dseq-join-mark, extend-mark, leave-mark, call-mark, Item, expression, command, declaration, reference, abstraction, mark, State, state}
-use Rattle.rules.specs.paper.Needs.{Figure, Sizes, sizes, Need, nothing, step, over, either, push-step, expression-need, NameNeed, Needs, need-of, over-formals, cells-left, bindings-left, bound-need, function-need, tested-need, command-need, block-need, declaration-need, names-given}
+use Rattle.rules.specs.paper.Tree.{Command, Assign, Loop, CSeq, block, Call, Cond}
+use Rattle.rules.specs.paper.States.{Bindable, value, closure, Environment, empty, bound, Entry, bindable, name, node, environment, locations, Mark, operator-mark, not-mark, assign-mark, loop-mark, conditional-mark, ref-mark, bind-mark, dseq-extend-mark, dseq-join-mark, extend-mark, leave-mark, call-mark, Item, expression, command, declaration, reference, abstraction, mark, State, state}
+use Rattle.rules.specs.paper.Needs.{Sizes, sizes, Need, nothing, step, over, either, push-step, expression-need, Needs, need-of, over-formals, cells-left, bindings-left, bound-need, function-need, tested-need, command-need, block-need, declaration-need, names-given}
 use Rattle.rules.specs.paper.Tree as Tree
 
 -- ---- The needs that an environment carries.

@@ -1,7 +1,7 @@
 -- The four room figures of a passed image are small: at most four for each node, and the registers. No function calls itself, so a call's
 -- need is that of nodes before it.
 use Prim.Native.Nat.{ℕ, zero, suc, _+_, _*_, _-_, _≤_}
-use mathlib.Core.Path.{_≡_, refl, sym, ap, _∙_, subst}
+use mathlib.Core.Path.{sym, subst}
 use mathlib.Core.Bool.{Bool, true, false, cond}
 use mathlib.Core.List.{List, [], _∷_, _++_}
 use native.Mathlib.Omega.{arith}
@@ -9,11 +9,7 @@ use lib.Dec.{eqb}
 use lib.ListN.{length}
 use Rattle.rules.specs.paper.Tree.{Expression, Formal, Command, Block, Declaration, Bind, Bound, Root}
 use Rattle.rules.specs.proofs.Basics.{append-assoc}
-use Rattle.rules.specs.paper.Limits.{most-nodes, most-registers}
-use Rattle.rules.specs.paper.Checker.{Passed}
-use Rattle.rules.specs.paper.Engine.{check-image, passed}
-use Rattle.rules.specs.paper.Needs.{Figure, control, values, cells, bindings, sizes, Need, nothing, over, in-turn, either, expression-need, actuals-need, NameNeed, Needs, need-of, over-formals, register-needs, cells-of-bound, cells-left, bindings-left, bound-need, function-need, tested-need, command-need, block-need, declaration-need, names-given, bound-function, root-need, routine-need}
-use Rattle.rules.specs.claims.Listing.{root-nodes}
+use Rattle.rules.specs.paper.Needs.{Figure, control, values, cells, bindings, Need, nothing, in-turn, expression-need, actuals-need, Needs, need-of, over-formals, register-needs, cells-of-bound, cells-left, bindings-left, bound-need, function-need, tested-need, command-need, block-need, declaration-need, names-given, bound-function, root-need, routine-need}
 use Rattle.rules.specs.claims.Shape.{ShapedExpression, ShapedFormal, Many, none-left, one-more, ShapedCommand, ShapedBlock, ShapedDeclaration, ShapedBound, ShapedRoot}
 use Rattle.rules.specs.claims.Shape as Shape
 use Rattle.rules.specs.claims.FreeRun.{FiguresSmall}

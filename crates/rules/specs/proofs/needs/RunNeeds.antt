@@ -1,26 +1,19 @@
 -- The engine's runs and the figures: every run is a free run (3), so no run passes a figure, and within the limits 33 to 36 hold nowhere.
 -- Without Loop and Cond a run that ends normally reaches each figure exactly (4).
-use Prim.Native.Nat.{ℕ, zero, suc, _+_, _≤_, _<_}
-use mathlib.Core.Path.{_≡_, refl, sym, ap, _∙_, subst}
-use mathlib.Core.Bool.{Bool, true, false}
-use mathlib.Core.List.{List, [], _∷_}
+use Prim.Native.Nat.{ℕ, suc, _+_, _≤_}
+use mathlib.Core.Path.{_≡_, sym, _∙_, subst}
 use mathlib.Core.Logic.{_⊎_, inl, inr, ⊎-elim}
 use native.Mathlib.Omega.{arith}
-use lib.Dec.{eqb}
-use lib.IntN.{ℤ}
-use lib.ListN.{length}
-use Rattle.rules.specs.paper.Tree.{Root}
-use Rattle.rules.specs.paper.Refusals.{Reason}
 use Rattle.rules.specs.paper.Checker.{Passed}
-use Rattle.rules.specs.paper.States.{Entry, State, control-of, values-of}
-use Rattle.rules.specs.paper.Rules.{Rule, Effect, goes, Applies}
+use Rattle.rules.specs.paper.States.{State, values-of}
+use Rattle.rules.specs.paper.Rules.{goes, Applies}
 use Rattle.rules.specs.paper.Run.{ended}
 use Rattle.rules.specs.paper.Needs.{Figure, control, values, cells, bindings, Need, routine-need, is-loop, is-conditional, has-loop, has-conditional}
-use Rattle.rules.specs.paper.Engine.{check-image, passed, start}
+use Rattle.rules.specs.paper.Engine.{start}
 use Rattle.rules.specs.claims.History.{History, Reach, at-start, step-made}
-use Rattle.rules.specs.claims.Claim.{ReasonHolds, budget-used, cells-full, bindings-full, values-full, control-full, AllInRange}
+use Rattle.rules.specs.claims.Claim.{ReasonHolds, budget-used, cells-full, bindings-full, values-full, control-full}
 use Rattle.rules.specs.claims.Ends.{EndsWell, normally}
-use Rattle.rules.specs.claims.FreeRun.{FreeStep, by-rule, FreeReach, one-more, size, RunIsFree, RunExceedsNothing, limits, room-reason, RoomSuffices, BudgetSuffices, SizeMet, ReachesExactly}
+use Rattle.rules.specs.claims.FreeRun.{by-rule, one-more, size, RunIsFree, RunExceedsNothing, limits, room-reason, RoomSuffices, BudgetSuffices, SizeMet, ReachesExactly}
 use Rattle.rules.specs.claims.FreeRun as FreeRun
 use Rattle.rules.specs.proofs.running.RunEnds.{run-ends}
 use Rattle.rules.specs.proofs.running.WholeRun.{rule-left}

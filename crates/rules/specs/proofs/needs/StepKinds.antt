@@ -1,21 +1,20 @@
 -- Every step of a free run is of one of three kinds: it replaces the first stretch ahead, or it is at a Loop's mark, or at a Cond's. With
 -- each goes that the live bindings a leaving goes back to are no more than there are.
-use Prim.Native.Nat.{ℕ, zero, suc, _+_, _-_, _≤_}
-use mathlib.Core.Path.{_≡_, refl, sym, ap, _∙_, subst}
+use Prim.Native.Nat.{ℕ, _-_, _≤_}
+use mathlib.Core.Path.{_≡_, refl, sym}
 use mathlib.Core.Bool.{Bool, true, false}
 use mathlib.Core.List.{List, [], _∷_}
-use mathlib.Core.Option.{Option, none, some}
+use mathlib.Core.Option.{none}
 use native.Mathlib.Omega.{arith}
 use lib.ListN.{length}
 use Rattle.rules.specs.proofs.Basics.{missing}
 use Rattle.rules.specs.paper.Tree.{Expression, Command, Loop, Cond, Bound, plain, Ref, Abs}
-use Rattle.rules.specs.paper.States.{truth, integer, Environment, Store, remove, Entry, val, node, environment, locations, Item, expression, command, mark, operator-mark, loop-mark, conditional-mark, leave-mark, bound-item, State, state, control-of, bindings-of}
+use Rattle.rules.specs.paper.States.{truth, integer, Environment, Store, remove, Entry, val, node, environment, locations, Item, command, mark, operator-mark, loop-mark, conditional-mark, leave-mark, bound-item, State, state, control-of, bindings-of}
 use Rattle.rules.specs.paper.Integers.{Result, number, failed, compute}
 use Rattle.rules.specs.paper.Rules.{Rule, Effect, goes, fails, Table, pushed, put-actuals}
 use Rattle.rules.specs.paper.Rules as Rules
 use Rattle.rules.specs.paper.Fire.{after-test, chosen}
 use Rattle.rules.specs.claims.History.{left-by-item}
-use Rattle.rules.specs.claims.FreeRun.{FreeStep, by-rule, any-integer, either-turn, either-command}
 use Rattle.rules.specs.proofs.needs.Outlook.{bindable-need, sketches, outlook, after, ahead}
 use Rattle.rules.specs.proofs.needs.StretchLaws.{Replaced}
 use Rattle.rules.specs.proofs.needs.NodeStretches.{binary-replaced, not-replaced, assign-replaced, conditional-replaced, cseq-replaced, block-replaced, loop-replaced, sequence-replaced, bind-replaced, reference-replaced, push-settles}

@@ -6,10 +6,10 @@ use mathlib.Core.List.{List, [], _∷_, _++_}
 use mathlib.Core.Logic.{_⊎_, inl, inr, ⊎-elim}
 use native.Mathlib.Omega.{arith}
 use lib.ListN.{length}
-use Rattle.rules.specs.paper.States.{Entry, State, state, control-of}
+use Rattle.rules.specs.paper.States.{Entry, State, state}
 use Rattle.rules.specs.paper.Needs.{Figure, control, values, cells, bindings, Sizes, sizes, Need, nothing, step, over, in-turn}
 use Rattle.rules.specs.claims.FreeRun.{size}
-use Rattle.rules.specs.proofs.needs.Outlook.{sketches, Outlook, outlook, Stretch, once, again, need-there, steps-through, through, lies, ahead-of}
+use Rattle.rules.specs.proofs.needs.Outlook.{sketches, outlook, Stretch, once, again, need-there, steps-through, through, lies, ahead-of}
 
 -- ---- Each of the four.
 

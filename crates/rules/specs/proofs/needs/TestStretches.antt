@@ -1,18 +1,18 @@
 -- The steps at the marks of Loop and Cond, whichever way the test falls: what is ahead then was ahead before. A most that is ahead before
 -- is met after one of the two ways, sooner.
-use Prim.Native.Nat.{ℕ, zero, suc, _+_, _≤_, _<_, max}
-use mathlib.Core.Path.{_≡_, refl, sym, ap, _∙_, subst}
+use Prim.Native.Nat.{ℕ, suc, _+_, _≤_, _<_, max}
+use mathlib.Core.Path.{_≡_, refl, sym, _∙_, subst}
 use mathlib.Core.Bool.{Bool, true, false}
-use mathlib.Core.List.{List, [], _∷_, _++_}
+use mathlib.Core.List.{List, _∷_}
 use mathlib.Core.Logic.{_⊎_, inl, inr, ⊎-elim}
 use native.Mathlib.Omega.{arith}
 use lib.ListN.{length}
 use Rattle.rules.specs.paper.Tree.{Expression, Command, Loop, Cond}
 use Rattle.rules.specs.paper.States.{truth, Environment, Store, Entry, val, node, Item, command, mark, loop-mark, conditional-mark, State, state}
 use Rattle.rules.specs.paper.Fire.{after-test, chosen}
-use Rattle.rules.specs.paper.Needs.{Figure, control, Sizes, sizes, Need, step, over, in-turn, either, tested-need, Needs, command-need}
-use Rattle.rules.specs.proofs.needs.Outlook.{environment-needs, bindable-need, sketches, Outlook, outlook, Stretch, once, again, need-there, through, lies, ahead, ahead-of}
-use Rattle.rules.specs.proofs.needs.StretchLaws.{by-figure, AllAtMost, none-ahead, one-ahead, Target, this, later, shown, larger}
+use Rattle.rules.specs.paper.Needs.{Figure, Sizes, sizes, Need, over, in-turn, either, tested-need, Needs, command-need}
+use Rattle.rules.specs.proofs.needs.Outlook.{environment-needs, sketches, Outlook, outlook, once, again, through, lies, ahead, ahead-of}
+use Rattle.rules.specs.proofs.needs.StretchLaws.{by-figure, AllAtMost, one-ahead, Target, this, later, shown, larger}
 use Rattle.rules.specs.proofs.needs.NodeStretches.{covers, command-least}
 
 no-size : (f : Figure) → sizes 0 0 0 0 f ≡ 0

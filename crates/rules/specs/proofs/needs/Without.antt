@@ -1,14 +1,14 @@
 -- A tree without some commands is run without them: no state of its free runs has one, on control, on the value stack or in a closure.
 use Prim.Native.Nat.{ℕ, zero, suc}
-use mathlib.Core.Path.{_≡_, refl, sym, ap, _∙_, subst}
+use mathlib.Core.Path.{_≡_, refl, subst}
 use mathlib.Core.Bool.{Bool, true, false, cond, _||_}
 use mathlib.Core.List.{List, [], _∷_}
-use mathlib.Core.Option.{Option, none, some, Option·some-injective}
+use mathlib.Core.Option.{Option, some, Option·some-injective}
 use lib.Dec.{eqb}
 use lib.IntN.{ℤ}
 use lib.ListN.{length}
 use Rattle.rules.specs.proofs.Basics.{missing}
-use Rattle.rules.specs.paper.Tree.{Expression, Formal, Command, Loop, CSeq, block, Cond, Block, Blk, Declaration, Bind, DSeq, Bound, plain, Ref, Abs, Root}
+use Rattle.rules.specs.paper.Tree.{Expression, Formal, Command, Loop, CSeq, block, Cond, Blk, Bound, plain, Ref, Abs, Root}
 use Rattle.rules.specs.paper.Tree as Tree
 use Rattle.rules.specs.paper.Integers.{Result, number, failed, compute}
 use Rattle.rules.specs.paper.States.{Value, integer, Bindable, value, closure, Environment, empty, bound, lookup, join, Store, Entry, bindable, name, node, environment, locations, val, Mark, bind-mark, dseq-extend-mark, dseq-join-mark, extend-mark, leave-mark, call-mark, Item, expression, command, declaration, reference, abstraction, mark, bound-item, State, state, control-of, values-of, environment-of}
