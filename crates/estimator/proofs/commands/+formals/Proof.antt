@@ -66,7 +66,7 @@ formals-formals-requires t c κs =
         omega (arith, start .pre .1 .0, kept .others .same-length),
         (
           omega arith,
-          (names-on _ _ _ _ left _ _ _ operand none kept (start .pre .1 .1 .0) (start .pre .1 .1 .1 .1) (start .pre .1 .1 .1 .0), later-formals _ _ _ _ left _ _ _ operand none kept (start .pre .1 .1 .1 .1)),
+          (names-on _ _ _ _ left _ _ _ operand none kept (omega (arith, start .pre .1 .1 .0)) (start .pre .1 .1 .1 .1) (start .pre .1 .1 .1 .0), later-formals _ _ _ _ left _ _ _ operand none kept (start .pre .1 .1 .1 .1)),
         ),
       ),
     )
@@ -82,7 +82,7 @@ formals-returns-2 t c =
     let operand = c .before .before .before .before .before .before .before .before .before .operand .ensures in
     let none = c .before .before .before .before .before .before .before .before .nothing .ensures in
     let inner = c .before .before .formals .ensures in
-    (formals-named _ _ _ _ left _ _ _ operand none kept (start .pre .1 .1 .0) _ _ (inner .0), entries-then (kept .others) (inner .1) (omega arith))
+    (formals-named _ _ _ _ left _ _ _ operand none kept (omega (arith, start .pre .1 .1 .0)) _ _ (inner .0), entries-then (kept .others) (inner .1) (omega arith))
 
 pub +formals-spec : {M : Type 1} → statement M
 +formals-spec = close μ-formals λ t. formals-lts.spec (formals-calls t)
