@@ -55,7 +55,7 @@ fn same_item(one: &ControlEntry, other: &ControlEntry) -> bool {
 }
 
 /// The same entry of V, or a value each.
-fn alike(one: &ValueEntry, other: &ValueEntry) -> bool {
+pub fn alike(one: &ValueEntry, other: &ValueEntry) -> bool {
     match (one, other) {
         (ValueEntry::Value(_), ValueEntry::Value(_)) => true,
         (ValueEntry::Name(one), ValueEntry::Name(other)) => one == other,

@@ -12,8 +12,8 @@ use second::encode::{bytes_of, register_bytes};
 use second::engine::{Answer, Outcome, Reply, MOST_BUDGET, WORK_WORDS};
 use second::generate::random::Random;
 use second::generate::Case;
-use second::needs::{Figures, Needs, Steps};
-use second::state::Heights;
+use second::needs::Needs;
+pub use second::needs::{given, open};
 use second::tree::{Place, Root};
 use second::Refusal;
 
@@ -122,18 +122,6 @@ pub fn needs_are(image: &[u32], expected: Needs) {
     needed(image);
     let reply = engine::needs(image, &mut vec![1; WORK_WORDS]);
     assert_eq!(Some(reply), needs::reply_of(expected));
-}
-
-/// Figures without a Loop.
-pub fn given(control: usize, values: usize, cells: usize, bindings: usize, steps: u64) -> Needs {
-    let room = Heights { cells, bindings, values, control };
-    Needs::Figures(Figures { room, steps: Steps::Most(steps) })
-}
-
-/// Figures with a Loop.
-pub fn open(control: usize, values: usize, cells: usize, bindings: usize) -> Needs {
-    let room = Heights { cells, bindings, values, control };
-    Needs::Figures(Figures { room, steps: Steps::Open })
 }
 
 pub fn needs_refused(number: u32, place: Place) -> Needs {

@@ -3,9 +3,9 @@
 use second::build::image;
 use second::bytes;
 use second::engine::{check, needs, run, Answer, Outcome, Reply, MOST_BUDGET, WORK_WORDS};
+pub use second::needs::{given, open};
 use second::needs::{Figures, Needs, Steps, EFFORT};
 use second::refusal::TOO_MANY_STEPS;
-use second::state::Heights;
 use second::tree::{Place, Root};
 use second::Refusal;
 
@@ -105,18 +105,6 @@ pub fn within(some: Figures, most: Figures) -> bool {
         (some, most) => some == most,
     };
     raised == most.room && steps
-}
-
-/// Figures without a Loop.
-pub fn given(control: usize, values: usize, cells: usize, bindings: usize, steps: u64) -> Needs {
-    let room = Heights { cells, bindings, values, control };
-    Needs::Figures(Figures { room, steps: Steps::Most(steps) })
-}
-
-/// Figures with a Loop.
-pub fn open(control: usize, values: usize, cells: usize, bindings: usize) -> Needs {
-    let room = Heights { cells, bindings, values, control };
-    Needs::Figures(Figures { room, steps: Steps::Open })
 }
 
 pub fn needs_refused(number: u32, place: Place) -> Needs {

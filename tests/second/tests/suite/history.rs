@@ -1,6 +1,7 @@
 //! What is known of a run besides its state: what cells were made with, and the
 //! states that nodes came to the top in. Each step is held against it.
 
+use second::alike::alike;
 use second::node::Node;
 use second::state::*;
 use second::store::{Location, LocationSet, Value};
@@ -202,14 +203,6 @@ fn same_entries(some: &[ValueEntry], others: &[ValueEntry]) -> bool {
 fn same_entry(one: &ValueEntry, other: &ValueEntry) -> bool {
     match (one, other) {
         (ValueEntry::Value(one), ValueEntry::Value(other)) => one == other,
-        (ValueEntry::Name(one), ValueEntry::Name(other)) => one == other,
-        (ValueEntry::Loop(one), ValueEntry::Loop(other)) => one.place == other.place,
-        (ValueEntry::Cond(one), ValueEntry::Cond(other)) => one.place == other.place,
-        (ValueEntry::Locations(one), ValueEntry::Locations(other)) => one.same(other),
-        (ValueEntry::Environment(one), ValueEntry::Environment(other)) => one.same(other),
-        (ValueEntry::Closure(one), ValueEntry::Closure(other)) => {
-            one.abs.place == other.abs.place && one.environment.same(&other.environment)
-        }
-        _ => false,
+        _ => alike(one, other),
     }
 }
