@@ -46,7 +46,6 @@ int main(int count, char **arguments)
     test_no_routine();
     test_choice();
     test_needs();
-    test_needs_refused();
     test_needed_steps();
     test_names();
     test_chance((size_t)images, seed);

@@ -1,5 +1,7 @@
 /*
- * Every refusal by its name with its place, which of two comes first, and the limits from both sides.
+ * Every refusal by its name with its place, which of two comes first, and the limits from both sides,
+ * for a run; each check and each needs of the same image are held to it (calls.c). Refusal 40 is in
+ * needs_steps.c.
  * The steps and heights of the towers are those of the second interpreter.
  */
 #include "tests.h"
@@ -82,6 +84,9 @@ static const Faulty faulty[] = {
      {{PI_KIND_BLK, 0}, {PI_KIND_BIND, 1}, {PI_KIND_NUM, 1}, {PI_KIND_ASSIGN, 1},
       {PI_KIND_NUM, 1}}},
     {"register called", PI_REFUSAL_CALL, 0, 1, {{PI_KIND_CALL, PI_OPERAND(0, 0)}}},
+    {"name unbound in a function that is never called", PI_REFUSAL_UNBOUND, 6, 9,
+     {{PI_KIND_BLK, 0}, {PI_KIND_BIND, 1}, {PI_KIND_ABS, 0}, {PI_KIND_BLK, 0}, {PI_KIND_BIND, 2},
+      {PI_KIND_NUM, 1}, {PI_KIND_CALL, PI_OPERAND(1, 0)}, {PI_KIND_ASSIGN, 0}, {PI_KIND_NUM, 1}}},
 };
 
 static void test_faulty_trees(void)
@@ -139,6 +144,7 @@ static void test_host_faults(void)
 {
     static const Node nodes[] = {{PI_KIND_ASSIGN, 0}, {PI_KIND_NUM, 1}};
     static const uint64_t budgets[] = {PI_MOST_BUDGET + 1, UINT64_C(1) << 32, UINT64_MAX};
+    static uint64_t work[PI_WORK_WORDS];
     Call call, fine;
     PiCheckReply checked;
     size_t index;
@@ -186,6 +192,10 @@ static void test_host_faults(void)
     checked = pi_check(NULL, 0, NULL, 0);
     if (checked.refusal != PI_REFUSAL_WORK)
         test_fault("check answers %" PRIu64, checked.refusal);
+    if (pi_needs(NULL, 0, NULL, 0).refusal != PI_REFUSAL_WORK)
+        test_fault("needs does not answer 22");
+    if (pi_needs(NULL, 0, work, PI_WORK_WORDS).refusal != PI_REFUSAL_LENGTH)
+        test_fault("needs does not answer 1");
     if (pi_run(NULL, 0, NULL, 0, 0, NULL, 0).refusal != PI_REFUSAL_WORK)
         test_fault("run does not answer 22");
     test_end();

@@ -112,66 +112,70 @@ static size_t most(size_t one, size_t other)
     return one < other ? other : one;
 }
 
-/* Blks below Blks to depth 64, the deepest levels of the checker: in the command or the declaration. */
-static void deep_commands(Tree *tree)
+/* Adds these nodes so many times. */
+static void add(Tree *tree, size_t times, const Node *nodes, size_t count)
 {
-    size_t level;
+    size_t index;
 
-    tree_clear(tree, 1);
-    for (level = 1; level < PI_MOST_DEPTH - 1; level += 1) {
-        tree_add(tree, PI_KIND_BLK, 0);
-        tree_add(tree, PI_KIND_BIND, 1);
-        tree_add(tree, PI_KIND_NUM, 0);
+    for (; times > 0; times -= 1) {
+        for (index = 0; index < count; index += 1)
+            tree_add(tree, nodes[index].kind, nodes[index].operand);
     }
-    tree_add(tree, PI_KIND_ASSIGN, 0);
-    tree_add(tree, PI_KIND_NUM, 7);
 }
 
+#define ADD(times, ...) \
+    do { \
+        static const Node nodes[] = {__VA_ARGS__}; \
+        add(tree, times, nodes, sizeof nodes / sizeof nodes[0]); \
+    } while (0)
+#define SET {PI_KIND_ASSIGN, 0}, {PI_KIND_NUM, 7}
+#define NUMBER {PI_KIND_BIND, 1}, {PI_KIND_NUM, 0}
+
+/* Blks below Blks to depth 62, the deepest levels of the checker: in the command or the declaration. */
+static void deep_commands(Tree *tree)
+{
+    tree_clear(tree, 1);
+    ADD(PI_MOST_DEPTH - 2, {PI_KIND_BLK, 0}, NUMBER);
+    ADD(1, SET);
+}
+
+/* Blk, Bind, Abs, and again Blk: three levels a turn. */
 static void deep_functions(Tree *tree)
 {
-    size_t level;
-
-    /* Blk, Bind, Abs, and again Blk: three levels a turn. */
     tree_clear(tree, 1);
-    for (level = 0; level < 20; level += 1) {
-        tree_add(tree, PI_KIND_BLK, 0);
-        tree_add(tree, PI_KIND_BIND, 1);
-        tree_add(tree, PI_KIND_ABS, 0);
-    }
-    tree_add(tree, PI_KIND_BLK, 0);
-    tree_add(tree, PI_KIND_BIND, 1);
-    tree_add(tree, PI_KIND_NUM, 0);
-    for (level = 0; level < 21; level += 1) {
-        tree_add(tree, PI_KIND_ASSIGN, 0);
-        tree_add(tree, PI_KIND_NUM, 7);
-    }
+    ADD(20, {PI_KIND_BLK, 0}, {PI_KIND_BIND, 1}, {PI_KIND_ABS, 0});
+    ADD(1, {PI_KIND_BLK, 0}, NUMBER);
+    ADD(21, SET);
 }
 
 /* Loops below Loops to depth 62, and CSeqs below CSeqs in the first command, and two levels below. */
 static void deep_loops(Tree *tree)
 {
-    size_t level;
-
     tree_clear(tree, 1);
-    for (level = 1; level < PI_MOST_DEPTH - 1; level += 1) {
-        tree_add(tree, PI_KIND_LOOP, 0);
-        tree_add(tree, PI_KIND_BOO, 0);
-    }
-    tree_add(tree, PI_KIND_ASSIGN, 0);
-    tree_add(tree, PI_KIND_NUM, 7);
+    ADD(PI_MOST_DEPTH - 2, {PI_KIND_LOOP, 0}, {PI_KIND_BOO, 0});
+    ADD(1, SET);
 }
 
 static void deep_sequences(Tree *tree)
 {
-    size_t level;
+    tree_clear(tree, 1);
+    ADD(PI_MOST_DEPTH - 2, {PI_KIND_CSEQ, 0});
+    ADD(PI_MOST_DEPTH - 1, SET);
+}
+
+/* Blks below Blks to depth 62, below them a Call, and its 8 actuals at depth 64. */
+static void deep_calls(Tree *tree)
+{
+    uint32_t formal;
 
     tree_clear(tree, 1);
-    for (level = 1; level < PI_MOST_DEPTH - 1; level += 1)
-        tree_add(tree, PI_KIND_CSEQ, 0);
-    for (level = 0; level < PI_MOST_DEPTH - 1; level += 1) {
-        tree_add(tree, PI_KIND_ASSIGN, 0);
-        tree_add(tree, PI_KIND_NUM, 7);
-    }
+    ADD(1, {PI_KIND_BLK, 0}, {PI_KIND_BIND, 2}, {PI_KIND_ABS, PI_MOST_COUNT});
+    for (formal = 0; formal < PI_MOST_COUNT; formal += 1)
+        tree_add(tree, PI_KIND_FORMAL, PI_OPERAND(3 + formal, PI_CODE_INTEGER));
+    ADD(1, {PI_KIND_BLK, 0}, NUMBER, SET);
+    ADD(PI_MOST_DEPTH - 3, {PI_KIND_BLK, 0}, NUMBER);
+    ADD(1, {PI_KIND_CALL, PI_OPERAND(2, PI_MOST_COUNT)});
+    ADD(PI_MOST_COUNT, {PI_KIND_NUM, 7});
 }
 
 /* Conds below Conds to depth 62, in the second command or in the first, and two levels below them. */
@@ -200,8 +204,7 @@ static void deep_second_declarations(Tree *tree)
     }
     tree_add(tree, PI_KIND_BIND, 61);
     tree_add(tree, PI_KIND_ID, 60);
-    tree_add(tree, PI_KIND_ASSIGN, 0);
-    tree_add(tree, PI_KIND_NUM, 7);
+    ADD(1, SET);
 }
 
 static void deep_first_declarations(Tree *tree)
@@ -216,8 +219,7 @@ static void deep_first_declarations(Tree *tree)
         tree_add(tree, PI_KIND_BIND, level);
         tree_add(tree, PI_KIND_ID, level - 1);
     }
-    tree_add(tree, PI_KIND_ASSIGN, 0);
-    tree_add(tree, PI_KIND_NUM, 7);
+    ADD(1, SET);
 }
 
 static void deep_expressions(Tree *tree)
@@ -236,8 +238,9 @@ static void fits(const char *what, size_t taken, size_t figure)
 void test_stack(void)
 {
     static void (*const shapes[])(Tree *) = {
-        deep_commands, deep_functions, deep_loops, deep_sequences, deep_second_choices,
-        deep_first_choices, deep_second_declarations, deep_first_declarations, deep_expressions,
+        deep_commands, deep_functions, deep_loops, deep_sequences, deep_calls,
+        deep_second_choices, deep_first_choices, deep_second_declarations, deep_first_declarations,
+        deep_expressions,
     };
     static Tree tree;
     size_t taken[5] = {0, 0, 0, 0, 0};

@@ -23,9 +23,8 @@ void test_choice(void);
 size_t choice_calls(void);
 Call choice_call(size_t index, uint32_t *image);
 
-/* Needs of routines that are listed by hand; that are refused; and of a given number of steps. */
+/* Needs of routines that are listed by hand, and of a given number of steps. */
 void test_needs(void);
-void test_needs_refused(void);
 void test_needed_steps(void);
 
 /* Needs of routines made by chance that reach just to a limit, or just beyond. */

@@ -3,14 +3,13 @@
 //! byte and word beside the slices.
 
 use crate::byte_calls::ByteCall;
-use crate::check::said;
 use crate::difference::Difference;
 use crate::engine::{self, CheckReply, RunReply};
 use crate::guarded::Guarded;
-use crate::run::in_full;
+use crate::lent::{replies, Lent};
 use crate::{check, run};
 use second::bytes::words;
-use second::engine::{settle_work, Answer, Reply};
+use second::engine::{Answer, Reply};
 use second::generate::random::Random;
 
 /// What came of a run on bytes.
@@ -42,20 +41,16 @@ pub fn compare_check_with(
 ) -> Result<Answer, Box<Difference>> {
     let ByteCall { image, work_length, .. } = call;
     let answer = second::bytes::check(image, *work_length);
-    let bytes = Guarded::holding(image, random);
-    let mut work = Guarded::junk(*work_length, random);
-    let mut work_after = work.made().to_vec();
-    settle_work(&mut work_after, answer.refusal());
+    let mut lent = Lent::new(image, *work_length, random);
 
-    let reply = check(bytes.slice(), work.slice_mut());
+    let reply = check(lent.image.slice(), lent.work.slice_mut());
 
     let mut faults = Vec::new();
     if reply != check::reply_of(answer) {
-        faults.push(format!("the second interpreter says {}", said(check::reply_of(answer))));
-        faults.push(format!("the engine says             {}", said(reply)));
+        let expected = check::in_full(check::reply_of(answer));
+        faults.extend(replies(expected, check::in_full(reply)));
     }
-    faults.extend(bytes.fault("the image", image));
-    faults.extend(work.fault("the work slice", &work_after));
+    faults.extend(lent.faults(answer.refusal()));
     if faults.is_empty() {
         return Ok(answer);
     }
@@ -79,22 +74,17 @@ pub fn compare_run_with(
     let ByteCall { image, registers: starts, budget, work_length } = call;
     let mut after = starts.clone();
     let reply = second::bytes::run(image, &mut after, *budget, *work_length);
-    let bytes = Guarded::holding(image, random);
+    let mut lent = Lent::new(image, *work_length, random);
     let mut registers = Guarded::holding(starts, random);
-    let mut work = Guarded::junk(*work_length, random);
-    let mut work_after = work.made().to_vec();
-    settle_work(&mut work_after, reply.refusal());
 
-    let answered = run(bytes.slice(), registers.slice_mut(), *budget, work.slice_mut());
+    let said = run(lent.image.slice(), registers.slice_mut(), *budget, lent.work.slice_mut());
 
     let mut faults = Vec::new();
-    if answered != run::reply_of(reply) {
-        faults.push(format!("the second interpreter says {}", in_full(run::reply_of(reply))));
-        faults.push(format!("the engine says             {}", in_full(answered)));
+    if said != run::reply_of(reply) {
+        faults.extend(replies(run::in_full(run::reply_of(reply)), run::in_full(said)));
     }
     faults.extend(registers.fault("the register bytes", &after));
-    faults.extend(bytes.fault("the image", image));
-    faults.extend(work.fault("the work slice", &work_after));
+    faults.extend(lent.faults(reply.refusal()));
     if faults.is_empty() {
         return Ok(RanOnBytes { reply, registers: after });
     }

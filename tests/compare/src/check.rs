@@ -3,8 +3,8 @@
 
 use crate::difference::Difference;
 use crate::engine::{self, CheckReply, COMMAND};
-use crate::guarded::Guarded;
-use second::engine::{settle_work, Answer};
+use crate::lent::{replies, Lent};
+use second::engine::Answer;
 use second::generate::random::Random;
 use second::Refusal;
 
@@ -46,20 +46,15 @@ pub fn compare_with(
     random: &mut Random,
 ) -> Result<Answer, Box<Difference>> {
     let answer = second::check(image, work_length);
-    let words = Guarded::holding(image, random);
-    let mut work = Guarded::junk(work_length, random);
-    let mut work_after = work.made().to_vec();
-    settle_work(&mut work_after, answer.refusal());
+    let mut lent = Lent::new(image, work_length, random);
 
-    let reply = check(words.slice(), work.slice_mut());
+    let reply = check(lent.image.slice(), lent.work.slice_mut());
 
     let mut faults = Vec::new();
     if reply != reply_of(answer) {
-        faults.push(format!("the second interpreter says {}", said(reply_of(answer))));
-        faults.push(format!("the engine says             {}", said(reply)));
+        faults.extend(replies(in_full(reply_of(answer)), in_full(reply)));
     }
-    faults.extend(words.fault("the image", image));
-    faults.extend(work.fault("the work slice", &work_after));
+    faults.extend(lent.faults(answer.refusal()));
     if faults.is_empty() {
         return Ok(answer);
     }
@@ -68,7 +63,7 @@ pub fn compare_with(
 }
 
 /// A reply as the paper would say it, with its numbers.
-pub fn said(reply: CheckReply) -> String {
+pub fn in_full(reply: CheckReply) -> String {
     let CheckReply { refusal, value, place } = reply;
     let words = match (refusal, value, place) {
         (0, COMMAND, 0) => "command".to_string(),

@@ -7,8 +7,7 @@
 
 use crate::difference::Difference;
 use crate::engine::{self, NeedsReply};
-use crate::guarded::Guarded;
-use second::engine::settle_work;
+use crate::lent::{replies, Lent};
 use second::generate::random::Random;
 use second::needs::{Figures, Needs, Steps, EFFORT, MOST_STEPS};
 use second::refusal::TOO_MANY_STEPS;
@@ -101,12 +100,9 @@ pub fn compare_with(
     random: &mut Random,
 ) -> Result<Needs, Box<Difference>> {
     let expected = second::needs(image, work_length, EFFORT);
-    let words = Guarded::holding(image, random);
-    let mut work = Guarded::junk(work_length, random);
-    let mut work_after = work.made().to_vec();
-    settle_work(&mut work_after, expected.refusal());
+    let mut lent = Lent::new(image, work_length, random);
 
-    let reply = needs(words.slice(), work.slice_mut());
+    let reply = needs(lent.image.slice(), lent.work.slice_mut());
 
     let mut faults = Vec::new();
     if !says(reply, expected) {
@@ -114,11 +110,9 @@ pub fn compare_with(
             Needs::AtLeast(figures) => format!("at least {}", in_full(reply_with(figures))),
             known => in_full(reply_of(known).expect("it is known")),
         };
-        faults.push(format!("the second interpreter says {known}"));
-        faults.push(format!("the engine says             {}", in_full(reply)));
+        faults.extend(replies(known, in_full(reply)));
     }
-    faults.extend(words.fault("the image", image));
-    faults.extend(work.fault("the work slice", &work_after));
+    faults.extend(lent.faults(expected.refusal()));
     if faults.is_empty() {
         return Ok(expected);
     }

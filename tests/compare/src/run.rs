@@ -4,7 +4,8 @@
 use crate::difference::Difference;
 use crate::engine::{self, RunReply, CELL, NONE, NUMBER, TRUTH};
 use crate::guarded::Guarded;
-use second::engine::{settle_work, Outcome, Reply, MOST_BUDGET};
+use crate::lent::{replies, Lent};
+use second::engine::{Outcome, Reply, MOST_BUDGET};
 use second::generate::random::Random;
 use second::generate::Case;
 use second::store::Location;
@@ -67,22 +68,17 @@ pub fn compare_with(
     let Case { image, registers: starts, budget, work_length } = case;
     let mut after = starts.clone();
     let reply = second::run(image, &mut after, *budget, *work_length);
-    let words = Guarded::holding(image, random);
+    let mut lent = Lent::new(image, *work_length, random);
     let mut registers = Guarded::holding(&as_words(starts), random);
-    let mut work = Guarded::junk(*work_length, random);
-    let mut work_after = work.made().to_vec();
-    settle_work(&mut work_after, reply.refusal());
 
-    let said = run(words.slice(), registers.slice_mut(), *budget, work.slice_mut());
+    let said = run(lent.image.slice(), registers.slice_mut(), *budget, lent.work.slice_mut());
 
     let mut faults = Vec::new();
     if said != reply_of(reply) {
-        faults.push(format!("the second interpreter says {}", in_full(reply_of(reply))));
-        faults.push(format!("the engine says             {}", in_full(said)));
+        faults.extend(replies(in_full(reply_of(reply)), in_full(said)));
     }
     faults.extend(registers.fault("the register slice", &as_words(&after)));
-    faults.extend(words.fault("the image", image));
-    faults.extend(work.fault("the work slice", &work_after));
+    faults.extend(lent.faults(reply.refusal()));
     if faults.is_empty() {
         return Ok(Ran { reply, registers: after });
     }

@@ -145,6 +145,18 @@ pub fn refused(number: u32, place: Place) -> Answer {
 /// Words 5 0, 6 1 4 1 1, 0 5 0 3 2: 5 × (3 + 2).
 pub const CALCULATOR: [u32; 12] = [5, 0, 6, 1, 4, 1, 1, 0, 5, 0, 3, 2];
 
+/// [`CALCULATOR`] as a difference shows it.
+pub const CALCULATOR_SHOWN: &str = "\
+the image as a tree:
+registers 0
+   0 Mul
+   1   Num 5
+   2   Sum
+   3     Num 3
+   4     Num 2
+the image in hexadecimal:
+5 0 6 1 4 1 1 0 5 0 3 2";
+
 /// The image of a case of the paper.
 pub fn papers_image(wanted: &str) -> Vec<u32> {
     let case = papers_images().into_iter().find(|(case, ..)| *case == wanted);

@@ -2,9 +2,11 @@
 //! engine and one for the program, a file a subject.
 
 mod bytes;
+mod changes;
 mod check;
 mod command_line;
 mod helpers;
+mod image_calls;
 mod needs;
 mod program;
 mod run;

@@ -1,7 +1,8 @@
 //! The comparison itself: functions that are wrong on purpose stand in the
 //! engine's place, and each is found out and shown for what it is.
 
-use crate::helpers::{papers_images, CALCULATOR};
+use crate::helpers::{papers_images, CALCULATOR, CALCULATOR_SHOWN};
+use crate::image_calls::work_words_count;
 use compare::check::{compare_with, reply_of};
 use compare::engine::CheckReply;
 use second::engine::WORK_WORDS;
@@ -50,16 +51,9 @@ fn a_wrong_answer_is_shown_with_the_tree_and_the_words() {
 check of 12 words, work slice of 8192 words
   the second interpreter says code 0 (refusal 0, value 0, place 0)
   the engine says             refused 11 at 2 (refusal 11, value 0, place 2)
-the image as a tree:
-registers 0
-   0 Mul
-   1   Num 5
-   2   Sum
-   3     Num 3
-   4     Num 2
-the image in hexadecimal:
-5 0 6 1 4 1 1 0 5 0 3 2";
-    assert_eq!(found(refuse, &CALCULATOR, WORK_WORDS), expected);
+";
+    let shown = format!("{expected}{CALCULATOR_SHOWN}");
+    assert_eq!(found(refuse, &CALCULATOR, WORK_WORDS), shown);
 }
 
 #[test]
@@ -108,38 +102,6 @@ fn each_number_of_the_reply_counts() {
 }
 
 #[test]
-fn a_work_word_left_uncleared_is_found() {
-    for index in [0, 1, WORK_WORDS / 2, WORK_WORDS - 1] {
-        let check = |image: &[u32], work: &mut [u64]| {
-            let word = work[index];
-            let reply = right(image, work);
-            work[index] = word;
-            reply
-        };
-        let text = found(check, &CALCULATOR, WORK_WORDS);
-        assert!(text.contains(&format!("the work slice: word {index} is ")), "{text}");
-        assert!(text.contains(" and must be 0; words that differ: 1"), "{text}");
-    }
-}
-
-#[test]
-fn a_word_behind_the_first_8192_is_found() {
-    for index in [WORK_WORDS, WORK_WORDS + 9] {
-        let check = |image: &[u32], work: &mut [u64]| {
-            work[index] = 0;
-            right(image, work)
-        };
-        let text = found(check, &CALCULATOR, WORK_WORDS + 10);
-        assert!(text.contains(&format!("the work slice: word {index} is 0 and")), "{text}");
-    }
-}
-
-#[test]
-fn a_refusal_22_that_touches_a_word_is_found() {
-    let check = |image: &[u32], work: &mut [u64]| {
-        work.fill(0);
-        right(image, work)
-    };
-    let text = found(check, &CALCULATOR, WORK_WORDS - 1);
-    assert!(text.contains("words that differ: 8191"), "{text}");
+fn work_words_left_or_touched_are_found() {
+    work_words_count(&right, |call, image, length| found(call, image, length));
 }

@@ -3,9 +3,9 @@
 //! as they were.
 
 use crate::helpers::*;
+use crate::image_calls::{contents_change_nothing, WORK_LENGTHS};
 use compare::check::reply_of;
 use compare::engine;
-use compare::guarded::Guarded;
 use second::build::*;
 use second::encode;
 use second::engine::{Answer, WORK_WORDS};
@@ -58,21 +58,9 @@ fn every_answer() -> Vec<(Answer, Vec<u32>)> {
 
 #[test]
 fn each_answer_with_each_length() {
-    let lengths = [
-        0,
-        1,
-        2,
-        WORK_WORDS / 2,
-        WORK_WORDS - 1,
-        WORK_WORDS,
-        WORK_WORDS + 1,
-        WORK_WORDS + 1_000,
-        3 * WORK_WORDS,
-        1 << 16,
-    ];
     let random = &mut Random::new(3);
     for (answer, image) in every_answer() {
-        for length in lengths {
+        for length in WORK_LENGTHS {
             let expected = if length < WORK_WORDS { refused(22, 0) } else { answer };
             assert_eq!(agreed_at(&image, length, random), expected, "work of {length} words");
         }
@@ -88,21 +76,8 @@ fn every_length_near_enough_words() {
     }
 }
 
-/// What an earlier call left, or anything else in the work words, changes no
-/// answer; neither do words that are all 0 or all 1 bits.
 #[test]
 fn what_the_work_words_hold_changes_nothing() {
-    let random = &mut Random::new(5);
-    for fill in [0, 1, u64::MAX, 1 << 63, u64::from(u32::MAX)] {
-        let before = vec![fill; WORK_WORDS + 9];
-        let mut after = before.clone();
-        after[..WORK_WORDS].fill(0);
-        for (answer, image) in every_answer() {
-            let mut work = Guarded::holding(&before, random);
-            for _ in 0..2 {
-                assert_eq!(engine::check(&image, work.slice_mut()), reply_of(answer));
-                assert_eq!(work.fault("the work slice", &after), None);
-            }
-        }
-    }
+    let expected = every_answer().into_iter().map(|(answer, image)| (reply_of(answer), image));
+    contents_change_nothing(engine::check, expected);
 }

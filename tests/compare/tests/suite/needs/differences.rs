@@ -1,7 +1,8 @@
 //! The comparison itself: functions that are wrong on purpose stand in the engine's place,
 //! and each is found out and shown for what it is.
 
-use crate::helpers::{papers_images, CALCULATOR};
+use crate::helpers::{papers_images, CALCULATOR, CALCULATOR_SHOWN};
+use crate::image_calls::work_words_count;
 use compare::engine::NeedsReply;
 use compare::needs::{compare_with, reply_of, says};
 use second::build::*;
@@ -51,16 +52,9 @@ needs of 12 words, work slice of 8192 words
 bindings 0, steps 7, open 0
   the engine says             refused: refusal 11, place 2, control 0, values 0, cells 0, \
 bindings 0, steps 0, open 0
-the image as a tree:
-registers 0
-   0 Mul
-   1   Num 5
-   2   Sum
-   3     Num 3
-   4     Num 2
-the image in hexadecimal:
-5 0 6 1 4 1 1 0 5 0 3 2";
-    assert_eq!(found(refuse, &CALCULATOR, WORK_WORDS), expected);
+";
+    let shown = format!("{expected}{CALCULATOR_SHOWN}");
+    assert_eq!(found(refuse, &CALCULATOR, WORK_WORDS), shown);
 }
 
 #[test]
@@ -89,28 +83,7 @@ fn each_number_of_the_reply_counts() {
 
 #[test]
 fn work_words_left_or_touched_are_found() {
-    for index in [0, 1, WORK_WORDS / 2, WORK_WORDS - 1] {
-        let needs = |image: &[u32], work: &mut [u64]| {
-            let word = work[index];
-            let reply = right(image, work);
-            work[index] = word;
-            reply
-        };
-        let text = found(needs, &CALCULATOR, WORK_WORDS);
-        assert!(text.contains(&format!("the work slice: word {index} is ")), "{text}");
-    }
-    let clears_more = |image: &[u32], work: &mut [u64]| {
-        work[WORK_WORDS] = 0;
-        right(image, work)
-    };
-    let text = found(clears_more, &CALCULATOR, WORK_WORDS + 10);
-    assert!(text.contains(&format!("the work slice: word {WORK_WORDS} is 0 and")), "{text}");
-    let clears_few = |image: &[u32], work: &mut [u64]| {
-        work.fill(0);
-        right(image, work)
-    };
-    let text = found(clears_few, &CALCULATOR, WORK_WORDS - 1);
-    assert!(text.contains("words that differ: 8191"), "{text}");
+    work_words_count(&right, |call, image, length| found(call, image, length));
 }
 
 /// What fits where the figures are not known: no less, open or not, and 40 without a Loop.

@@ -1,6 +1,7 @@
 //! Every change of one word in the paper's images, one with Conds and one with functions in
-//! functions, and every image with one node taken out or moved.
+//! functions, and every image with one node taken out, doubled or moved.
 
+use crate::changes;
 use crate::helpers::*;
 use compare::needs;
 use second::build::*;
@@ -29,14 +30,9 @@ fn agreed_needs(image: &[u32], random: &mut Random) {
 #[test]
 fn of_one_word() {
     let random = &mut Random::new(1);
-    let further = [66, 127, 128, 129, 192, 511, 512, 575, 576, 2_000, 2_001, 1 << 31, u32::MAX];
     for image in images() {
-        for index in 0..image.len() {
-            for word in (0..66).chain(further) {
-                let mut changed = image.clone();
-                changed[index] = word;
-                agreed_needs(&changed, random);
-            }
+        for changed in changes::of_one_word(&image) {
+            agreed_needs(&changed, random);
         }
     }
 }
@@ -45,25 +41,8 @@ fn of_one_word() {
 fn of_the_nodes_in_their_order() {
     let random = &mut Random::new(2);
     for image in images() {
-        let (kinds, operands) = image[2..].split_at(image[0] as usize);
-        let original: Vec<_> = kinds.iter().copied().zip(operands.iter().copied()).collect();
-        for from in 0..original.len() {
-            let mut without = original.clone();
-            let node = without.remove(from);
-            agreed_needs(&of_nodes(image[1], &without), random);
-            for to in 0..=without.len() {
-                let mut moved = without.clone();
-                moved.insert(to, node);
-                agreed_needs(&of_nodes(image[1], &moved), random);
-            }
+        for changed in changes::of_the_nodes_in_their_order(&image) {
+            agreed_needs(&changed, random);
         }
     }
-}
-
-/// An image of nodes given as kind and operand.
-fn of_nodes(registers: u32, nodes: &[(u32, u32)]) -> Vec<u32> {
-    let mut words = vec![nodes.len() as u32, registers];
-    words.extend(nodes.iter().map(|(kind, _)| kind));
-    words.extend(nodes.iter().map(|(_, operand)| operand));
-    words
 }

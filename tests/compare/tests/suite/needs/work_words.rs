@@ -2,8 +2,8 @@
 //! every other answer, 40 too, leaves the first 8,192 words 0 and the rest as they were.
 
 use crate::helpers::*;
+use crate::image_calls::{contents_change_nothing, WORK_LENGTHS};
 use compare::engine;
-use compare::guarded::Guarded;
 use compare::needs::{self, reply_of};
 use second::build::*;
 use second::encode;
@@ -53,10 +53,8 @@ fn images() -> Vec<Vec<u32>> {
 #[test]
 fn each_answer_with_each_length() {
     let random = &mut Random::new(3);
-    let lengths =
-        [0, 1, WORK_WORDS / 2, WORK_WORDS - 1, WORK_WORDS, WORK_WORDS + 1, 3 * WORK_WORDS];
     for image in images() {
-        for length in lengths {
+        for length in WORK_LENGTHS {
             let found = needs::compare(&image, length, random)
                 .unwrap_or_else(|difference| panic!("{difference}"));
             let too_few = Needs::Refused(Refusal::whole(22));
@@ -75,21 +73,9 @@ fn every_length_near_enough_words() {
     }
 }
 
-/// What an earlier call left, or anything else in the work words, changes no answer.
 #[test]
 fn what_the_work_words_hold_changes_nothing() {
-    let random = &mut Random::new(5);
-    for image in images() {
-        let expected = reply_of(second::needs(&image, WORK_WORDS, EFFORT)).expect("it is known");
-        for fill in [0, 1, u64::MAX, 1 << 63, u64::from(u32::MAX)] {
-            let before = vec![fill; WORK_WORDS + 9];
-            let mut after = before.clone();
-            after[..WORK_WORDS].fill(0);
-            let mut work = Guarded::holding(&before, random);
-            for _ in 0..2 {
-                assert_eq!(engine::needs(&image, work.slice_mut()), expected);
-                assert_eq!(work.fault("the work slice", &after), None);
-            }
-        }
-    }
+    let known = |image: &[u32]| reply_of(second::needs(image, WORK_WORDS, EFFORT));
+    let expected = images().into_iter().map(|image| (known(&image).expect("it is known"), image));
+    contents_change_nothing(engine::needs, expected);
 }

@@ -1,7 +1,7 @@
 //! The comparison of runs itself: functions that are wrong on purpose stand in
 //! the engine's place, and each is found out and shown for what it is.
 
-use crate::helpers::{papers_images, with_starts, CALCULATOR};
+use crate::helpers::{papers_images, with_starts, CALCULATOR, CALCULATOR_SHOWN};
 use compare::engine::RunReply;
 use compare::run::{as_words, compare_narrowing_with, compare_with, reply_of};
 use second::build::*;
@@ -55,16 +55,9 @@ run of 12 words, registers [], budget 1000000, work slice of 8192 words
   the second interpreter says number 25, steps 7 (refusal 0, outcome 1, value 0x19, place 0)
   the engine says             number -2, steps 7 \
 (refusal 0, outcome 1, value 0xfffffffffffffffe, place 0)
-the image as a tree:
-registers 0
-   0 Mul
-   1   Num 5
-   2   Sum
-   3     Num 3
-   4     Num 2
-the image in hexadecimal:
-5 0 6 1 4 1 1 0 5 0 3 2";
-    assert_eq!(found(minus_two, &with_starts(CALCULATOR.to_vec(), &[])), expected);
+";
+    let shown = format!("{expected}{CALCULATOR_SHOWN}");
+    assert_eq!(found(minus_two, &with_starts(CALCULATOR.to_vec(), &[])), shown);
 }
 
 #[test]

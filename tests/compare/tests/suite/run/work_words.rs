@@ -3,6 +3,7 @@
 //! first 8,192 words 0 and the rest as they were.
 
 use crate::helpers::*;
+use crate::image_calls::WORK_LENGTHS;
 use compare::engine;
 use compare::guarded::Guarded;
 use compare::run::{as_words, reply_of};
@@ -98,20 +99,9 @@ fn every_answer() -> Vec<(u32, Case)> {
 
 #[test]
 fn each_answer_with_each_length() {
-    const LENGTHS: [usize; 9] = [
-        0,
-        1,
-        WORK_WORDS / 2,
-        WORK_WORDS - 1,
-        WORK_WORDS,
-        WORK_WORDS + 1,
-        WORK_WORDS + 1_000,
-        3 * WORK_WORDS,
-        1 << 16,
-    ];
     let random = &mut Random::new(1);
     for (number, mut case) in every_answer() {
-        for work_length in LENGTHS {
+        for work_length in WORK_LENGTHS {
             case.work_length = work_length;
             let expected = if work_length < WORK_WORDS { 22 } else { number };
             assert_eq!(agreed_run(&case, random).refused(), expected, "work of {work_length}");
