@@ -13,13 +13,14 @@ use Rattle.reader.specs.Pack.{packed-kind, packed-end, packed-operand}
 use Rattle.reader.specs.Stored.{kind-is, operand-is, StoredExpression, StoredFormals, no-formals, one-formal, StoredCommand, StoredBlock, StoredDeclaration, StoredBound}
 use Rattle.reader.specs.Stored as Stored
 use Rattle.reader.specs.StoredLaws.{same-expression, same-command, same-declaration}
-use Rattle.reader.specs.StandingLaws.{after-node, expression-low, expression-on, declaration-on, declaration-end, block-low, block-on, formals-on}
+use Rattle.reader.specs.StandingLaws.{Rooted, after-node, expression-low, expression-on, command-root, command-on, declaration-root, declaration-on, declaration-end, block-low, block-on, formals-on}
 use Rattle.reader.specs.KindTrees.{stored-expression-kind}
 use Rattle.estimator.specs.Figures.{stopped, figures, numbers, one-step, unary-figures, scoped-figures}
 use Rattle.estimator.specs.Entries.{HasEntry, WritesEntriesFrom, KeptEntry, NamesAt, one-name}
 use Rattle.estimator.specs.Answers.{SomeExpression, SomeFormals, SomeCommand, SomeDeclaration, ExpressionNeeds, CommandNeeds, FormalsNamed, DeclaredAs, DeclarationNeeds}
 use Rattle.estimator.specs.declared.figures.Need.{Need}
 use Rattle.estimator.specs.declared.commands.Declared.{Declared}
+use Rattle.estimator.proofs.SubtreeLaws.{subtree-size, smaller}
 use Rattle.estimator.proofs.FigureLaws.{unary-law, scoped-law}
 use Rattle.estimator.proofs.EntryLaws.{entries-nodes, entries-same, names-kept}
 use Rattle.estimator.proofs.DeclarationSizes.{declaration-cells, declaration-bindings}
@@ -57,34 +58,37 @@ module _ (words : List ℕ) (node which : ℕ) (known : which ≡ packed-kind (g
 
   -- ---- DSeq.
 
-  pub first-there : which ≡ dseq-number → SomeDeclaration words node → SomeDeclaration words (node + 1)
-  first-there q s = by q (seen (s .3))
+  pub first-there : which ≡ dseq-number → SomeDeclaration words node → SomeDeclaration words (node + 1) × (subtree-size words (node + 1) < subtree-size words node)
+  first-there q s = by (declaration-root (s .3)) q (seen (s .3))
     where
-      by : {w j : ℕ} {c : Declaration} → w ≡ dseq-number → SeenDeclaration words node j w c → SomeDeclaration words (node + 1)
-      by q (seen-sequence a b) = (_, _, _, a)
-      by q (seen-bind l o h a) = absurd (omega (arith, q))
+      by : {w j : ℕ} {c : Declaration} → Rooted words node j → w ≡ dseq-number → SeenDeclaration words node j w c → SomeDeclaration words (node + 1) × (subtree-size words (node + 1) < subtree-size words node)
+      by whole q (seen-sequence a b) = ((_, _, _, a), smaller whole (declaration-root a) (omega arith) (declaration-on a) (omega (arith, declaration-on b)))
+      by whole q (seen-bind l o h a) = absurd (omega (arith, q))
 
   pub record Then (words₁ : List ℕ) (scope after : ℕ) : Type 0 where
     pub later : node < after
     pub there : SomeDeclaration words₁ after
+    pub less : subtree-size words₁ after < subtree-size words node
     pub pointed : scope ≤ after
     pub named : (N : Needs) × NamesAt words₁ scope N
 
   pub second-there : which ≡ dseq-number → (words₁ : List ℕ) (scope after : ℕ) (r : Declared) → WritesEntriesFrom words words₁ (node + 1) → DeclarationNeeds words words₁ scope (node + 1) r →
       after ≡ second-place words₁ node → SomeDeclaration words node → ((N : Needs) × NamesAt words scope N) → Then words₁ (r .newest) after
-  second-there q words₁ scope after r kept declared e s names = by q (seen (s .3))
+  second-there q words₁ scope after r kept declared e s names = by (declaration-root (s .3)) q (seen (s .3))
     where
-      by : {w j : ℕ} {c : Declaration} → w ≡ dseq-number → SeenDeclaration words node j w c → Then words₁ (r .newest) after
-      by {j = j} q (seen-sequence {d = d} {m = m} {d₁ = d₁} {d₂ = d₂} a b) =
+      by : {w j : ℕ} {c : Declaration} → Rooted words node j → w ≡ dseq-number → SeenDeclaration words node j w c → Then words₁ (r .newest) after
+      by {j = j} whole q (seen-sequence {d = d} {m = m} {d₁ = d₁} {d₂ = d₂} a b) =
           let end = e ∙ declaration-end (same-declaration words words₁ (entries-nodes kept) a) in
           let given = declared d m d₁ (names .0) a (names .1) in
+          let second = subst (λ i. StoredDeclaration words₁ d i j d₂) (sym end) (same-declaration words words₁ (entries-nodes kept) b) in
           record {
             later = omega (arith, end, declaration-on a);
-            there = (d, j, d₂, subst (λ i. StoredDeclaration words₁ d i j d₂) (sym end) (same-declaration words words₁ (entries-nodes kept) b));
+            there = (d, j, d₂, second);
+            less = smaller whole (declaration-root second) (omega (arith, end, declaration-on a)) (declaration-on second) (omega arith);
             pointed = omega (arith, end, given .newest-low);
             named = (names-given (names .0) d₁ ++ names .0, given .names-there);
           }
-      by q (seen-bind l o h a) = absurd (omega (arith, q))
+      by whole q (seen-bind l o h a) = absurd (omega (arith, q))
 
   pub sequence-declared : which ≡ dseq-number → (words₁ words₂ : List ℕ) (scope after k l : ℕ) (r u : Declared) (t : Need) → WritesEntriesFrom words words₁ (node + 1) →
       DeclarationNeeds words words₁ scope (node + 1) r → after ≡ second-place words₁ node → DeclarationNeeds words₁ words₂ (r .newest) after u →
@@ -172,17 +176,20 @@ module _ (words : List ℕ) (node which : ℕ) (known : which ≡ packed-kind (g
               bind-seen (s .3) (λ e x b q l o h a. abs-seen a (λ e m fs f r n g k. (omega (arith, block-low k, formals-next g, counted, n), omega (arith, block-low k, formals-next g))))
 
           pub function-there : (words₁ : List ℕ) (scope inner : ℕ) → WritesEntriesFrom words words₁ (node + 2) → FormalsNamed words words₁ scope (node + 2) count inner → SomeDeclaration words node →
-              ((N : Needs) × NamesAt words scope N) → SomeCommand words₁ (node + 2 + count) × (inner ≤ node + 2 + count) × ((N : Needs) × NamesAt words₁ inner N)
+              ((N : Needs) × NamesAt words scope N) →
+              SomeCommand words₁ (node + 2 + count) × (inner ≤ node + 2 + count) × ((N : Needs) × NamesAt words₁ inner N) × (subtree-size words₁ (node + 2 + count) < subtree-size words node)
           function-there words₁ scope inner kept formals s N =
               bind-seen (s .3)
               (λ e x b q l o h a.
               abs-seen a
               (λ e m fs f r n g k.
               let end : m ≡ node + 2 + count = omega (arith, formals-next g, counted, n) in
-              let given = formals m fs (N .0) g (sym (counted ∙ n)) (N .1) in (
-                (e, s .1, block f, subst (λ i. StoredCommand words₁ e i (s .1) (block f)) end (same-command words words₁ (entries-nodes kept) (Stored.block-of k))),
+              let given = formals m fs (N .0) g (sym (counted ∙ n)) (N .1) in
+              let body = subst (λ i. StoredCommand words₁ e i (s .1) (block f)) end (same-command words words₁ (entries-nodes kept) (Stored.block-of k)) in (
+                (e, s .1, block f, body),
                 omega (arith, end, given .1),
                 (_, given .0),
+                smaller (declaration-root (s .3)) (command-root body) (omega arith) (command-on body) (omega arith),
               )))
 
           pub function-declared : (words₁ words₂ words₃ : List ℕ) (scope inner name : ℕ) (function t : Need) → scope ≤ node → WritesEntriesFrom words words₁ (node + 2) →

@@ -9,10 +9,11 @@ use Rattle.rules.specs.paper.Tree.{Expression}
 use Rattle.rules.specs.paper.Needs.{sizes, over, expression-need, actuals-need}
 use Rattle.reader.specs.Pack.{packed-kind, packed-end}
 use Rattle.reader.specs.Stored.{kind-is, StoredExpression, num, boo, id, deref, valref, binary, negation, StoredActuals, no-actuals, one-actual}
-use Rattle.reader.specs.StandingLaws.{after-node, operator-above, operator-below, operator-low, expression-low, expression-on, expression-end}
+use Rattle.reader.specs.StandingLaws.{Rooted, after-node, operator-above, operator-below, operator-low, expression-root, expression-low, expression-on, expression-end}
 use Rattle.estimator.specs.Figures.{stopped, numbers, one-step, raised, both-in-turn, unary-figures, binary-figures}
 use Rattle.estimator.specs.Answers.{SomeExpression, SomeActuals, ExpressionNeeds, ActualsNeed}
 use Rattle.estimator.specs.declared.figures.Need.{Need}
+use Rattle.estimator.proofs.SubtreeLaws.{subtree-size, smaller}
 use Rattle.estimator.proofs.FigureLaws.{over-of, turn-of, last-of, unary-law, binary-law}
 
 child-place : {words : List ℕ} {d i j : ℕ} {e : Expression} → StoredExpression words d (suc i) j e → StoredExpression words d (i + 1) j e
@@ -40,20 +41,20 @@ module _ (words : List ℕ) (node which : ℕ) (known : which ≡ packed-kind (g
   high-leaf h r q d j e (negation w a) = absurd (omega (arith, h, known, kind-is w (omega arith)))
 
   module _ (low : 4 ≤ which) (high : which ≤ 15) where
-    pub first-child : SomeExpression words node → SomeExpression words (node + 1)
-    first-child s = by (s .3)
+    pub first-child : SomeExpression words node → SomeExpression words (node + 1) × (subtree-size words (node + 1) < subtree-size words node)
+    first-child s = by (expression-root (s .3)) (s .3)
       where
-        by : {d j : ℕ} {e : Expression} → StoredExpression words d node j e → SomeExpression words (node + 1)
-        by (num w) = absurd (omega (arith, low, known, kind-is w (omega arith)))
-        by (boo w) = absurd (omega (arith, low, known, kind-is w (omega arith)))
-        by (id l w) = absurd (omega (arith, low, known, kind-is w (omega arith)))
-        by (deref l w) = absurd (omega (arith, high, known, kind-is w (omega arith)))
-        by (valref l w) = absurd (omega (arith, high, known, kind-is w (omega arith)))
-        by (binary w a b) = (_, _, _, child-place a)
-        by (negation w a) = (_, _, _, child-place a)
+        by : {d j : ℕ} {e : Expression} → Rooted words node j → StoredExpression words d node j e → SomeExpression words (node + 1) × (subtree-size words (node + 1) < subtree-size words node)
+        by r (num w) = absurd (omega (arith, low, known, kind-is w (omega arith)))
+        by r (boo w) = absurd (omega (arith, low, known, kind-is w (omega arith)))
+        by r (id l w) = absurd (omega (arith, low, known, kind-is w (omega arith)))
+        by r (deref l w) = absurd (omega (arith, high, known, kind-is w (omega arith)))
+        by r (valref l w) = absurd (omega (arith, high, known, kind-is w (omega arith)))
+        by r (binary w a b) = ((_, _, _, child-place a), smaller r (expression-root (child-place a)) (omega arith) (expression-on (child-place a)) (omega (arith, expression-on b)))
+        by r (negation w a) = ((_, _, _, child-place a), smaller r (expression-root (child-place a)) (omega arith) (expression-on (child-place a)) (omega arith))
 
     pub first-low : SomeExpression words node → node + 1 < most-nodes
-    first-low s = expression-low (first-child s .3)
+    first-low s = expression-low (first-child s .0 .3)
 
     pub negation-needs : which ≡ 15 → (r : Need) → ExpressionNeeds words (node + 1) r → (t : Need) → t ≡ unary-figures r 0 1 0 0 → ExpressionNeeds words node t
     unfolding expression-need
@@ -66,19 +67,19 @@ module _ (words : List ℕ) (node which : ℕ) (known : which ≡ packed-kind (g
     negation-needs n r first t q d j e (negation w a) = q ∙ unary-law {n = _} 0 1 0 0 (record { equal = first _ _ _ (child-place a) }) .equal
 
     module _ (other : which ≡ 15 → ⊥) where
-      pub second-child : SomeExpression words node → SomeExpression words (packed-end (getD words (node + 1) 0)) × (node < packed-end (getD words (node + 1) 0))
-      second-child s = by (s .3)
+      pub second-child : (next : ℕ) → next ≡ packed-end (getD words (node + 1) 0) → SomeExpression words node → SomeExpression words next × (subtree-size words next < subtree-size words node)
+      second-child next p s = by (expression-root (s .3)) (s .3)
         where
-          by : {d j : ℕ} {e : Expression} → StoredExpression words d node j e → SomeExpression words (packed-end (getD words (node + 1) 0)) × (node < packed-end (getD words (node + 1) 0))
-          by (num w) = absurd (omega (arith, low, known, kind-is w (omega arith)))
-          by (boo w) = absurd (omega (arith, low, known, kind-is w (omega arith)))
-          by (id l w) = absurd (omega (arith, low, known, kind-is w (omega arith)))
-          by (deref l w) = absurd (omega (arith, high, known, kind-is w (omega arith)))
-          by (valref l w) = absurd (omega (arith, high, known, kind-is w (omega arith)))
-          by (binary {d = d} {k = m} {e₂ = e₂} w a b) =
-              let end = expression-end (child-place a) in
-              ((d, m, e₂, subst (λ i. StoredExpression words d i m e₂) (sym end) b), subst (λ i. node < i) (sym end) (omega (arith, expression-on a)))
-          by (negation w a) = absurd (other (known ∙ kind-is w (omega arith)))
+          by : {d j : ℕ} {e : Expression} → Rooted words node j → StoredExpression words d node j e → SomeExpression words next × (subtree-size words next < subtree-size words node)
+          by r (num w) = absurd (omega (arith, low, known, kind-is w (omega arith)))
+          by r (boo w) = absurd (omega (arith, low, known, kind-is w (omega arith)))
+          by r (id l w) = absurd (omega (arith, low, known, kind-is w (omega arith)))
+          by r (deref l w) = absurd (omega (arith, high, known, kind-is w (omega arith)))
+          by r (valref l w) = absurd (omega (arith, high, known, kind-is w (omega arith)))
+          by r (binary {d = d} {k = m} {e₂ = e₂} w a b) =
+              let end = p ∙ expression-end (child-place a) in
+              let there = subst (λ i. StoredExpression words d i m e₂) (sym end) b in ((d, m, e₂, there), smaller r (expression-root there) (omega (arith, end, expression-on a)) (expression-on there) (omega arith))
+          by r (negation w a) = absurd (other (known ∙ kind-is w (omega arith)))
 
       pub binary-needs : (r s : Need) (next : ℕ) → next ≡ packed-end (getD words (node + 1) 0) → ExpressionNeeds words (node + 1) r → ExpressionNeeds words next s →
           (t : Need) → t ≡ binary-figures r s → ExpressionNeeds words node t

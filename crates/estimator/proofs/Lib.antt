@@ -1,5 +1,6 @@
 pub mod FigureLaws
 pub mod EntryLaws
+pub mod SubtreeLaws
 pub mod ExpressionLaws
 pub mod NameLaws
 pub mod DeclarationSizes

@@ -1,12 +1,9 @@
 -- The proof of `expression`, which calls itself: the node's kind says which expression stands there, and its figures follow from its
--- children's. The measure is the number of nodes from this one on.
-use Prim.Native.Nat.{_-_}
-use mathlib.Core.Path.{sym, subst}
+-- children's. The measure is the size of the tree that stands there.
 use native.Mathlib.Omega.{arith}
 use denote.Ref.{now}
-use Rattle.rules.specs.paper.Limits.{most-nodes}
 use Rattle.reader.specs.StandingLaws.{expression-low}
-use Rattle.estimator.specs.Answers.{SomeExpression}
+use Rattle.estimator.proofs.SubtreeLaws.{subtree-size}
 use Rattle.estimator.proofs.ExpressionLaws.{low-leaf, high-leaf, first-child, first-low, negation-needs, second-child, binary-needs}
 use Prim.Native.Nat.{ℕ, _<_}
 use borrow.Fn.Kinds.{In}
@@ -23,7 +20,7 @@ use Rattle.estimator.proofs.expressions.+expression.{statement}
 use Rattle.estimator.proofs.expressions.+expression.Tie.{close}
 
 abbrev μ-expression : Measures 1 expression-kinds.ps ℕ
-μ-expression κs a = most-nodes - (a .1 .0)
+μ-expression κs a = subtree-size (now (a .0)) (a .1 .0)
 
 abbrev expression-at : ℕ → In 1 expression-kinds.ps
 expression-at t =
@@ -60,7 +57,7 @@ expression-expression-requires : (t : ℕ) → expression-lts.Need-expression-re
 expression-expression-requires t c κs =
     let start = c .before .before .before .before in
     let child = first-child _ _ _ (c .before .before .kind .ensures) (c .before .if1 .left) (c .if2 .left) (start .pre .1 .1) in
-    (omega (arith, expression-low (child .3), start .pre .0), (start .pre .1 .0, child))
+    (omega (arith, child .1, start .pre .0), (start .pre .1 .0, child .0))
 
 expression-unary-requires : (t : ℕ) → expression-lts.Need-unary-requires (expression-calls t) (expression-at t) expression.Post
 expression-unary-requires t c κs = tt
@@ -77,9 +74,8 @@ expression-end-requires t c κs = omega (arith, first-low _ _ _ (c .before .befo
 expression-expression-requires-2 : (t : ℕ) → expression-lts.Need-expression-requires-2 (expression-calls t) (expression-at t) expression.Post
 expression-expression-requires-2 t c κs =
     let start = c .before .before .before .before .before .before .before in
-    let child = second-child _ _ _ (c .before .before .before .before .before .kind .ensures) (c .before .before .before .before .if1 .left) (c .before .before .before .if2 .left) (c .before .if3 .left) (start .pre .1 .1) in
-    let there = subst (SomeExpression (now (start .args .work))) (sym (c .end .ensures)) (child .0) in
-    (omega (arith, expression-low (there .3), child .1, c .end .ensures, start .pre .0), (start .pre .1 .0, there))
+    let child = second-child _ _ _ (c .before .before .before .before .before .kind .ensures) (c .before .before .before .before .if1 .left) (c .before .before .before .if2 .left) (c .before .if3 .left) _ (c .end .ensures) (start .pre .1 .1) in
+    (omega (arith, child .1, start .pre .0), (start .pre .1 .0, child .0))
 
 expression-binary-requires : (t : ℕ) → expression-lts.Need-binary-requires (expression-calls t) (expression-at t) expression.Post
 expression-binary-requires t c κs = tt

@@ -45,26 +45,26 @@ pub command-returns-2 : (t : ℕ) → command-lts.Need-returns-2 (command-calls 
 command-returns-2 t c = (call-command _ _ _ (c .before .before .before .before .kind .ensures) (c .before .before .if2 .taken) _ _ (c .call .ensures), entries-same _ _)
 
 pub command-add-declaration : (t : ℕ) → command-lts.Need-add-declaration (command-calls t) (command-at t) command.Post
-command-add-declaration t c = record { fits = omega (arith, declaration-low (block-declaration _ _ _ (c .before .before .before .before .kind .ensures) (c .before .if3 .taken) (c .before .before .before .before .before .before .before .before .before .pre .1 .1 .1 .1) .3)) }
+command-add-declaration t c = record { fits = omega (arith, declaration-low (block-declaration _ _ _ (c .before .before .before .before .kind .ensures) (c .before .if3 .taken) (c .before .before .before .before .before .before .before .before .before .pre .1 .1 .1 .1) .0 .3)) }
 
 pub command-declaration-requires : (t : ℕ) → command-lts.Need-declaration-requires (command-calls t) (command-at t) command.Post
 command-declaration-requires t c κs =
     let start = c .before .before .before .before .before .before .before .before .before in
     let there = block-declaration _ _ _ (c .before .before .before .before .kind .ensures) (c .before .if3 .taken) (start .pre .1 .1 .1 .1) in
-    (omega (arith, start .pre .0, declaration-low (there .3)), (start .pre .1 .0, (omega (arith, start .pre .1 .1 .0), (start .pre .1 .1 .1 .0, there))))
+    (omega (arith, start .pre .0, there .1), (start .pre .1 .0, (omega (arith, start .pre .1 .1 .0), (start .pre .1 .1 .1 .0, there .0))))
 
 pub command-add-end : (t : ℕ) → command-lts.Need-add-end (command-calls t) (command-at t) command.Post
-command-add-end t c = record { fits = omega (arith, declaration-low (block-declaration _ _ _ (c .before .before .before .before .before .before .before .before .kind .ensures) (c .before .before .before .before .before .if3 .taken) (c .before .before .before .before .before .before .before .before .before .before .before .before .before .pre .1 .1 .1 .1) .3)) }
+command-add-end t c = record { fits = omega (arith, declaration-low (block-declaration _ _ _ (c .before .before .before .before .before .before .before .before .kind .ensures) (c .before .before .before .before .before .if3 .taken) (c .before .before .before .before .before .before .before .before .before .before .before .before .before .pre .1 .1 .1 .1) .0 .3)) }
 
 pub command-end-requires : (t : ℕ) → command-lts.Need-end-requires (command-calls t) (command-at t) command.Post
-command-end-requires t c κs = omega (arith, declaration-low (block-declaration _ _ _ (c .before .before .before .before .before .before .before .before .kind .ensures) (c .before .before .before .before .before .if3 .taken) (c .before .before .before .before .before .before .before .before .before .before .before .before .before .pre .1 .1 .1 .1) .3), c .before .before .before .before .before .before .before .before .before .before .before .before .before .pre .1 .0, c .before .before .before .declaration .ensures .1 .same-length)
+command-end-requires t c κs = omega (arith, declaration-low (block-declaration _ _ _ (c .before .before .before .before .before .before .before .before .kind .ensures) (c .before .before .before .before .before .if3 .taken) (c .before .before .before .before .before .before .before .before .before .before .before .before .before .pre .1 .1 .1 .1) .0 .3), c .before .before .before .before .before .before .before .before .before .before .before .before .before .pre .1 .0, c .before .before .before .declaration .ensures .1 .same-length)
 
 pub command-command-requires : (t : ℕ) → command-lts.Need-command-requires (command-calls t) (command-at t) command.Post
 command-command-requires t c κs =
     let start = c .before .before .before .before .before .before .before .before .before .before .before .before .before .before .before in
     let declared = c .before .before .before .before .before .declaration .ensures in
     let inside = block-body _ _ _ (c .before .before .before .before .before .before .before .before .before .before .kind .ensures) (c .before .before .before .before .before .before .before .if3 .taken) _ _ _ _ (declared .1) (declared .0) (c .before .end .ensures) (start .pre .1 .1 .1 .1) (start .pre .1 .1 .1 .0) in
-    (omega (arith, start .pre .0, inside .later, command-low (inside .there .3)), (omega (arith, start .pre .1 .0, declared .1 .same-length), (inside .pointed, (inside .named, inside .there))))
+    (omega (arith, start .pre .0, inside .less), (omega (arith, start .pre .1 .0, declared .1 .same-length), (inside .pointed, (inside .named, inside .there))))
 
 pub command-scoped-requires : (t : ℕ) → command-lts.Need-scoped-requires (command-calls t) (command-at t) command.Post
 command-scoped-requires t c κs = tt
@@ -83,26 +83,26 @@ command-returns-3 t c =
     )
 
 pub command-add-command : (t : ℕ) → command-lts.Need-add-command (command-calls t) (command-at t) command.Post
-command-add-command t c = record { fits = omega (arith, command-low (sequence-first _ _ _ (c .before .before .before .before .before .kind .ensures) (c .before .if4 .taken) (c .before .before .before .before .before .before .before .before .before .before .pre .1 .1 .1 .1) .3)) }
+command-add-command t c = record { fits = omega (arith, command-low (sequence-first _ _ _ (c .before .before .before .before .before .kind .ensures) (c .before .if4 .taken) (c .before .before .before .before .before .before .before .before .before .before .pre .1 .1 .1 .1) .0 .3)) }
 
 pub command-command-requires-2 : (t : ℕ) → command-lts.Need-command-requires-2 (command-calls t) (command-at t) command.Post
 command-command-requires-2 t c κs =
     let start = c .before .before .before .before .before .before .before .before .before .before in
     let there = sequence-first _ _ _ (c .before .before .before .before .before .kind .ensures) (c .before .if4 .taken) (start .pre .1 .1 .1 .1) in
-    (omega (arith, start .pre .0, command-low (there .3)), (start .pre .1 .0, (omega (arith, start .pre .1 .1 .0), (start .pre .1 .1 .1 .0, there))))
+    (omega (arith, start .pre .0, there .1), (start .pre .1 .0, (omega (arith, start .pre .1 .1 .0), (start .pre .1 .1 .1 .0, there .0))))
 
 pub command-add-end-2 : (t : ℕ) → command-lts.Need-add-end-2 (command-calls t) (command-at t) command.Post
-command-add-end-2 t c = record { fits = omega (arith, command-low (sequence-first _ _ _ (c .before .before .before .before .before .before .before .before .before .kind .ensures) (c .before .before .before .before .before .if4 .taken) (c .before .before .before .before .before .before .before .before .before .before .before .before .before .before .pre .1 .1 .1 .1) .3)) }
+command-add-end-2 t c = record { fits = omega (arith, command-low (sequence-first _ _ _ (c .before .before .before .before .before .before .before .before .before .kind .ensures) (c .before .before .before .before .before .if4 .taken) (c .before .before .before .before .before .before .before .before .before .before .before .before .before .before .pre .1 .1 .1 .1) .0 .3)) }
 
 pub command-end-requires-2 : (t : ℕ) → command-lts.Need-end-requires-2 (command-calls t) (command-at t) command.Post
-command-end-requires-2 t c κs = omega (arith, command-low (sequence-first _ _ _ (c .before .before .before .before .before .before .before .before .before .kind .ensures) (c .before .before .before .before .before .if4 .taken) (c .before .before .before .before .before .before .before .before .before .before .before .before .before .before .pre .1 .1 .1 .1) .3), c .before .before .before .before .before .before .before .before .before .before .before .before .before .before .pre .1 .0, c .before .before .before .command2 .ensures .1 .same-length)
+command-end-requires-2 t c κs = omega (arith, command-low (sequence-first _ _ _ (c .before .before .before .before .before .before .before .before .before .kind .ensures) (c .before .before .before .before .before .if4 .taken) (c .before .before .before .before .before .before .before .before .before .before .before .before .before .before .pre .1 .1 .1 .1) .0 .3), c .before .before .before .before .before .before .before .before .before .before .before .before .before .before .pre .1 .0, c .before .before .before .command2 .ensures .1 .same-length)
 
 pub command-command-requires-3 : (t : ℕ) → command-lts.Need-command-requires-3 (command-calls t) (command-at t) command.Post
 command-command-requires-3 t c κs =
     let start = c .before .before .before .before .before .before .before .before .before .before .before .before .before .before .before .before in
     let first = c .before .before .before .before .before .command2 .ensures in
     let second = sequence-second _ _ _ (c .before .before .before .before .before .before .before .before .before .before .before .kind .ensures) (c .before .before .before .before .before .before .before .if4 .taken) _ _ (first .1) (c .before .end2 .ensures) (start .pre .1 .1 .1 .1) in
-    (omega (arith, start .pre .0, second .1, command-low (second .0 .3)), (omega (arith, start .pre .1 .0, first .1 .same-length), (omega (arith, start .pre .1 .1 .0, second .1), ((start .pre .1 .1 .1 .0 .0, names-kept (first .1) (omega (arith, start .pre .1 .1 .0)) (start .pre .1 .1 .1 .0 .1)), second .0))))
+    (omega (arith, start .pre .0, second .2), (omega (arith, start .pre .1 .0, first .1 .same-length), (omega (arith, start .pre .1 .1 .0, second .1), ((start .pre .1 .1 .1 .0 .0, names-kept (first .1) (omega (arith, start .pre .1 .1 .0)) (start .pre .1 .1 .1 .0 .1)), second .0))))
 
 pub command-sequence-requires : (t : ℕ) → command-lts.Need-sequence-requires (command-calls t) (command-at t) command.Post
 command-sequence-requires t c κs = tt
@@ -136,7 +136,7 @@ pub command-command-requires-4 : (t : ℕ) → command-lts.Need-command-requires
 command-command-requires-4 t c κs =
     let start = c .before .before .before .before .before .before .before .before .before .before .before .before .before .before in
     let there = true-there _ _ _ (c .before .before .before .before .before .before .before .before .before .kind .ensures) (c .before .before .before .before .before .before .before .before .if1 .left) (c .before .before .before .before .before .before .before .if2 .left) (c .before .before .before .before .before .before .if3 .left) (c .before .before .before .before .before .if4 .left) _ (c .before .end3 .ensures) (start .pre .1 .1 .1 .1) in
-    (omega (arith, start .pre .0, there .1, command-low (there .0 .3)), (start .pre .1 .0, (omega (arith, start .pre .1 .1 .0, there .1), (start .pre .1 .1 .1 .0, there .0))))
+    (omega (arith, start .pre .0, there .2), (start .pre .1 .0, (omega (arith, start .pre .1 .1 .0, there .1), (start .pre .1 .1 .1 .0, there .0))))
 
 pub command-over-requires : (t : ℕ) → command-lts.Need-over-requires (command-calls t) (command-at t) command.Post
 command-over-requires t c κs = tt
@@ -168,7 +168,7 @@ command-command-requires-5 t c κs =
     let there = true-there _ _ _ (c .before .before .before .before .before .before .before .before .before .before .before .before .before .before .before .before .kind .ensures) (c .before .before .before .before .before .before .before .before .before .before .before .before .before .before .before .if1 .left) (c .before .before .before .before .before .before .before .before .before .before .before .before .before .before .if2 .left) (c .before .before .before .before .before .before .before .before .before .before .before .before .before .if3 .left) (c .before .before .before .before .before .before .before .before .before .before .before .before .if4 .left) _ (c .before .before .before .before .before .before .before .before .end3 .ensures) (start .pre .1 .1 .1 .1) in
     let first = c .before .before .before .before .before .before .command4 .ensures in
     let second = false-there _ _ _ (c .before .before .before .before .before .before .before .before .before .before .before .before .before .before .before .before .kind .ensures) (c .before .before .before .before .before .before .before .before .before .before .before .before .before .before .before .if1 .left) (c .before .before .before .before .before .before .before .before .before .before .before .before .before .before .if2 .left) (c .before .before .before .before .before .before .before .before .before .before .before .before .before .if3 .left) (c .before .before .before .before .before .before .before .before .before .before .before .before .if4 .left) (c .before .before .before .if5 .left) _ _ _ (c .before .before .before .before .before .before .before .before .end3 .ensures) (first .1) (c .before .end4 .ensures) (start .pre .1 .1 .1 .1) in
-    (omega (arith, start .pre .0, there .1, second .1, command-low (second .0 .3)), (omega (arith, start .pre .1 .0, first .1 .same-length), (omega (arith, start .pre .1 .1 .0, there .1, second .1), ((start .pre .1 .1 .1 .0 .0, names-kept (first .1) (omega (arith, start .pre .1 .1 .0, there .1)) (start .pre .1 .1 .1 .0 .1)), second .0))))
+    (omega (arith, start .pre .0, second .2), (omega (arith, start .pre .1 .0, first .1 .same-length), (omega (arith, start .pre .1 .1 .0, there .1, second .1), ((start .pre .1 .1 .1 .0 .0, names-kept (first .1) (omega (arith, start .pre .1 .1 .0, there .1)) (start .pre .1 .1 .1 .0 .1)), second .0))))
 
 pub command-either-requires : (t : ℕ) → command-lts.Need-either-requires (command-calls t) (command-at t) command.Post
 command-either-requires t c κs = tt

@@ -17,26 +17,26 @@ pub declaration-kind-requires : (t : ℕ) → declaration-lts.Need-kind-requires
 declaration-kind-requires t c κs = omega (arith, declaration-low (c .before .before .pre .1 .1 .1 .1 .3), c .before .before .pre .1 .0)
 
 pub declaration-add-declaration : (t : ℕ) → declaration-lts.Need-add-declaration (declaration-calls t) (declaration-at t) declaration.Post
-declaration-add-declaration t c = record { fits = omega (arith, declaration-low (first-there _ _ _ (c .before .before .kind .ensures) (c .before .if1 .taken) (c .before .before .before .before .before .pre .1 .1 .1 .1) .3)) }
+declaration-add-declaration t c = record { fits = omega (arith, declaration-low (first-there _ _ _ (c .before .before .kind .ensures) (c .before .if1 .taken) (c .before .before .before .before .before .pre .1 .1 .1 .1) .0 .3)) }
 
 pub declaration-declaration-requires : (t : ℕ) → declaration-lts.Need-declaration-requires (declaration-calls t) (declaration-at t) declaration.Post
 declaration-declaration-requires t c κs =
     let start = c .before .before .before .before .before in
     let there = first-there _ _ _ (c .before .before .kind .ensures) (c .before .if1 .taken) (start .pre .1 .1 .1 .1) in
-    (omega (arith, start .pre .0, declaration-low (there .3)), (start .pre .1 .0, (omega (arith, start .pre .1 .1 .0), (start .pre .1 .1 .1 .0, there))))
+    (omega (arith, start .pre .0, there .1), (start .pre .1 .0, (omega (arith, start .pre .1 .1 .0), (start .pre .1 .1 .1 .0, there .0))))
 
 pub declaration-add-end : (t : ℕ) → declaration-lts.Need-add-end (declaration-calls t) (declaration-at t) declaration.Post
-declaration-add-end t c = record { fits = omega (arith, declaration-low (first-there _ _ _ (c .before .before .before .before .before .before .kind .ensures) (c .before .before .before .before .before .if1 .taken) (c .before .before .before .before .before .before .before .before .before .pre .1 .1 .1 .1) .3)) }
+declaration-add-end t c = record { fits = omega (arith, declaration-low (first-there _ _ _ (c .before .before .before .before .before .before .kind .ensures) (c .before .before .before .before .before .if1 .taken) (c .before .before .before .before .before .before .before .before .before .pre .1 .1 .1 .1) .0 .3)) }
 
 pub declaration-end-requires : (t : ℕ) → declaration-lts.Need-end-requires (declaration-calls t) (declaration-at t) declaration.Post
-declaration-end-requires t c κs = omega (arith, declaration-low (first-there _ _ _ (c .before .before .before .before .before .before .kind .ensures) (c .before .before .before .before .before .if1 .taken) (c .before .before .before .before .before .before .before .before .before .pre .1 .1 .1 .1) .3), c .before .before .before .before .before .before .before .before .before .pre .1 .0, c .before .before .before .declaration .ensures .1 .same-length)
+declaration-end-requires t c κs = omega (arith, declaration-low (first-there _ _ _ (c .before .before .before .before .before .before .kind .ensures) (c .before .before .before .before .before .if1 .taken) (c .before .before .before .before .before .before .before .before .before .pre .1 .1 .1 .1) .0 .3), c .before .before .before .before .before .before .before .before .before .pre .1 .0, c .before .before .before .declaration .ensures .1 .same-length)
 
 pub declaration-declaration-requires-2 : (t : ℕ) → declaration-lts.Need-declaration-requires-2 (declaration-calls t) (declaration-at t) declaration.Post
 declaration-declaration-requires-2 t c κs =
     let start = c .before .before .before .before .before .before .before .before .before .before .before in
     let first = c .before .before .before .before .before .declaration .ensures in
     let second = second-there _ _ _ (c .before .before .before .before .before .before .before .before .kind .ensures) (c .before .before .before .before .before .before .before .if1 .taken) _ _ _ _ (first .1) (first .0) (c .before .end .ensures) (start .pre .1 .1 .1 .1) (start .pre .1 .1 .1 .0) in
-    (omega (arith, start .pre .0, second .later, declaration-low (second .there .3)), (omega (arith, start .pre .1 .0, first .1 .same-length), (second .pointed, (second .named, second .there))))
+    (omega (arith, start .pre .0, second .less), (omega (arith, start .pre .1 .0, first .1 .same-length), (second .pointed, (second .named, second .there))))
 
 pub declaration-sum-requires : (t : ℕ) → declaration-lts.Need-sum-requires (declaration-calls t) (declaration-at t) declaration.Post
 declaration-sum-requires t c κs = tt
@@ -94,7 +94,7 @@ declaration-command-requires t c κs =
     let start = c .before .before .before .before .before .before .before .before .before .before .before .before .before .before .before .before in
     let formals = c .before .before .before .formals .ensures in
     let there = function-there _ _ _ (c .before .before .before .before .before .before .before .before .before .before .before .before .before .kind .ensures) (c .before .before .before .before .before .before .before .before .before .before .before .before .if1 .left) _ (c .before .before .before .before .before .before .before .before .kind2 .ensures) (c .before .before .before .before .before .before .before .if2 .taken) _ (c .before .before .before .before .before .operand2 .ensures) _ _ _ (formals .1) (formals .0) (start .pre .1 .1 .1 .1) (start .pre .1 .1 .1 .0) in
-    (omega (arith, start .pre .0, command-low (there .0 .3)), (omega (arith, start .pre .1 .0, formals .1 .same-length), (there .1, (there .2, there .0))))
+    (omega (arith, start .pre .0, there .3), (omega (arith, start .pre .1 .0, formals .1 .same-length), (there .1, (there .2, there .0))))
 
 pub declaration-keep-requires : (t : ℕ) → declaration-lts.Need-keep-requires (declaration-calls t) (declaration-at t) declaration.Post
 declaration-keep-requires t c κs =

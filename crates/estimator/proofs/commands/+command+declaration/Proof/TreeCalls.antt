@@ -1,9 +1,10 @@
 -- The measures of the cycle {command, declaration} of the estimator, what each is given at a measure and asks of the others below it. The
--- measure is the number of nodes from this one on: every call is for a later one.
-use Rattle.rules.specs.paper.Limits.{most-nodes}
-use Prim.Native.Nat.{ℕ, _<_, _-_}
+-- measure is the size of the tree that stands at the node: every call is for a part of it.
+use Prim.Native.Nat.{ℕ, _<_}
+use denote.Ref.{now}
 use borrow.Fn.Kinds.{In}
 use borrow.Fn.PlainCycle.{Measures, is, falls, and}
+use Rattle.estimator.proofs.SubtreeLaws.{subtree-size}
 use Rattle.estimator.proofs.commands.command.Reads as command
 use Rattle.estimator.proofs.commands.command.Kinds as command-kinds
 use Rattle.estimator.proofs.commands.+command+declaration.Lts-command as command-lts
@@ -28,10 +29,10 @@ use Rattle.reader.proofs.kind.Reads as kind-reads
 use Rattle.reader.proofs.operand.Reads as operand-reads
 
 abbrev pub μ-command : Measures 1 command-kinds.ps ℕ
-μ-command κs a = most-nodes - (a .1 .1 .0)
+μ-command κs a = subtree-size (now (a .0)) (a .1 .1 .0)
 
 abbrev pub μ-declaration : Measures 1 declaration-kinds.ps ℕ
-μ-declaration κs a = most-nodes - (a .1 .1 .0)
+μ-declaration κs a = subtree-size (now (a .0)) (a .1 .1 .0)
 
 abbrev pub command-at : ℕ → In 1 command-kinds.ps
 command-at t = and 1 command-kinds.ps (is 1 command-kinds.ps μ-command t) command.Pre
