@@ -8,7 +8,7 @@ use Rattle.rules.specs.paper.Limits.{most-nodes, names}
 use Rattle.rules.specs.proofs.Basics.{append-assoc}
 use Rattle.rules.specs.paper.Tree.{Expression, Formal, block, Block, Declaration, Bind, DSeq, Bound, plain, Ref, Abs}
 use Rattle.rules.specs.paper.Needs.{Needs, nothing, push-step, expression-need, over-formals, cells-left, bindings-left, bound-need, command-need, block-need, declaration-need, names-given, bound-function}
-use Rattle.reader.specs.KindNumbers.{dseq-number, ref-number, abs-number}
+use Rattle.reader.specs.KindNumbers.{bind-number, dseq-number, ref-number, abs-number}
 use Rattle.reader.specs.Pack.{packed-kind, packed-end, packed-operand}
 use Rattle.reader.specs.Stored.{kind-is, operand-is, StoredExpression, StoredFormals, no-formals, one-formal, StoredCommand, StoredBlock, StoredDeclaration, StoredBound}
 use Rattle.reader.specs.Stored as Stored
@@ -37,7 +37,7 @@ formals-next (one-formal p l m w g) = omega (arith, formals-next g)
 
 data SeenDeclaration (words : List ℕ) (node next : ℕ) : (which : ℕ) → Declaration → Type 0 where
   seen-sequence : {d m : ℕ} {d₁ d₂ : Declaration} → StoredDeclaration words d (node + 1) m d₁ → StoredDeclaration words d m next d₂ → SeenDeclaration words node next dseq-number (DSeq node d₁ d₂)
-  seen-bind : {d x : ℕ} {b : Bound} → x < names → packed-operand (getD words node 0) ≡ x → node < next → StoredBound words d (node + 1) next b → SeenDeclaration words node next 30 (Bind node x b)
+  seen-bind : {d x : ℕ} {b : Bound} → x < names → packed-operand (getD words node 0) ≡ x → node < next → StoredBound words d (node + 1) next b → SeenDeclaration words node next bind-number (Bind node x b)
 
 bound-later : {words : List ℕ} {d i j : ℕ} {b : Bound} → StoredBound words d i j b → i < j
 bound-later (Stored.plain-of a) = expression-on a

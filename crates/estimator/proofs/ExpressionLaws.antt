@@ -5,8 +5,10 @@ use mathlib.Core.List.{List, [], _∷_}
 use native.Mathlib.Omega.{arith}
 use lib.ListN.{length, getD}
 use Rattle.rules.specs.paper.Limits.{most-nodes, most-parameters}
-use Rattle.rules.specs.paper.Tree.{Expression}
+use Rattle.rules.specs.paper.Kinds.{operator-number}
+use Rattle.rules.specs.paper.Tree.{arithmetic, Sum, Expression}
 use Rattle.rules.specs.paper.Needs.{sizes, over, expression-need, actuals-need}
+use Rattle.reader.specs.KindNumbers.{not-number}
 use Rattle.reader.specs.Pack.{packed-kind, packed-end}
 use Rattle.reader.specs.Stored.{kind-is, StoredExpression, num, boo, id, deref, valref, binary, negation, StoredActuals, no-actuals, one-actual}
 use Rattle.reader.specs.StandingLaws.{Rooted, after-node, operator-above, operator-below, operator-low, expression-root, expression-low, expression-on, expression-end}
@@ -16,11 +18,15 @@ use Rattle.estimator.specs.declared.figures.Need.{Need}
 use Rattle.estimator.proofs.SubtreeLaws.{subtree-size, smaller}
 use Rattle.estimator.proofs.FigureLaws.{over-of, turn-of, last-of, unary-law, binary-law}
 
+-- The operators' numbers are from that of Sum to that of Not.
+abbrev sum-number : ℕ
+sum-number = operator-number (arithmetic Sum)
+
 child-place : {words : List ℕ} {d i j : ℕ} {e : Expression} → StoredExpression words d (suc i) j e → StoredExpression words d (i + 1) j e
 child-place {words} {d} {i} {j} {e} s = subst (λ k. StoredExpression words d k j e) (after-node i) s
 
 module _ (words : List ℕ) (node which : ℕ) (known : which ≡ packed-kind (getD words node 0)) where
-  pub low-leaf : which < 4 → (r : Need) → r ≡ one-step 1 1 0 0 → ExpressionNeeds words node r
+  pub low-leaf : which < sum-number → (r : Need) → r ≡ one-step 1 1 0 0 → ExpressionNeeds words node r
   unfolding expression-need
   low-leaf h r q d j e (num w) = q
   low-leaf h r q d j e (boo w) = q
@@ -30,7 +36,7 @@ module _ (words : List ℕ) (node which : ℕ) (known : which ≡ packed-kind (g
   low-leaf h r q d j e (binary {o = o} w a b) = absurd (omega (arith, h, known, kind-is w (operator-low o), operator-above o))
   low-leaf h r q d j e (negation w a) = absurd (omega (arith, h, known, kind-is w (omega arith)))
 
-  pub high-leaf : 15 < which → (r : Need) → r ≡ one-step 1 1 0 0 → ExpressionNeeds words node r
+  pub high-leaf : not-number < which → (r : Need) → r ≡ one-step 1 1 0 0 → ExpressionNeeds words node r
   unfolding expression-need
   high-leaf h r q d j e (num w) = q
   high-leaf h r q d j e (boo w) = q
@@ -40,7 +46,7 @@ module _ (words : List ℕ) (node which : ℕ) (known : which ≡ packed-kind (g
   high-leaf h r q d j e (binary {o = o} w a b) = absurd (omega (arith, h, known, kind-is w (operator-low o), operator-below o))
   high-leaf h r q d j e (negation w a) = absurd (omega (arith, h, known, kind-is w (omega arith)))
 
-  module _ (low : 4 ≤ which) (high : which ≤ 15) where
+  module _ (low : sum-number ≤ which) (high : which ≤ not-number) where
     pub first-child : SomeExpression words node → SomeExpression words (node + 1) × (subtree-size words (node + 1) < subtree-size words node)
     first-child s = by (expression-root (s .3)) (s .3)
       where
@@ -56,7 +62,7 @@ module _ (words : List ℕ) (node which : ℕ) (known : which ≡ packed-kind (g
     pub first-low : SomeExpression words node → node + 1 < most-nodes
     first-low s = expression-low (first-child s .0 .3)
 
-    pub negation-needs : which ≡ 15 → (r : Need) → ExpressionNeeds words (node + 1) r → (t : Need) → t ≡ unary-figures r 0 1 0 0 → ExpressionNeeds words node t
+    pub negation-needs : which ≡ not-number → (r : Need) → ExpressionNeeds words (node + 1) r → (t : Need) → t ≡ unary-figures r 0 1 0 0 → ExpressionNeeds words node t
     unfolding expression-need
     negation-needs n r first t q d j e (num w) = absurd (omega (arith, low, known, kind-is w (omega arith)))
     negation-needs n r first t q d j e (boo w) = absurd (omega (arith, low, known, kind-is w (omega arith)))
@@ -66,7 +72,7 @@ module _ (words : List ℕ) (node which : ℕ) (known : which ≡ packed-kind (g
     negation-needs n r first t q d j e (binary {o = o} w a b) = absurd (omega (arith, n, known, kind-is w (operator-low o), operator-below o))
     negation-needs n r first t q d j e (negation w a) = q ∙ unary-law {n = _} 0 1 0 0 (record { equal = first _ _ _ (child-place a) }) .equal
 
-    module _ (other : which ≡ 15 → ⊥) where
+    module _ (other : which ≡ not-number → ⊥) where
       pub second-child : (next : ℕ) → next ≡ packed-end (getD words (node + 1) 0) → SomeExpression words node → SomeExpression words next × (subtree-size words next < subtree-size words node)
       second-child next p s = by (expression-root (s .3)) (s .3)
         where
