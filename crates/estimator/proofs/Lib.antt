@@ -2,6 +2,7 @@ pub mod FigureLaws
 pub mod EntryLaws
 pub mod SubtreeLaws
 pub mod ExpressionLaws
+pub mod ActualLaws
 pub mod NameLaws
 pub mod DeclarationSizes
 pub mod CommandLaws

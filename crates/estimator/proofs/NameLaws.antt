@@ -12,11 +12,11 @@ use Rattle.reader.specs.Stored.{operand-is, StoredActuals, StoredFormals, no-fo
 use Rattle.reader.specs.StoredLaws.{same-formals}
 use Rattle.reader.specs.StandingLaws.{after-node, operand-name, operand-number}
 use Rattle.estimator.specs.Figures.{figures, numbers, called-figures}
-use Rattle.estimator.specs.Entries.{HasEntry, KeptEntry, NamesAt, one-name, NeedFoundAt}
+use Rattle.estimator.specs.Entries.{HasEntry, WritesEntriesFrom, KeptEntry, NamesAt, one-name, NeedFoundAt}
 use Rattle.estimator.specs.Answers.{SomeActuals, SomeFormals, SomeCall, ActualsNeed, CallNeeds, FormalsNamed}
 use Rattle.estimator.specs.declared.figures.Need.{Need}
 use Rattle.estimator.proofs.FigureLaws.{called-law}
-use Rattle.estimator.proofs.EntryLaws.{entries-nodes, names-kept}
+use Rattle.estimator.proofs.EntryLaws.{entries-nodes, entries-same, entries-then, names-kept}
 
 -- ---- A Call.
 
@@ -92,3 +92,31 @@ module _ (words : List ℕ) (scope node count : ℕ) where
       formals-named l words″ r later j fs N no-formals n s = absurd (some-left (sym n))
       formals-named l words″ r later j fs N (one-formal {f = f} {fs = fs′} p h m w g) n s =
           later j fs′ (record { name = f .name; need = nothing } ∷ N) (rest-of (one-formal p h m w g)) (omega (arith, n)) (formal-named f N (name-of (one-formal p h m w g)) l s)
+
+-- ---- The Formals that have names so far.
+
+-- The others stand here, and what they come to is what all of them come to.
+pub record NamedSoFar (before words : List ℕ) (scope node count newest at left : ℕ) : Type 0 where
+  pub others : SomeFormals words at left
+  pub named : (N : Needs) × NamesAt words newest N
+  pub linked : newest ≤ at
+  pub onward : node ≤ at
+  pub kept : WritesEntriesFrom before words node
+  pub whole : (after : List ℕ) (r : ℕ) → FormalsNamed words after newest at left r → FormalsNamed before after scope node count r
+
+pub none-named : (words : List ℕ) (scope node count : ℕ) → SomeFormals words node count → ((N : Needs) × NamesAt words scope N) → scope ≤ node →
+    NamedSoFar words words scope node count scope node count
+none-named words scope node count s N l = record { others = s; named = N; linked = l; onward = omega arith; kept = entries-same words node; whole = λ after r later. later }
+
+pub one-more-named : (before words words′ : List ℕ) (scope node count newest at left : ℕ) → NamedSoFar before words scope node count newest at left → (left ≡ 0 → ⊥) → (word : ℕ) (none : Need) →
+    word ≡ packed-operand (getD words at 0) → none ≡ numbers 0 0 0 0 0 → KeptEntry words words′ at (word % names) newest none →
+    NamedSoFar before words′ scope node count (at + 1) (at + 1) (left - 1)
+one-more-named before words words′ scope node count newest at left so-far some-left word none known no-need written =
+    record {
+      others = later-formals words newest at left some-left words′ word none known no-need written (so-far .others);
+      named = names-on words newest at left some-left words′ word none known no-need written (so-far .linked) (so-far .others) (so-far .named);
+      linked = omega arith;
+      onward = omega (arith, so-far .onward);
+      kept = entries-then (so-far .kept) (written .others) (so-far .onward);
+      whole = λ after r later. so-far .whole after r (formals-named words newest at left some-left words′ word none known no-need written (so-far .linked) after r later);
+    }

@@ -40,13 +40,18 @@ fn formals(work: &mut [u64], scope: usize, node: usize, count: usize) -> usize
     ensures { λ r. ⌜ FormalsNamed (now (work .entry)) (now (work .exit)) scope node count r ⌝ }
     ensures { λ r. ⌜ WritesEntriesFrom (now (work .entry)) (now (work .exit)) node ⌝ }
 {
-    if count == 0 {
-        return scope;
+    let mut newest = scope;
+    let mut at = node;
+    let mut left = count;
+    while left != 0 {
+        let word = operand(work, at);
+        let none = nothing();
+        keep(work, at, word % NAMES, newest, none);
+        at = at + 1;
+        newest = at;
+        left = left - 1;
     }
-    let word = operand(work, node);
-    let none = nothing();
-    keep(work, node, word % NAMES, scope, none);
-    formals(work, node + 1, node + 1, count - 1)
+    newest
 }
 
 // A Call.

@@ -36,20 +36,23 @@ pub(crate) fn expression(work: &[u64], node: usize) -> Need
     binary(first, second)
 }
 
-// The need of so many actuals from a node on: the later ones run first, over the earlier ones, and an earlier one over their values.
+// The need of so many actuals from a node on. The last one runs first: each has the earlier ones on control, and the later ones' values on
+// the value stack.
 pub(crate) fn actuals(work: &[u64], node: usize, count: usize) -> Need
     requires { ⌜ most-nodes ≤ length (now work) ⌝ }
     requires { ⌜ count ≤ most-parameters ⌝ }
     requires { ⌜ SomeActuals (now work) node count ⌝ }
     ensures { λ r. ⌜ ActualsNeed (now (work .entry)) node count r ⌝ }
 {
-    if count == 0 {
-        return nothing();
+    let mut need = nothing();
+    let mut at = node;
+    let mut left = count;
+    while left != 0 {
+        let one = expression(work, at);
+        let raised = over(one, (count - left) as u32, (left - 1) as u32, 0, 0);
+        need = in_turn(need, raised);
+        at = end(work, at);
+        left = left - 1;
     }
-    let first = expression(work, node);
-    let next = end(work, node);
-    let later = actuals(work, next, count - 1);
-    let sooner = over(later, 1, 0, 0, 0);
-    let last = over(first, 0, (count - 1) as u32, 0, 0);
-    in_turn(sooner, last)
+    need
 }
