@@ -64,17 +64,6 @@ module _ (words : List ℕ) (node which : ℕ) (known : which ≡ packed-kind (g
 
   -- ---- Assign and Call.
 
-  pub assign-value : which ≡ assign-number → SomeCommand words node → SomeExpression words (node + 1)
-  assign-value q s = by q (seen (s .3))
-    where
-      by : {w j : ℕ} {c : Command} → w ≡ assign-number → SeenCommand words node j w c → SomeExpression words (node + 1)
-      by q (seen-assign a) = (_, _, _, a)
-      by q (seen-loop a b) = absurd (omega (arith, q))
-      by q (seen-sequence a b) = absurd (omega (arith, q))
-      by q (seen-block a b) = absurd (omega (arith, q))
-      by q (seen-call a) = absurd (omega (arith, q))
-      by q (seen-conditional a b c) = absurd (omega (arith, q))
-
   pub assign-needs : which ≡ assign-number → (scope : ℕ) (r t : Need) → ExpressionNeeds words (node + 1) r → t ≡ unary-figures r 1 2 0 0 → CommandNeeds words scope node t
   unfolding command-need
   assign-needs q scope r t value e d j c N s names = by q (seen s)
@@ -222,20 +211,23 @@ module _ (words : List ℕ) (node which : ℕ) (known : which ≡ packed-kind (g
       by q (seen-call a) = absurd (omega (arith, q))
       by q (seen-conditional a b c) = absurd (omega (arith, q))
 
-  -- ---- Loop and Cond.
+  -- ---- The value that is assigned, or the test of a Loop or Cond.
 
-  module _ (not-assign : which ≡ assign-number → ⊥) (not-call : which ≡ call-number → ⊥) (not-block : which ≡ blk-number → ⊥) (not-sequence : which ≡ cseq-number → ⊥) where
-    pub test-there : SomeCommand words node → SomeExpression words (node + 1)
-    test-there s = by refl (seen (s .3))
+  module _ (not-call : which ≡ call-number → ⊥) (not-block : which ≡ blk-number → ⊥) (not-sequence : which ≡ cseq-number → ⊥) where
+    pub value-there : SomeCommand words node → SomeExpression words (node + 1)
+    value-there s = by refl (seen (s .3))
       where
         by : {w j : ℕ} {c : Command} → w ≡ which → SeenCommand words node j w c → SomeExpression words (node + 1)
-        by q (seen-assign a) = absurd (not-assign (sym q))
+        by q (seen-assign a) = (_, _, _, a)
         by q (seen-loop a b) = (_, _, _, a)
         by q (seen-sequence a b) = absurd (not-sequence (sym q))
         by q (seen-block a b) = absurd (not-block (sym q))
         by q (seen-call a) = absurd (not-call (sym q))
         by q (seen-conditional a b c) = (_, _, _, a)
 
+  -- ---- Loop and Cond.
+
+  module _ (not-assign : which ≡ assign-number → ⊥) (not-call : which ≡ call-number → ⊥) (not-block : which ≡ blk-number → ⊥) (not-sequence : which ≡ cseq-number → ⊥) where
     pub true-there : (where-true : ℕ) → where-true ≡ second-place words node → SomeCommand words node → SomeCommand words where-true × (node < where-true) × (subtree-size words where-true < subtree-size words node)
     true-there where-true e s = by (command-root (s .3)) refl (seen (s .3))
       where

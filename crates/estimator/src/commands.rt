@@ -68,8 +68,8 @@ fn call(work: &[u64], scope: usize, node: usize) -> Need
     called(given, count as u32, function)
 }
 
-// The need of the command at a node in the scope at a pointer. The needs of its parts stand in the same two locals, whatever it is: each
-// level of the tree has this frame on the stack.
+// The need of the command at a node in the scope at a pointer. Each level of the tree has this frame on the stack, so the needs of its parts
+// stand in the same locals whatever it is, and an Assign's value is asked for where a test is.
 pub(crate) fn command(work: &mut [u64], scope: usize, node: usize) -> Need
     requires { ⌜ entries-end ≤ length (now work) ⌝ }
     requires { ⌜ scope ≤ node ⌝ }
@@ -81,10 +81,6 @@ pub(crate) fn command(work: &mut [u64], scope: usize, node: usize) -> Need
     let mut first = nothing();
     let mut second = nothing();
     let which = kind(work, node);
-    if which == kinds::ASSIGN {
-        first = expression(work, node + 1);
-        return unary(first, 1, 2, 0, 0);
-    }
     if which == kinds::CALL {
         return call(work, scope, node);
     }
@@ -102,17 +98,20 @@ pub(crate) fn command(work: &mut [u64], scope: usize, node: usize) -> Need
         second = command(work, scope, after);
         return sequence(first, second);
     }
-    let test = expression(work, node + 1);
+    let value = expression(work, node + 1);
+    if which == kinds::ASSIGN {
+        return unary(value, 1, 2, 0, 0);
+    }
     let where_true = end(work, node + 1);
     first = command(work, scope, where_true);
     if which == kinds::LOOP {
         let turn = over(first, 1, 0, 0, 0);
-        return tested(test, turn);
+        return tested(value, turn);
     }
     let where_false = end(work, where_true);
     second = command(work, scope, where_false);
     let larger = either(first, second);
-    tested(test, larger)
+    tested(value, larger)
 }
 
 // The need of the declaration at a node in the scope at a pointer, and entries for its names. A function's need is worked out here, once.

@@ -10,7 +10,7 @@ use Rattle.estimator.proofs.commands.+command+declaration.Lts-declarati
 use Rattle.estimator.proofs.commands.+command+declaration.{statement}
 use Rattle.estimator.proofs.commands.+command+declaration.Tie.{close}
 use Rattle.estimator.proofs.commands.+command+declaration.Proof.TreeCalls.{μ-command, μ-declaration, command-at, declaration-at, command-calls, declaration-calls}
-use Rattle.estimator.proofs.commands.+command+declaration.Proof.CommandNeeds.{command-nothing-requires, command-nothing-requires-2, command-kind-requires, command-add-expression, command-expression-requires, command-unary-requires, command-same-length, command-returns, command-call-requires, command-same-length-2, command-returns-2, command-add-declaration, command-declaration-requires, command-add-end, command-end-requires, command-command-requires, command-scoped-requires, command-same-length-3, command-returns-3, command-add-command, command-command-requires-2, command-add-end-2, command-end-requires-2, command-command-requires-3, command-sequence-requires, command-same-length-4, command-returns-4, command-add-expression-2, command-expression-requires-2, command-add-end-3, command-end-requires-3, command-command-requires-4, command-over-requires, command-tested-requires, command-same-length-5, command-returns-5, command-end-requires-4, command-command-requires-5, command-either-requires, command-tested-requires-2, command-same-length-6, command-returns-6}
+use Rattle.estimator.proofs.commands.+command+declaration.Proof.CommandNeeds.{command-nothing-requires, command-nothing-requires-2, command-kind-requires, command-call-requires, command-same-length, command-returns, command-add-declaration, command-declaration-requires, command-add-end, command-end-requires, command-command-requires, command-scoped-requires, command-same-length-2, command-returns-2, command-add-command, command-command-requires-2, command-add-end-2, command-end-requires-2, command-command-requires-3, command-sequence-requires, command-same-length-3, command-returns-3, command-add-expression, command-expression-requires, command-unary-requires, command-same-length-4, command-returns-4, command-add-end-3, command-end-requires-3, command-command-requires-4, command-over-requires, command-tested-requires, command-same-length-5, command-returns-5, command-end-requires-4, command-command-requires-5, command-either-requires, command-tested-requires-2, command-same-length-6, command-returns-6}
 use Rattle.estimator.proofs.commands.+command+declaration.Proof.DeclarationNeeds.{declaration-kind-requires, declaration-add-declaration, declaration-declaration-requires, declaration-add-end, declaration-end-requires, declaration-declaration-requires-2, declaration-sum-requires, declaration-sum-requires-2, declaration-scoped-requires, declaration-same-length, declaration-returns, declaration-operand-requires, declaration-add-kind, declaration-kind-requires-2, declaration-add-operand, declaration-operand-requires-2, declaration-add-formals, declaration-formals-requires, declaration-add-command, declaration-add-command-2, declaration-command-requires, declaration-keep-requires, declaration-step-requires, declaration-unary-requires, declaration-add-t41, declaration-same-length-2, declaration-returns-2, declaration-nothing-requires, declaration-keep-requires-2, declaration-add-expression, declaration-expression-requires, declaration-unary-requires-2, declaration-unary-requires-3, declaration-add-t55, declaration-same-length-3, declaration-returns-3, declaration-add-expression-2, declaration-expression-requires-2, declaration-unary-requires-4, declaration-add-t38, declaration-same-length-4, declaration-returns-4}
 
 pub +command+declaration-spec : {M : Type 1} → statement M
@@ -20,32 +20,30 @@ pub +command+declaration-spec : {M : Type 1} → statement M
     (command-nothing-requires t)
     (command-nothing-requires-2 t)
     (command-kind-requires t)
-    (command-add-expression t)
-    (command-expression-requires t)
-    (command-unary-requires t)
+    (command-call-requires t)
     (command-same-length t)
     (command-returns t)
-    (command-call-requires t)
-    (command-same-length-2 t)
-    (command-returns-2 t)
     (command-add-declaration t)
     (command-declaration-requires t)
     (command-add-end t)
     (command-end-requires t)
     (command-command-requires t)
     (command-scoped-requires t)
-    (command-same-length-3 t)
-    (command-returns-3 t)
+    (command-same-length-2 t)
+    (command-returns-2 t)
     (command-add-command t)
     (command-command-requires-2 t)
     (command-add-end-2 t)
     (command-end-requires-2 t)
     (command-command-requires-3 t)
     (command-sequence-requires t)
+    (command-same-length-3 t)
+    (command-returns-3 t)
+    (command-add-expression t)
+    (command-expression-requires t)
+    (command-unary-requires t)
     (command-same-length-4 t)
     (command-returns-4 t)
-    (command-add-expression-2 t)
-    (command-expression-requires-2 t)
     (command-add-end-3 t)
     (command-end-requires-3 t)
     (command-command-requires-4 t)

@@ -50,7 +50,7 @@ declaration-below t =
 
 abbrev pub command-calls : ℕ → command-lts.Claims
 command-calls t =
-    (nothing-reads.Asked, nothing-reads.Learnt, kind-reads.Asked, kind-reads.Learnt, expression-reads.Asked, expression-reads.Learnt, unary-reads.Asked, unary-reads.Learnt, call-reads.Asked, call-reads.Learnt, declaration-below t, declaration.Post, end-reads.Asked, end-reads.Learnt, command-below t, command.Post, scoped-reads.Asked, scoped-reads.Learnt, sequence-reads.Asked, sequence-reads.Learnt, over-reads.Asked, over-reads.Learnt, tested-reads.Asked, tested-reads.Learnt, either-reads.Asked, either-reads.Learnt)
+    (nothing-reads.Asked, nothing-reads.Learnt, kind-reads.Asked, kind-reads.Learnt, call-reads.Asked, call-reads.Learnt, declaration-below t, declaration.Post, end-reads.Asked, end-reads.Learnt, command-below t, command.Post, scoped-reads.Asked, scoped-reads.Learnt, sequence-reads.Asked, sequence-reads.Learnt, expression-reads.Asked, expression-reads.Learnt, unary-reads.Asked, unary-reads.Learnt, over-reads.Asked, over-reads.Learnt, tested-reads.Asked, tested-reads.Learnt, either-reads.Asked, either-reads.Learnt)
 
 abbrev pub declaration-calls : ℕ → declaration-lts.Claims
 declaration-calls t =
