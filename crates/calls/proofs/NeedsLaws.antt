@@ -11,7 +11,6 @@ use Rattle.rules.specs.paper.Refusals.{refusal-number}
 use Rattle.rules.specs.paper.Limits.{most-nodes, most-registers, most-steps, work-words}
 use Rattle.rules.specs.paper.Tree.{Root}
 use Rattle.rules.specs.paper.Needs.{control, values, cells, bindings, routine-need}
-use Rattle.rules.specs.paper.Needs as Rules
 use Rattle.rules.specs.paper.Engine.{Checked, turned-back, passed, check-image, cleared, figures-of, needs-answer, needs}
 use Rattle.rules.specs.claims.Listing.{root-nodes}
 use Rattle.rules.specs.proofs.checking.ImageExact.{check-exact}

@@ -6,10 +6,11 @@ use mathlib.Core.List.{List, _∷_, []}
 use native.Mathlib.Omega.{arith}
 use lib.ListN.{length, getD}
 use Rattle.rules.specs.paper.Limits.{most-steps, most-parameters}
-use Rattle.rules.specs.paper.Tree.{Expression, Num, Boo, Id, DeRef, ValRef, Binary, Not}
-use Rattle.rules.specs.paper.Needs.{control, sizes, over, in-turn, expression-need, actuals-need}
+use Rattle.rules.specs.paper.Tree.{Expression}
+use Rattle.rules.specs.paper.Needs.{sizes, over, expression-need, actuals-need}
+use Rattle.rules.specs.proofs.needs.NodeStretches.{expression-least}
 use Rattle.reader.specs.Pack.{packed-end}
-use Rattle.reader.specs.Stored.{StoredExpression, StoredActuals, no-actuals, one-actual}
+use Rattle.reader.specs.Stored.{StoredActuals, no-actuals, one-actual}
 use Rattle.reader.specs.StandingLaws.{expression-end}
 use Rattle.estimator.specs.Figures.{stopped, numbers, raised, both-in-turn}
 use Rattle.estimator.specs.Answers.{SomeExpression, SomeActuals, ExpressionNeeds, ActualsNeed}
@@ -54,17 +55,6 @@ module _ (words : List ℕ) (node count : ℕ) where
         fewer m l = omega (arith, m, l)
 
 -- ---- Those that are worked out so far.
-
--- An expression's own node is on control.
-expression-control : (e : Expression) → 1 ≤ expression-need e .most control
-unfolding expression-need in-turn
-expression-control (Num p n) = omega arith
-expression-control (Boo p b) = omega arith
-expression-control (Id p x) = omega arith
-expression-control (DeRef p x) = omega arith
-expression-control (ValRef p x) = omega arith
-expression-control (Binary p o e₁ e₂) = omega arith
-expression-control (Not p e) = omega arith
 
 pub record NeededSoFar (words : List ℕ) (node count at left : ℕ) (so-far : Need) : Type 0 where
   pub others : SomeActuals words at left
@@ -130,7 +120,7 @@ one-more-needed words node count at left so-far one raised-one now-so-far next f
     there = first-actual words at left some-left (known .others)
 
     control-of-one : 1 ≤ one .control
-    control-of-one = subst (λ n. 1 ≤ n .control) (sym (first (there .0) (there .1) (there .2) (there .3))) (omega (arith, expression-control (there .2)))
+    control-of-one = subst (λ n. 1 ≤ n .control) (sym (first (there .0) (there .1) (there .2) (there .3))) (omega (arith, expression-least (there .2)))
 
     -- The later ones' need over one entry of control more, in the place of the need of this one and them.
     moved : (r : Need) (k l m : ℕ) → m ≡ suc k →

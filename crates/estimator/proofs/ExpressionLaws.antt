@@ -1,22 +1,22 @@
 -- Expressions by the kind of their node: what stands there, and its figures from its children's.
 use Prim.Native.Nat.{ℕ, suc, _+_, _-_, _<_, _≤_}
-use mathlib.Core.Path.{_≡_, sym, ap, _∙_, subst}
-use mathlib.Core.List.{List, [], _∷_}
+use mathlib.Core.Path.{_≡_, sym, _∙_, subst}
+use mathlib.Core.List.{List}
 use native.Mathlib.Omega.{arith}
-use lib.ListN.{length, getD}
-use Rattle.rules.specs.paper.Limits.{most-nodes, most-parameters}
+use lib.ListN.{getD}
+use Rattle.rules.specs.paper.Limits.{most-nodes}
 use Rattle.rules.specs.paper.Kinds.{operator-number}
 use Rattle.rules.specs.paper.Tree.{arithmetic, Sum, Expression}
-use Rattle.rules.specs.paper.Needs.{sizes, over, expression-need, actuals-need}
+use Rattle.rules.specs.paper.Needs.{expression-need}
 use Rattle.reader.specs.KindNumbers.{not-number}
 use Rattle.reader.specs.Pack.{packed-kind, packed-end}
-use Rattle.reader.specs.Stored.{kind-is, StoredExpression, num, boo, id, deref, valref, binary, negation, StoredActuals, no-actuals, one-actual}
+use Rattle.reader.specs.Stored.{kind-is, StoredExpression, num, boo, id, deref, valref, binary, negation}
 use Rattle.reader.specs.StandingLaws.{Rooted, after-node, operator-above, operator-below, operator-low, expression-root, expression-low, expression-on, expression-end}
-use Rattle.estimator.specs.Figures.{stopped, numbers, one-step, raised, both-in-turn, unary-figures, binary-figures}
-use Rattle.estimator.specs.Answers.{SomeExpression, SomeActuals, ExpressionNeeds, ActualsNeed}
+use Rattle.estimator.specs.Figures.{one-step, unary-figures, binary-figures}
+use Rattle.estimator.specs.Answers.{SomeExpression, ExpressionNeeds}
 use Rattle.estimator.specs.declared.figures.Need.{Need}
 use Rattle.estimator.proofs.SubtreeLaws.{subtree-size, smaller}
-use Rattle.estimator.proofs.FigureLaws.{over-of, turn-of, last-of, unary-law, binary-law}
+use Rattle.estimator.proofs.FigureLaws.{unary-law, binary-law}
 
 -- The operators' numbers are from that of Sum to that of Not.
 abbrev sum-number : ℕ

@@ -9,7 +9,6 @@ use lib.Dec.{eqb}
 use lib.ListN.{getD}
 use Rattle.rules.specs.paper.Limits.{most-registers}
 use Rattle.rules.specs.paper.Tree.{Expression, Formal, Command, Block, Declaration, Bound, Root}
-use Rattle.rules.specs.paper.Tree as Tree
 use Rattle.rules.specs.paper.Needs.{nothing, need-of, register-needs, root-need, routine-need, is-loop, some-command, some-in-block, some-in-declaration, some-in-bound, some-in-root, has-loop}
 use Rattle.reader.specs.KindNumbers.{assign-number, loop-number}
 use Rattle.reader.specs.Pack.{packed-kind}

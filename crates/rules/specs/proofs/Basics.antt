@@ -52,6 +52,13 @@ and-right false b h = absurd h
 
 -- ---- lists
 
+pub cons-not-empty : {A : Type 0} {a : A} {rest : List A} → a ∷ rest ≡ [] → ⊥
+cons-not-empty {A} q = subst IsSome q tt
+  where
+    IsSome : List A → Type 0
+    IsSome [] = ⊥
+    IsSome (a ∷ rest) = Unit {0}
+
 pub append-assoc : {A : Type 0} (a b c : List A) → (a ++ b) ++ c ≡ a ++ (b ++ c)
 append-assoc [] b c = refl
 append-assoc {A} (n ∷ a) b c = ap {B = List A} (λ r. n ∷ r) (append-assoc a b c)

@@ -9,12 +9,13 @@ use lib.IntN.{ℤ}
 use Rattle.rules.specs.paper.Tree.{Command, Root}
 use Rattle.rules.specs.paper.Tree as Tree
 use Rattle.rules.specs.paper.Checker.{Passed}
-use Rattle.rules.specs.paper.States.{Item, State, state, control-of}
+use Rattle.rules.specs.paper.States.{State, state, control-of}
 use Rattle.rules.specs.paper.Needs.{Figure, control, sizes, Need, nothing, over, expression-need, command-need, Needs, register-needs, root-need, routine-need, is-loop, has-loop}
 use Rattle.rules.specs.paper.Engine.{check-image, passed, root-control, register-environment, register-store, start}
 use Rattle.rules.specs.claims.Claim.{AllInRange}
 use Rattle.rules.specs.claims.History.{first-history}
 use Rattle.rules.specs.claims.FreeRun.{FreeReach, at-start, one-more, NothingExceeds, SizeReached, StepsReached, EachReached}
+use Rattle.rules.specs.proofs.Basics.{cons-not-empty}
 use Rattle.rules.specs.proofs.checking.ImageExact.{check-exact}
 use Rattle.rules.specs.proofs.running.RunEnds.{store-count}
 use Rattle.rules.specs.proofs.running.WholeRun.{start-invariant}
@@ -138,11 +139,7 @@ has-some (later t) = tt
 pub control-left : {f : Figure} {k d : ℕ} (σ : State) → Target f k (ahead-of σ) d → control-of σ ≡ [] → ⊥
 unfolding ahead SomeAhead
 control-left (state [] X E S L n) t q = has-some t
-control-left (state (i ∷ C) X E S L n) t q = subst IsSome q tt
-  where
-    IsSome : List Item → Type 0
-    IsSome [] = ⊥
-    IsSome (i ∷ C) = Unit {0}
+control-left (state (i ∷ C) X E S L n) t q = cons-not-empty q
 
 arrived : {first σ : State} {f : Figure} {k j : ℕ} → FreeReach first j σ → shown σ f ≡ k → SizeReached first f k
 arrived {σ = σ} {f = f} {j = j} reached q = record { steps = j; there = σ; reached = reached; equal = sym (shown-size σ f) ∙ q }
@@ -173,11 +170,7 @@ size-reached {first = first} (suc most) f k d j σ inv reached h l =
 
 empty-or-not : (σ : State) → (control-of σ ≡ []) ⊎ (control-of σ ≡ [] → ⊥)
 empty-or-not (state [] X E S L n) = inl refl
-empty-or-not (state (i ∷ C) X E S L n) = inr (λ q. subst IsSome q tt)
-  where
-    IsSome : List Item → Type 0
-    IsSome [] = ⊥
-    IsSome (i ∷ C) = Unit {0}
+empty-or-not (state (i ∷ C) X E S L n) = inr cons-not-empty
 
 pub none-ahead-of : (σ : State) → control-of σ ≡ [] → through (ahead-of σ) ≡ 0
 unfolding ahead through

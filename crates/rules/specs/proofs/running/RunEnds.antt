@@ -9,13 +9,13 @@ use native.Mathlib.Nat.{add-zero, zero-add}
 use lib.Dec.{T, eqb, eqb→eq, eqb-refl, lit≤, lit<}
 use lib.IntN.{ℤ}
 use lib.ListN.{length}
-use Rattle.rules.specs.proofs.Basics.{passed-test, failed-test, false-test}
+use Rattle.rules.specs.proofs.Basics.{passed-test, failed-test, false-test, cons-not-empty}
 use Rattle.rules.specs.paper.Tree.{Root}
 use Rattle.rules.specs.paper.Tree as Tree
 use Rattle.rules.specs.paper.Refusals.{Reason, Steps, ZeroDivisor, OutOfRange, Cells, Bindings, ValueEntries, ControlEntries, reason-number}
 use Rattle.rules.specs.paper.Limits.{most-cells, most-bindings, most-value-entries, most-control-entries, most-registers}
 use Rattle.rules.specs.paper.Checker.{code, Passed, expression-of-code, a-command}
-use Rattle.rules.specs.paper.States.{Value, integer, Bindable, Environment, Store, find, Entry, bindable, val, Item, State, state, control-of, values-of, environment-of, store-of, bindings-of}
+use Rattle.rules.specs.paper.States.{Value, integer, Bindable, Environment, Store, find, Entry, bindable, val, State, state, control-of, values-of, environment-of, store-of, bindings-of}
 use Rattle.rules.specs.paper.Rules.{Rule, Effect, goes, Applies}
 use Rattle.rules.specs.paper.Fire.{fire, fires}
 use Rattle.rules.specs.paper.Run.{Ending, ended, stopped, Verdict, made, withheld, proceed, judge, attempt, run}
@@ -204,13 +204,6 @@ module _ (budget : ℕ) (first : State) (r : ℕ) (a : Passed) (inv₀ : Invaria
 
       final : Invariant a r (state [] X E S L n) h → FinalValues a (h .made-types) X
       final inv = at-end (h .made-types) (inv .types) (inv .control) (inv .values)
-
-  cons-not-empty : {i : Item} {C : List Item} → i ∷ C ≡ [] → ⊥
-  cons-not-empty q = subst IsEmpty (sym q) tt
-    where
-      IsEmpty : List Item → Type 0
-      IsEmpty [] = Unit {0}
-      IsEmpty (i ∷ C) = ⊥
 
   -- a step is tried with budget left
   tried : (k left : ℕ) (σ : State) (h : History) (c : StateClaim budget k σ h) → k + suc left ≡ budget → Reach budget first r k σ h → (go : State → Ending) →

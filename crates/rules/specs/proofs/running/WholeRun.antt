@@ -20,6 +20,7 @@ use Rattle.rules.specs.paper.States.{Environment, Store, Entry, Item, St
 use Rattle.rules.specs.paper.Rules.{Rule, Effect, goes, fails, Applies}
 use Rattle.rules.specs.paper.Run.{holds, settle, made, judge}
 use Rattle.rules.specs.paper.Engine.{check-image, passed, root-control, register-environment, register-store, start}
+use Rattle.rules.specs.proofs.Basics.{cons-not-empty}
 use Rattle.rules.specs.proofs.running.FireExact.{one-rule}
 use Rattle.rules.specs.claims.Image.{Meets}
 use Rattle.rules.specs.proofs.checking.ImageExact.{check-exact}
@@ -157,11 +158,7 @@ advance-of {a} {r} {σ} {h} τ n q = subst (Next a r σ h) q n
 -- Where a rule applies control is not empty.
 pub rule-left : (x : Rule) (ρ : State) (e : Effect) → Applies x ρ e → control-of ρ ≡ [] → ⊥
 rule-left x (state [] X E S L n) e l q = l
-rule-left x (state (i ∷ C) X E S L n) e l q = subst IsSome q tt
-  where
-    IsSome : List Item → Type 0
-    IsSome [] = ⊥
-    IsSome (i ∷ C) = Unit {0}
+rule-left x (state (i ∷ C) X E S L n) e l q = cons-not-empty q
 
 -- The step of a rule that applies keeps it.
 pub step-invariant : (a : Passed) (r : ℕ) (x : Rule) (ρ τ : State) (g : History) → Invariant a r ρ g → Applies x ρ (goes τ) → Invariant a r τ (note ρ g τ)

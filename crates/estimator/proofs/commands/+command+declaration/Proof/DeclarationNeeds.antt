@@ -3,7 +3,7 @@ use mathlib.Core.Path.{sym, ap, subst, _∙_}
 use native.Mathlib.Omega.{arith}
 use borrow.Author.Needs.{needs}
 use Rattle.rules.specs.paper.Needs.{nothing, command-need}
-use Rattle.reader.specs.StandingLaws.{command-low, declaration-low}
+use Rattle.reader.specs.StandingLaws.{declaration-low}
 use Rattle.estimator.specs.Figures.{unary-figures}
 use Rattle.estimator.specs.Entries.{SmallFigures}
 use Rattle.estimator.proofs.EntryLaws.{figures-small, entries-lower, entries-then}
