@@ -56,6 +56,8 @@ module _ (words : List ℕ) (node count : ℕ) where
 
 -- ---- Those that are worked out so far.
 
+-- The others stand here. Those before them have needed control for themselves and for the ones before them, so that no more is added where
+-- none is left.
 pub record NeededSoFar (words : List ℕ) (node count at left : ℕ) (so-far : Need) : Type 0 where
   pub others : SomeActuals words at left
   pub fewer : left ≤ count
