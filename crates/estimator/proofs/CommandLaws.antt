@@ -18,16 +18,12 @@ use Rattle.estimator.specs.Entries.{WritesEntriesFrom, NamesAt}
 use Rattle.estimator.specs.Answers.{SomeExpression, SomeCommand, SomeCall, SomeDeclaration, ExpressionNeeds, CallNeeds, CommandNeeds, DeclarationNeeds}
 use Rattle.estimator.specs.declared.figures.Need.{Need}
 use Rattle.estimator.specs.declared.commands.Declared.{Declared}
-use Rattle.estimator.proofs.SubtreeLaws.{subtree-size, smaller}
+use Rattle.estimator.proofs.SubtreeLaws.{second-place, subtree-size, smaller}
 use Rattle.estimator.proofs.FigureLaws.{over-of, either-of, unary-law, tested-law, sequence-law, scoped-law}
 use Rattle.estimator.proofs.EntryLaws.{entries-nodes, names-kept}
 use Rattle.estimator.proofs.DeclarationSizes.{declaration-cells, declaration-bindings}
 
 -- ---- Which command it is.
-
--- The node after the first child and its descendants.
-abbrev pub second-place : List ℕ → ℕ → ℕ
-second-place words node = packed-end (getD words (node + 1) 0)
 
 pub data SeenCommand (words : List ℕ) (node next : ℕ) : (which : ℕ) → Command → Type 0 where
   seen-assign : {d x : ℕ} {e : Expression} → StoredExpression words d (node + 1) next e → SeenCommand words node next assign-number (Assign node x e)
@@ -62,54 +58,38 @@ module _ (words : List ℕ) (node which : ℕ) (known : which ≡ packed-kind (g
       by (Stored.call l g h a) = of-kind (kind-is h (omega arith)) (seen-call (Stored.call l g h a))
       by (Stored.conditional h a b c) = of-kind (kind-is h (omega arith)) (seen-conditional (child a) b c)
 
+  -- Where it is known which, its own case alone is left.
+  seen-as : {n d j : ℕ} {c : Command} → which ≡ n → StoredCommand words d node j c → SeenCommand words node j n c
+  seen-as {j = j} {c = c} q s = subst (λ w. SeenCommand words node j w c) q (seen s)
+
   -- ---- Assign and Call.
 
   pub assign-needs : which ≡ assign-number → (scope : ℕ) (r t : Need) → ExpressionNeeds words (node + 1) r → t ≡ unary-figures r 1 2 0 0 → CommandNeeds words scope node t
   unfolding command-need
-  assign-needs q scope r t value e d j c N s names = by q (seen s)
+  assign-needs q scope r t value e d j c N s names = by (seen-as q s)
     where
-      by : {w : ℕ} {c : Command} → w ≡ assign-number → SeenCommand words node j w c → t ≡ figures (command-need N c)
-      by q (seen-assign {e = x} a) = e ∙ unary-law {n = expression-need x} 1 2 0 0 (record { equal = value _ _ _ a }) .equal
-      by q (seen-loop a b) = absurd (omega (arith, q))
-      by q (seen-sequence a b) = absurd (omega (arith, q))
-      by q (seen-block a b) = absurd (omega (arith, q))
-      by q (seen-call a) = absurd (omega (arith, q))
-      by q (seen-conditional a b c) = absurd (omega (arith, q))
+      by : {c : Command} → SeenCommand words node j assign-number c → t ≡ figures (command-need N c)
+      by (seen-assign {e = x} a) = e ∙ unary-law {n = expression-need x} 1 2 0 0 (record { equal = value _ _ _ a }) .equal
 
   pub call-there : which ≡ call-number → SomeCommand words node → SomeCall words node
-  call-there q s = by q (seen (s .3))
+  call-there q s = by (seen-as q (s .3))
     where
-      by : {w j : ℕ} {c : Command} → w ≡ call-number → SeenCommand words node j w c → SomeCall words node
-      by q (seen-assign a) = absurd (omega (arith, q))
-      by q (seen-loop a b) = absurd (omega (arith, q))
-      by q (seen-sequence a b) = absurd (omega (arith, q))
-      by q (seen-block a b) = absurd (omega (arith, q))
-      by q (seen-call a) = (_, _, _, _, a)
-      by q (seen-conditional a b c) = absurd (omega (arith, q))
+      by : {j : ℕ} {c : Command} → SeenCommand words node j call-number c → SomeCall words node
+      by (seen-call a) = (_, _, _, _, a)
 
   pub call-command : which ≡ call-number → (scope : ℕ) (r : Need) → CallNeeds words scope node r → CommandNeeds words scope node r
-  call-command q scope r called d j c N s names = by q (seen s)
+  call-command q scope r called d j c N s names = by (seen-as q s)
     where
-      by : {w : ℕ} {c : Command} → w ≡ call-number → SeenCommand words node j w c → r ≡ figures (command-need N c)
-      by q (seen-assign a) = absurd (omega (arith, q))
-      by q (seen-loop a b) = absurd (omega (arith, q))
-      by q (seen-sequence a b) = absurd (omega (arith, q))
-      by q (seen-block a b) = absurd (omega (arith, q))
-      by q (seen-call a) = called _ _ _ _ N a names
-      by q (seen-conditional a b c) = absurd (omega (arith, q))
+      by : {c : Command} → SeenCommand words node j call-number c → r ≡ figures (command-need N c)
+      by (seen-call a) = called _ _ _ _ N a names
 
   -- ---- Blk.
 
   pub block-declaration : which ≡ blk-number → SomeCommand words node → SomeDeclaration words (node + 1) × (subtree-size words (node + 1) < subtree-size words node)
-  block-declaration q s = by (command-root (s .3)) q (seen (s .3))
+  block-declaration q s = by (command-root (s .3)) (seen-as q (s .3))
     where
-      by : {w j : ℕ} {c : Command} → Rooted words node j → w ≡ blk-number → SeenCommand words node j w c → SomeDeclaration words (node + 1) × (subtree-size words (node + 1) < subtree-size words node)
-      by whole q (seen-assign a) = absurd (omega (arith, q))
-      by whole q (seen-loop a b) = absurd (omega (arith, q))
-      by whole q (seen-sequence a b) = absurd (omega (arith, q))
-      by whole q (seen-block a b) = ((_, _, _, a), smaller whole (declaration-root a) (omega arith) (declaration-on a) (omega (arith, command-on b)))
-      by whole q (seen-call a) = absurd (omega (arith, q))
-      by whole q (seen-conditional a b c) = absurd (omega (arith, q))
+      by : {j : ℕ} {c : Command} → Rooted words node j → SeenCommand words node j blk-number c → SomeDeclaration words (node + 1) × (subtree-size words (node + 1) < subtree-size words node)
+      by whole (seen-block a b) = ((_, _, _, a), smaller whole (declaration-root a) (omega arith) (declaration-on a) (omega (arith, command-on b)))
 
   -- What the command of a block finds: its place, the tree there, and the names with the declaration's.
   pub record Inside (words₁ : List ℕ) (scope inside : ℕ) : Type 0 where
@@ -121,13 +101,10 @@ module _ (words : List ℕ) (node which : ℕ) (known : which ≡ packed-kind (g
 
   pub block-body : which ≡ blk-number → (words₁ : List ℕ) (scope inside : ℕ) (r : Declared) → WritesEntriesFrom words words₁ (node + 1) → DeclarationNeeds words words₁ scope (node + 1) r →
       inside ≡ second-place words₁ node → SomeCommand words node → ((N : Needs) × NamesAt words scope N) → Inside words₁ (r .newest) inside
-  block-body q words₁ scope inside r kept declared e s names = by (command-root (s .3)) q (seen (s .3))
+  block-body q words₁ scope inside r kept declared e s names = by (command-root (s .3)) (seen-as q (s .3))
     where
-      by : {w j : ℕ} {c : Command} → Rooted words node j → w ≡ blk-number → SeenCommand words node j w c → Inside words₁ (r .newest) inside
-      by whole q (seen-assign a) = absurd (omega (arith, q))
-      by whole q (seen-loop a b) = absurd (omega (arith, q))
-      by whole q (seen-sequence a b) = absurd (omega (arith, q))
-      by {j = j} whole q (seen-block {d = d} {m = m} {s = s} {c = c} a b) =
+      by : {j : ℕ} {c : Command} → Rooted words node j → SeenCommand words node j blk-number c → Inside words₁ (r .newest) inside
+      by {j = j} whole (seen-block {d = d} {m = m} {s = s} {c = c} a b) =
           let end = e ∙ declaration-end (same-declaration words words₁ (entries-nodes kept) a) in
           let given = declared d m s (names .0) a (names .1) in
           let body = subst (λ i. StoredCommand words₁ d i j c) (sym end) (same-command words words₁ (entries-nodes kept) b) in
@@ -138,19 +115,14 @@ module _ (words : List ℕ) (node which : ℕ) (known : which ≡ packed-kind (g
             pointed = omega (arith, end, given .newest-low);
             named = (names-given (names .0) s ++ names .0, given .names-there);
           }
-      by whole q (seen-call a) = absurd (omega (arith, q))
-      by whole q (seen-conditional a b c) = absurd (omega (arith, q))
 
   pub block-needs : which ≡ blk-number → (words₁ : List ℕ) (scope inside : ℕ) (r : Declared) (body t : Need) → WritesEntriesFrom words words₁ (node + 1) → DeclarationNeeds words words₁ scope (node + 1) r →
       inside ≡ second-place words₁ node → CommandNeeds words₁ (r .newest) inside body → t ≡ scoped-figures (r .need) 1 body 2 (r .need .cells) (r .need .bindings) → CommandNeeds words scope node t
   unfolding block-need
-  block-needs q words₁ scope inside r body t kept declared e ran f d j c N s names = by q (seen s)
+  block-needs q words₁ scope inside r body t kept declared e ran f d j c N s names = by (seen-as q s)
     where
-      by : {w : ℕ} {c : Command} → w ≡ blk-number → SeenCommand words node j w c → t ≡ figures (command-need N c)
-      by q (seen-assign a) = absurd (omega (arith, q))
-      by q (seen-loop a b) = absurd (omega (arith, q))
-      by q (seen-sequence a b) = absurd (omega (arith, q))
-      by q (seen-block {d = d} {m = m} {s = s} {c = c} a b) =
+      by : {c : Command} → SeenCommand words node j blk-number c → t ≡ figures (command-need N c)
+      by (seen-block {d = d} {m = m} {s = s} {c = c} a b) =
           let end = e ∙ declaration-end (same-declaration words words₁ (entries-nodes kept) a) in
           let given = declared d m s N a names in
           let inner = ran d j c (names-given N s ++ N) (subst (λ i. StoredCommand words₁ d i j c) (sym end) (same-command words words₁ (entries-nodes kept) b)) (given .names-there) in
@@ -158,47 +130,33 @@ module _ (words : List ℕ) (node which : ℕ) (known : which ≡ packed-kind (g
           ∙ ap (λ k. scoped-figures (r .need) 1 body 2 k (r .need .bindings)) (ap (λ n. n .cells) (given .need-is) ∙ ap stopped (declaration-cells N s))
           ∙ ap (λ k. scoped-figures (r .need) 1 body 2 (stopped (cells-left s)) k) (ap (λ n. n .bindings) (given .need-is) ∙ ap stopped (declaration-bindings N s))
           ∙ scoped-law 1 2 (cells-left s) (bindings-left s) (cells-left s) (bindings-left s) (record { equal = given .need-is }) (record { equal = inner }) (declaration-cells N s) (declaration-bindings N s) .equal
-      by q (seen-call a) = absurd (omega (arith, q))
-      by q (seen-conditional a b c) = absurd (omega (arith, q))
 
   -- ---- CSeq.
 
   pub sequence-first : which ≡ cseq-number → SomeCommand words node → SomeCommand words (node + 1) × (subtree-size words (node + 1) < subtree-size words node)
-  sequence-first q s = by (command-root (s .3)) q (seen (s .3))
+  sequence-first q s = by (command-root (s .3)) (seen-as q (s .3))
     where
-      by : {w j : ℕ} {c : Command} → Rooted words node j → w ≡ cseq-number → SeenCommand words node j w c → SomeCommand words (node + 1) × (subtree-size words (node + 1) < subtree-size words node)
-      by whole q (seen-assign a) = absurd (omega (arith, q))
-      by whole q (seen-loop a b) = absurd (omega (arith, q))
-      by whole q (seen-sequence a b) = ((_, _, _, a), smaller whole (command-root a) (omega arith) (command-on a) (omega (arith, command-on b)))
-      by whole q (seen-block a b) = absurd (omega (arith, q))
-      by whole q (seen-call a) = absurd (omega (arith, q))
-      by whole q (seen-conditional a b c) = absurd (omega (arith, q))
+      by : {j : ℕ} {c : Command} → Rooted words node j → SeenCommand words node j cseq-number c → SomeCommand words (node + 1) × (subtree-size words (node + 1) < subtree-size words node)
+      by whole (seen-sequence a b) = ((_, _, _, a), smaller whole (command-root a) (omega arith) (command-on a) (omega (arith, command-on b)))
 
   pub sequence-second : which ≡ cseq-number → (words₁ : List ℕ) (after : ℕ) → WritesEntriesFrom words words₁ (node + 1) → after ≡ second-place words₁ node → SomeCommand words node →
       SomeCommand words₁ after × (node < after) × (subtree-size words₁ after < subtree-size words node)
-  sequence-second q words₁ after kept e s = by (command-root (s .3)) q (seen (s .3))
+  sequence-second q words₁ after kept e s = by (command-root (s .3)) (seen-as q (s .3))
     where
-      by : {w j : ℕ} {c : Command} → Rooted words node j → w ≡ cseq-number → SeenCommand words node j w c → SomeCommand words₁ after × (node < after) × (subtree-size words₁ after < subtree-size words node)
-      by whole q (seen-assign a) = absurd (omega (arith, q))
-      by whole q (seen-loop a b) = absurd (omega (arith, q))
-      by {j = j} whole q (seen-sequence {d = d} {c₂ = c₂} a b) =
+      by : {j : ℕ} {c : Command} → Rooted words node j → SeenCommand words node j cseq-number c → SomeCommand words₁ after × (node < after) × (subtree-size words₁ after < subtree-size words node)
+      by {j = j} whole (seen-sequence {d = d} {c₂ = c₂} a b) =
           let end = e ∙ command-end (same-command words words₁ (entries-nodes kept) a) in
           let later : node < after = omega (arith, end, command-on a) in
           let there = subst (λ i. StoredCommand words₁ d i j c₂) (sym end) (same-command words words₁ (entries-nodes kept) b) in
           ((d, j, c₂, there), later, smaller whole (command-root there) later (command-on there) (omega arith))
-      by whole q (seen-block a b) = absurd (omega (arith, q))
-      by whole q (seen-call a) = absurd (omega (arith, q))
-      by whole q (seen-conditional a b c) = absurd (omega (arith, q))
 
   pub sequence-needs : which ≡ cseq-number → (words₁ : List ℕ) (scope after : ℕ) (r u t : Need) → WritesEntriesFrom words words₁ (node + 1) → after ≡ second-place words₁ node → scope ≤ node →
       CommandNeeds words scope (node + 1) r → CommandNeeds words₁ scope after u → t ≡ sequence-figures r u → CommandNeeds words scope node t
   unfolding command-need
-  sequence-needs q words₁ scope after r u t kept e l first second f d j c N s names = by q (seen s)
+  sequence-needs q words₁ scope after r u t kept e l first second f d j c N s names = by (seen-as q s)
     where
-      by : {w : ℕ} {c : Command} → w ≡ cseq-number → SeenCommand words node j w c → t ≡ figures (command-need N c)
-      by q (seen-assign a) = absurd (omega (arith, q))
-      by q (seen-loop a b) = absurd (omega (arith, q))
-      by q (seen-sequence {d = d} {c₂ = c₂} a b) =
+      by : {c : Command} → SeenCommand words node j cseq-number c → t ≡ figures (command-need N c)
+      by (seen-sequence {d = d} {c₂ = c₂} a b) =
           let end = e ∙ command-end (same-command words words₁ (entries-nodes kept) a) in
           f
           ∙ sequence-law (record { equal = first _ _ _ N a names })
@@ -207,9 +165,6 @@ module _ (words : List ℕ) (node which : ℕ) (known : which ≡ packed-kind (g
                 second d j c₂ N (subst (λ i. StoredCommand words₁ d i j c₂) (sym end) (same-command words words₁ (entries-nodes kept) b)) (names-kept kept (omega (arith, l)) names);
           })
           .equal
-      by q (seen-block a b) = absurd (omega (arith, q))
-      by q (seen-call a) = absurd (omega (arith, q))
-      by q (seen-conditional a b c) = absurd (omega (arith, q))
 
   -- ---- The value that is assigned, or the test of a Loop or Cond.
 
@@ -250,19 +205,14 @@ module _ (words : List ℕ) (node which : ℕ) (known : which ≡ packed-kind (g
   pub loop-needs : which ≡ loop-number → (scope where-true : ℕ) (r u t : Need) → where-true ≡ second-place words node → ExpressionNeeds words (node + 1) r → CommandNeeds words scope where-true u →
       t ≡ tested-figures r (raised u 1 0 0 0) → CommandNeeds words scope node t
   unfolding command-need
-  loop-needs q scope where-true r u t e test body f d j c N s names = by q (seen s)
+  loop-needs q scope where-true r u t e test body f d j c N s names = by (seen-as q s)
     where
-      by : {w : ℕ} {c : Command} → w ≡ loop-number → SeenCommand words node j w c → t ≡ figures (command-need N c)
-      by q (seen-assign a) = absurd (omega (arith, q))
-      by q (seen-loop {d = d} {c = c} a b) =
+      by : {c : Command} → SeenCommand words node j loop-number c → t ≡ figures (command-need N c)
+      by (seen-loop {d = d} {c = c} a b) =
           let end = e ∙ expression-end a in
           f
           ∙ tested-law (record { equal = test _ _ _ a })
           (over-of 1 0 0 0 (record { equal = body d j c N (subst (λ i. StoredCommand words d i j c) (sym end) b) names })) .equal
-      by q (seen-sequence a b) = absurd (omega (arith, q))
-      by q (seen-block a b) = absurd (omega (arith, q))
-      by q (seen-call a) = absurd (omega (arith, q))
-      by q (seen-conditional a b c) = absurd (omega (arith, q))
 
   module _ (not-assign : which ≡ assign-number → ⊥) (not-call : which ≡ call-number → ⊥) (not-block : which ≡ blk-number → ⊥) (not-sequence : which ≡ cseq-number → ⊥) (not-loop : which ≡ loop-number → ⊥)
       (words₁ : List ℕ) (where-true where-false : ℕ) (e : where-true ≡ second-place words node) (kept : WritesEntriesFrom words words₁ where-true)

@@ -9,7 +9,7 @@ use Rattle.rules.specs.proofs.Basics.{append-assoc}
 use Rattle.rules.specs.paper.Tree.{Expression, Formal, block, Block, Declaration, Bind, DSeq, Bound, plain, Ref, Abs}
 use Rattle.rules.specs.paper.Needs.{Needs, nothing, push-step, expression-need, over-formals, cells-left, bindings-left, bound-need, command-need, block-need, declaration-need, names-given, bound-function}
 use Rattle.reader.specs.KindNumbers.{bind-number, dseq-number, ref-number, abs-number}
-use Rattle.reader.specs.Pack.{packed-kind, packed-end, packed-operand}
+use Rattle.reader.specs.Pack.{packed-kind, packed-operand}
 use Rattle.reader.specs.Stored.{kind-is, operand-is, StoredExpression, StoredFormals, no-formals, one-formal, StoredCommand, StoredBlock, StoredDeclaration, StoredBound}
 use Rattle.reader.specs.Stored as Stored
 use Rattle.reader.specs.StoredLaws.{same-expression, same-command, same-declaration}
@@ -20,14 +20,10 @@ use Rattle.estimator.specs.Entries.{HasEntry, WritesEntriesFrom, KeptEnt
 use Rattle.estimator.specs.Answers.{SomeExpression, SomeFormals, SomeCommand, SomeDeclaration, ExpressionNeeds, CommandNeeds, FormalsNamed, DeclaredAs, DeclarationNeeds}
 use Rattle.estimator.specs.declared.figures.Need.{Need}
 use Rattle.estimator.specs.declared.commands.Declared.{Declared}
-use Rattle.estimator.proofs.SubtreeLaws.{subtree-size, smaller}
+use Rattle.estimator.proofs.SubtreeLaws.{second-place, subtree-size, smaller}
 use Rattle.estimator.proofs.FigureLaws.{unary-law, scoped-law}
 use Rattle.estimator.proofs.EntryLaws.{entries-nodes, entries-same, names-kept}
 use Rattle.estimator.proofs.DeclarationSizes.{declaration-cells, declaration-bindings}
-
--- The node after the first child and its descendants.
-abbrev second-place : List ℕ → ℕ → ℕ
-second-place words node = packed-end (getD words (node + 1) 0)
 
 pub formals-next : {words : List ℕ} {i j : ℕ} {fs : List Formal} → StoredFormals words i j fs → j ≡ i + length fs
 formals-next no-formals = omega arith
@@ -56,14 +52,17 @@ module _ (words : List ℕ) (node which : ℕ) (known : which ≡ packed-kind (g
           of-kind (kind-is h (omega arith)) (seen-bind l (operand-is h (omega arith)) (omega (arith, bound-later a)) (subst (λ i. StoredBound words d i j b) (after-node node) a))
       by {d = suc d} (Stored.dseq {j = m} {d₁ = d₁} h a b) = of-kind (kind-is h (omega arith)) (seen-sequence (subst (λ i. StoredDeclaration words d i m d₁) (after-node node) a) b)
 
+  -- Where it is known which, its own case alone is left.
+  seen-as : {n d j : ℕ} {c : Declaration} → which ≡ n → StoredDeclaration words d node j c → SeenDeclaration words node j n c
+  seen-as {j = j} {c = c} q s = subst (λ w. SeenDeclaration words node j w c) q (seen s)
+
   -- ---- DSeq.
 
   pub first-there : which ≡ dseq-number → SomeDeclaration words node → SomeDeclaration words (node + 1) × (subtree-size words (node + 1) < subtree-size words node)
-  first-there q s = by (declaration-root (s .3)) q (seen (s .3))
+  first-there q s = by (declaration-root (s .3)) (seen-as q (s .3))
     where
-      by : {w j : ℕ} {c : Declaration} → Rooted words node j → w ≡ dseq-number → SeenDeclaration words node j w c → SomeDeclaration words (node + 1) × (subtree-size words (node + 1) < subtree-size words node)
-      by whole q (seen-sequence a b) = ((_, _, _, a), smaller whole (declaration-root a) (omega arith) (declaration-on a) (omega (arith, declaration-on b)))
-      by whole q (seen-bind l o h a) = absurd (omega (arith, q))
+      by : {j : ℕ} {c : Declaration} → Rooted words node j → SeenDeclaration words node j dseq-number c → SomeDeclaration words (node + 1) × (subtree-size words (node + 1) < subtree-size words node)
+      by whole (seen-sequence a b) = ((_, _, _, a), smaller whole (declaration-root a) (omega arith) (declaration-on a) (omega (arith, declaration-on b)))
 
   pub record Then (words₁ : List ℕ) (scope after : ℕ) : Type 0 where
     pub later : node < after
@@ -74,10 +73,10 @@ module _ (words : List ℕ) (node which : ℕ) (known : which ≡ packed-kind (g
 
   pub second-there : which ≡ dseq-number → (words₁ : List ℕ) (scope after : ℕ) (r : Declared) → WritesEntriesFrom words words₁ (node + 1) → DeclarationNeeds words words₁ scope (node + 1) r →
       after ≡ second-place words₁ node → SomeDeclaration words node → ((N : Needs) × NamesAt words scope N) → Then words₁ (r .newest) after
-  second-there q words₁ scope after r kept declared e s names = by (declaration-root (s .3)) q (seen (s .3))
+  second-there q words₁ scope after r kept declared e s names = by (declaration-root (s .3)) (seen-as q (s .3))
     where
-      by : {w j : ℕ} {c : Declaration} → Rooted words node j → w ≡ dseq-number → SeenDeclaration words node j w c → Then words₁ (r .newest) after
-      by {j = j} whole q (seen-sequence {d = d} {m = m} {d₁ = d₁} {d₂ = d₂} a b) =
+      by : {j : ℕ} {c : Declaration} → Rooted words node j → SeenDeclaration words node j dseq-number c → Then words₁ (r .newest) after
+      by {j = j} whole (seen-sequence {d = d} {m = m} {d₁ = d₁} {d₂ = d₂} a b) =
           let end = e ∙ declaration-end (same-declaration words words₁ (entries-nodes kept) a) in
           let given = declared d m d₁ (names .0) a (names .1) in
           let second = subst (λ i. StoredDeclaration words₁ d i j d₂) (sym end) (same-declaration words words₁ (entries-nodes kept) b) in
@@ -88,20 +87,19 @@ module _ (words : List ℕ) (node which : ℕ) (known : which ≡ packed-kind (g
             pointed = omega (arith, end, given .newest-low);
             named = (names-given (names .0) d₁ ++ names .0, given .names-there);
           }
-      by whole q (seen-bind l o h a) = absurd (omega (arith, q))
 
   pub sequence-declared : which ≡ dseq-number → (words₁ words₂ : List ℕ) (scope after k l : ℕ) (r u : Declared) (t : Need) → WritesEntriesFrom words words₁ (node + 1) →
       DeclarationNeeds words words₁ scope (node + 1) r → after ≡ second-place words₁ node → DeclarationNeeds words₁ words₂ (r .newest) after u →
       k ≡ stopped (u .need .cells + r .need .cells) → l ≡ stopped (u .need .bindings + r .need .bindings) → t ≡ scoped-figures (r .need) 0 (u .need) 3 k l →
       DeclarationNeeds words words₂ scope node (record { need = t; newest = u .newest })
   unfolding declaration-need names-given cells-left bindings-left
-  sequence-declared q words₁ words₂ scope after k l r u t kept first e second g h f d j c N s names = by q (seen s)
+  sequence-declared q words₁ words₂ scope after k l r u t kept first e second g h f d j c N s names = by (seen-as q s)
     where
       summed : (x y a b : ℕ) → x ≡ stopped a → y ≡ stopped b → stopped (x + y) ≡ stopped (a + b)
       summed x y a b p o = omega (arith, p, o)
 
-      by : {w : ℕ} {c : Declaration} → w ≡ dseq-number → SeenDeclaration words node j w c → DeclaredAs words₂ j N c (record { need = t; newest = u .newest })
-      by q (seen-sequence {d = d} {m = m} {d₁ = d₁} {d₂ = d₂} a b) =
+      by : {c : Declaration} → SeenDeclaration words node j dseq-number c → DeclaredAs words₂ j N c (record { need = t; newest = u .newest })
+      by (seen-sequence {d = d} {m = m} {d₁ = d₁} {d₂ = d₂} a b) =
           let end = e ∙ declaration-end (same-declaration words words₁ (entries-nodes kept) a) in
           let given = first d m d₁ N a names in
           let next = second d j d₂ (names-given N d₁ ++ N) (subst (λ i. StoredDeclaration words₁ d i j d₂) (sym end) (same-declaration words words₁ (entries-nodes kept) b)) (given .names-there) in
@@ -120,7 +118,6 @@ module _ (words : List ℕ) (node which : ℕ) (known : which ≡ packed-kind (g
             names-there = subst (NamesAt words₂ (u .newest)) (sym (append-assoc (names-given (names-given N d₁ ++ N) d₂) (names-given N d₁) N)) (next .names-there);
             newest-low = next .newest-low;
           }
-      by q (seen-bind l o h a) = absurd (omega (arith, q))
 
   -- ---- Bind.
 

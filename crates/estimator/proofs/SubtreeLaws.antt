@@ -1,11 +1,15 @@
--- The size of the tree that stands at a node, as its word says. It falls from a node to its children: it is the measure of every recursion
--- of the estimator.
-use Prim.Native.Nat.{ℕ, _-_, _<_, _≤_}
+-- Where the second child of a node stands, and the size of the tree at a node, as its word says. The size falls from a node to its children:
+-- it is the measure of every recursion of the estimator.
+use Prim.Native.Nat.{ℕ, _+_, _-_, _<_, _≤_}
 use mathlib.Core.List.{List}
 use native.Mathlib.Omega.{arith}
 use lib.ListN.{getD}
 use Rattle.reader.specs.Pack.{packed-end}
 use Rattle.reader.specs.StandingLaws.{Rooted, root-end}
+
+-- The node after the first child and its descendants.
+abbrev pub second-place : List ℕ → (node : ℕ) → ℕ
+second-place words node = packed-end (getD words (node + 1) 0)
 
 abbrev pub subtree-size : List ℕ → (node : ℕ) → ℕ
 subtree-size words node = packed-end (getD words node 0) - node
