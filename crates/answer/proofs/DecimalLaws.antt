@@ -9,8 +9,9 @@ use lib.ListN.{length, take}
 use Rattle.answer.specs.Sizes.{number-bytes, integer-bytes}
 use Rattle.io.specs.Digits.{glyph, digits, Fewest}
 use Rattle.integers.specs.Words.{integer-of}
-use Rattle.integers.specs.WordLaws.{by-order, integer-low, integer-high}
-use Rattle.answer.specs.Decimal.{ascii, digit, digits-within, decimal, integer}
+use Rattle.integers.specs.WordLaws.{integer-low, integer-high}
+use Rattle.rules.specs.proofs.Basics.{by-order}
+use Rattle.rules.specs.paper.Decimal.{ascii, digit, digits-within, decimal, integer}
 use Rattle.answer.specs.Writing.{Put, PutWithin}
 use Rattle.answer.proofs.PutLaws.{within, within-then, within-as}
 

@@ -10,7 +10,7 @@ use Rattle.rules.specs.paper.Refusals.{Length, Size, refusal-number}
 use Rattle.rules.specs.paper.Reader.{size-fits}
 use Rattle.rules.specs.paper.Engine.{Called, refused, refusing}
 use Rattle.reader.specs.SizeLaws.{few-nodes, few-registers}
-use Rattle.answer.specs.Decimal.{ascii, decimal}
+use Rattle.rules.specs.paper.Decimal.{ascii, decimal}
 use Rattle.little_endian.specs.Numbers.{little-endian}
 use Rattle.answer.specs.Program.{line, outcome-text, page, input-bytes, run-input, call-input, program}
 use Rattle.answer.specs.Writing.{ran-text, refusal-page, CountsFit, CountAnswer}

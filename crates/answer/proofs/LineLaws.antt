@@ -14,7 +14,7 @@ use Rattle.integers.specs.Words.{integer-of, integers-of}
 use Rattle.integers.specs.WordLaws.{integers-length}
 use Rattle.calls.specs.declared.Ran.{Ran}
 use Rattle.calls.specs.declared.Ran.the-variants.{Number, Truth, Location, Nothing, Refused}
-use Rattle.answer.specs.Decimal.{ascii, decimal, integer}
+use Rattle.rules.specs.paper.Decimal.{ascii, decimal, integer}
 use Rattle.answer.specs.Program.{line, register-text, register-lines}
 use Rattle.answer.specs.Writing.{Put, PutWithin, ran-text, ran-steps, ran-shows, ran-page, refusal-page}
 use Rattle.answer.proofs.PutLaws.{within, within-then, within-as}

@@ -15,7 +15,7 @@ use Rattle.integers.specs.WordLaws.{integer-of-word}
 use Rattle.calls.specs.Runs.{ran, run-reply, run-call, RanAs}
 use Rattle.calls.specs.Delivered.{all-in-range}
 use Rattle.calls.specs.declared.Ran.{Ran}
-use Rattle.answer.specs.Decimal.{ascii, decimal, integer}
+use Rattle.rules.specs.paper.Decimal.{ascii, decimal, integer}
 use Rattle.little_endian.specs.Numbers.{numbers}
 use Rattle.answer.specs.Program.{line, outcome-text, register-lines, shows-registers, page, input-bytes, run-numbers, run-input}
 use Rattle.answer.specs.Writing.{PutWithin, ran-text, ran-steps, ran-shows, ran-page}

@@ -15,7 +15,7 @@ use Rattle.rules.specs.paper.Fire.{fire-expression, fire-command, fire-operator
 use Rattle.rules.specs.paper.Run.{priority, holds, first-holding, judge, run}
 use Rattle.rules.specs.paper.Engine.{check-image, register-environment, register-store, start, registers-from, engine}
 use Rattle.integers.specs.Words.{integer-of, integers-of}
-use Rattle.answer.specs.Decimal.{ascii, digits-within, decimal, integer}
+use Rattle.rules.specs.paper.Decimal.{ascii, digits-within, decimal, integer}
 use Rattle.little_endian.specs.Numbers.{little-endian, numbers}
 use Rattle.answer.specs.Program.{outcome-text, register-text, register-lines, page, run-input, call-input, program}
 

@@ -1,5 +1,4 @@
 pub mod Cases
-pub mod Decimal
 pub mod Program
 pub mod RegistersShown
 pub mod Sizes

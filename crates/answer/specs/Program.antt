@@ -11,7 +11,7 @@ use Rattle.rules.specs.claims.Listing.{truth-word}
 use Rattle.rules.specs.paper.Reader.{size-fits}
 use Rattle.rules.specs.paper.Engine.{number, truth-of, cell, nothing, Answer, outcome, refused, Called, refusing, engine}
 use Rattle.integers.specs.Words.{integers-of}
-use Rattle.answer.specs.Decimal.{ascii, decimal, integer}
+use Rattle.rules.specs.paper.Decimal.{ascii, decimal, integer}
 use Rattle.little_endian.specs.Numbers.{little-endian, numbers}
 
 -- A line ends in a newline.

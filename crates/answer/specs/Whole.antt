@@ -14,7 +14,7 @@ use Rattle.rules.specs.paper.Engine.{number, truth-of, cell, nothing, Answer, o
 use Rattle.rules.specs.claims.Listing.{truth-word}
 use Rattle.little_endian.specs.Numbers.{little-endian}
 use Rattle.answer.specs.RegistersShown.{registers-shown}
-use Rattle.answer.specs.Decimal.{ascii, digit, digits-within, decimal, integer}
+use Rattle.rules.specs.paper.Decimal.{ascii, digit, digits-within, decimal, integer}
 use Rattle.answer.specs.Program.{line, outcome-text, register-text, register-lines, shows-registers, page, call-input, program}
 
 abbrev pub newline : ℕ

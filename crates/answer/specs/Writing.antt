@@ -10,7 +10,7 @@ use Rattle.rules.specs.paper.Limits.{most-nodes, most-registers}
 use Rattle.integers.specs.Words.{integer-of}
 use Rattle.calls.specs.declared.Ran.{Ran}
 use Rattle.calls.specs.declared.Ran.the-variants.{Number, Truth, Location, Nothing, Refused}
-use Rattle.answer.specs.Decimal.{ascii, decimal, integer}
+use Rattle.rules.specs.paper.Decimal.{ascii, decimal, integer}
 use Rattle.answer.specs.Program.{line, register-lines, last-before-run, page, input-bytes, run-input, program}
 use Rattle.answer.specs.declared.input.Counted.{Counted}
 use Rattle.answer.specs.declared.input.Counted.the-variants as Count

@@ -6,7 +6,7 @@ ghost use lib.ListN.{length};
 ghost use Rattle.rules.specs.paper.Limits.{most-registers};
 ghost use Rattle.answer.specs.Sizes.{outcome-bytes, register-line-bytes, steps-bytes, register-lines-bytes, page-bytes};
 ghost use Rattle.integers.specs.Words.{integer-of, integers-of};
-ghost use Rattle.answer.specs.Decimal.{ascii, decimal};
+ghost use Rattle.rules.specs.paper.Decimal.{ascii, decimal};
 ghost use Rattle.answer.specs.Program.{line, register-text, register-lines};
 ghost use Rattle.answer.specs.Writing.{PutWithin, ran-text, ran-steps, ran-shows, ran-page, refusal-page};
 use crate::text::put;

@@ -4,7 +4,7 @@ ghost use Prim.Native.Nat.{_+_, _≤_};
 ghost use lib.ListN.{length};
 ghost use Rattle.answer.specs.Sizes.{number-bytes, integer-bytes};
 ghost use Rattle.integers.specs.Words.{integer-of};
-ghost use Rattle.answer.specs.Decimal.{decimal, integer};
+ghost use Rattle.rules.specs.paper.Decimal.{decimal, integer};
 ghost use Rattle.answer.specs.Writing.{Put, PutWithin};
 
 // 2^63: the words from here on hold the negative integers.

@@ -54,7 +54,7 @@ nodes-low at = by (at .stored)
 
 module _ (words words′ : List ℕ) (registers nodes : ℕ) (need : Need) (routine : RoutineNeeds words registers nodes need) (kept : WritesEntriesFrom words words′ 0) where
   kept-root : (t : Root) → RootAt words nodes t → RootAt words′ nodes t
-  kept-root t at = record { depth = at .depth; stored = same-root words words′ (entries-nodes kept) (at .stored) }
+  kept-root t at = record { depth = at .depth; depth-low = at .depth-low; stored = same-root words words′ (entries-nodes kept) (at .stored) }
 
   whole : (n m : ℕ) → n ≡ stopped m → m ≤ most-steps → n ≡ m
   whole n m q l = omega (arith, q, l)

@@ -6,7 +6,8 @@ use lib.Dec.{ltb}
 use lib.Signed.{ltZ}
 use borrow.Author.Tests.{lt-ltb, le-ltb}
 use Rattle.integers.specs.Words.{integer-of}
-use Rattle.integers.specs.WordLaws.{integer-low, integer-high, by-sign, by-order}
+use Rattle.integers.specs.WordLaws.{integer-low, integer-high, by-sign}
+use Rattle.rules.specs.proofs.Basics.{by-order}
 
 -- Two tests of order are one where they are of the same order.
 same-order : (a b p q : ℕ) → (a < b → p < q) → (b ≤ a → q ≤ p) → ltb p q ≡ ltb a b

@@ -6,7 +6,7 @@ use borrow.Author.Tests.{lt-ltb, le-ltb}
 use Rattle.rules.specs.paper.Refusals.{reason-number}
 use Rattle.rules.specs.paper.Integers.{ranged}
 use Rattle.integers.specs.Words.{word-of, computed}
-use Rattle.integers.specs.WordLaws.{by-order}
+use Rattle.rules.specs.proofs.Basics.{by-order}
 use Rattle.integers.specs.declared.Computed.the-variants.{Number, Failed}
 
 pub kept-pos : (n w : ℕ) → n < 2 ^ 63 → w ≡ n → computed (ranged (pos n)) ≡ Number w

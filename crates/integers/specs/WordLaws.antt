@@ -6,25 +6,17 @@ use mathlib.Core.Bool.{Bool, true, false, cond, not}
 use mathlib.Core.List.{List, [], _∷_}
 use Prim.Native.Nat.{ℕ, zero, suc, _-_, _^_, _≤_, _<_}
 use native.Mathlib.Omega.{arith}
-use native.Mathlib.Decide.{decLt}
 use lib.Dec.{T, ltb, leb, eqb, ltb→lt, lt→ltb}
 use lib.IntN.{ℤ, pos, negsuc, _+ℤ_, _-ℤ_, _*ℤ_}
 use lib.ListN.{length, getD}
 use lib.Signed.{ltZ, leZ, quotZ}
 use borrow.Author.Tests.{lt-ltb, le-ltb, le-leb, lt-leb, eqb-true, eq-eqb}
+use Rattle.rules.specs.proofs.Basics.{by-order}
 use Rattle.rules.specs.paper.Refusals.{Reason, OutOfRange, reason-number}
 use Rattle.rules.specs.paper.Tree.{Arithmetic, Sum, Sub, Mul, Div, Lt, Le, Gt, Ge}
 use Rattle.rules.specs.paper.Integers.{Result, in-range, ranged, divide, compute, number, failed, equal-integers, compare}
 use Rattle.integers.specs.Words.{integer-of, word-of, computed, integers-of, words-of}
 use Rattle.integers.specs.declared.Computed.the-variants.{Number, Failed}
-
--- A number is below another or is not.
-decided {ℓ} : {P : Type ℓ} {a b : ℕ} → Dec (a < b) → (a < b → P) → (b ≤ a → P) → P
-decided (yes below) low high = low below
-decided (no above) low high = high (omega arith)
-
-pub by-order {ℓ} : {P : Type ℓ} (a b : ℕ) → (a < b → P) → (b ≤ a → P) → P
-by-order a b = decided (decLt a b)
 
 pub by-sign {ℓ} : {P : Type ℓ} (w : ℕ) → (w < 2 ^ 63 → P) → (2 ^ 63 ≤ w → P) → P
 by-sign w = by-order w (2 ^ 63)

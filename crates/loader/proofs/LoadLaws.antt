@@ -111,6 +111,7 @@ module _ (words before after : List ℕ) (shape : Shape) (answered : ShapeAnswer
             counted = same-nodes shape nodes registers (length (root-nodes t)) r q (a .answer);
             stands = record {
               depth = most-depth;
+              depth-low = omega arith;
               stored =
                   subst (λ n. StoredRoot after most-depth 0 n t) (sym (same-nodes shape nodes registers (length (root-nodes t)) r q (a .answer)))
                   (subst (λ ws. StoredRoot ws most-depth 0 (length (root-nodes t)) t) (sym (a .written)) (stored-by-put before (is .shape) (is .size) (omega (arith, room))));
@@ -125,7 +126,7 @@ module _ (words before after : List ℕ) (shape : Shape) (answered : ShapeAnswer
 
 -- The checker leaves the tree where it stands.
 tree-kept : {a b : List ℕ} {nodes : ℕ} {t : Root} → WritesRowsFrom a b 0 → RootAt a nodes t → RootAt b nodes t
-tree-kept {a} {b} k s = record { depth = s .depth; stored = same-root a b (λ i h. k .same-below i (omega (arith, h))) (s .stored) }
+tree-kept {a} {b} k s = record { depth = s .depth; depth-low = s .depth-low; stored = same-root a b (λ i h. k .same-below i (omega (arith, h))) (s .stored) }
 
 two-answers : (a x p : ℕ) → Is a ≡ Fault x p → ⊥
 two-answers a x p h = let z : _≡_ {A = ℕ} 0 1 = cc in omega arith

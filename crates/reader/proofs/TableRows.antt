@@ -119,7 +119,7 @@ abbrev pub NoneOf : Type 0 → ℕ → List Kind → Type 0
 NoneOf P n [] = P
 NoneOf P n (k ∷ ks) = NoneOf (P × (n ≡ kind-number k → ⊥)) n ks
 
-none-of : (P : Type 0) (n : ℕ) (ks : List Kind) → NoneOf P n ks → P × (kind-in ks n ≡ none)
+pub none-of : (P : Type 0) (n : ℕ) (ks : List Kind) → NoneOf P n ks → P × (kind-in ks n ≡ none)
 unfolding kind-in
 none-of P n [] h = (h, refl)
 none-of P n (k ∷ ks) h =

@@ -9,7 +9,7 @@ use lib.ListN.{length, getD}
 use Rattle.rules.specs.paper.Kinds.{operator-number}
 use Rattle.rules.specs.paper.Tree.{Operator, Expression, Num, Boo, Id, DeRef, ValRef, Binary, Not, Formal, Command, Assign, Loop, CSeq, block, Call, Cond, Block, Blk, Declaration, Bind, DSeq, Bound, plain, Ref, Abs, Root, expression, command, absent}
 use Rattle.rules.specs.paper.Limits as Limits
-use Rattle.rules.specs.paper.Limits.{most-nodes, names, codes, most-parameters}
+use Rattle.rules.specs.paper.Limits.{most-nodes, most-depth, names, codes, most-parameters}
 use Rattle.rules.specs.claims.Listing.{truth-word}
 use Rattle.reader.specs.KindNumbers.{num-number, boo-number, id-number, not-number, deref-number, valref-number, assign-number, loop-number, cseq-number, blk-number, call-number, conditional-number, bind-number, dseq-number, ref-number, abs-number, formal-number}
 use Rattle.reader.specs.Pack.{kinds-room, pack, packed-kind, packed-end, packed-operand}
@@ -90,4 +90,5 @@ pub data StoredRoot (words : List ℕ) : (depth place next : ℕ) → Root → T
 -- A tree of so many nodes stands in the work words from node 0 on. The count tells an absent root from all others.
 pub record RootAt (words : List ℕ) (nodes : ℕ) (t : Root) : Type 0 where
   pub depth : ℕ
+  pub depth-low : depth ≤ most-depth
   pub stored : StoredRoot words depth 0 nodes t

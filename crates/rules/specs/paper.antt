@@ -2,6 +2,7 @@
 pub mod Tree
 pub mod Refusals
 pub mod Limits
+pub mod Decimal
 pub mod Kinds
 pub mod Reader
 pub mod Checker

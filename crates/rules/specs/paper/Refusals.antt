@@ -22,6 +22,8 @@ pub data Refusal : Type 0 where
   Withheld : Reason → Refusal
   -- by the needs: the steps come out above 1,000,000
   TooManySteps : Refusal
+  -- by the host: the lent page is shorter than 31 bytes a node
+  ShortPage : Refusal
 
 unfoldable pub reason-number : Reason → ℕ
 reason-number Steps = 30
@@ -49,3 +51,4 @@ refusal-number Budget = 21
 refusal-number Work = 22
 refusal-number (Withheld reason) = reason-number reason
 refusal-number TooManySteps = 40
+refusal-number ShortPage = 41

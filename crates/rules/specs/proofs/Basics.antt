@@ -1,9 +1,22 @@
--- Small facts on tests, options and lists that the theorems share.
+-- Small facts on numbers, tests, options and lists that the theorems share.
 use mathlib.Core.Path.{_≡_, refl, sym, ap, subst}
 use mathlib.Core.Bool.{Bool, true, false, _&&_, _||_}
 use mathlib.Core.List.{List, [], _∷_, _++_}
 use mathlib.Core.Option.{Option, none, some, Option·none-ne-some}
+use Prim.Native.Nat.{ℕ, _<_, _≤_}
+use native.Mathlib.Omega.{arith}
+use native.Mathlib.Decide.{decLt}
 use lib.Dec.{T}
+
+-- ---- numbers
+
+-- A number is below another or is not.
+decided {ℓ} : {P : Type ℓ} {a b : ℕ} → Dec (a < b) → (a < b → P) → (b ≤ a → P) → P
+decided (yes below) low high = low below
+decided (no above) low high = high (omega arith)
+
+pub by-order {ℓ} : {P : Type ℓ} (a b : ℕ) → (a < b → P) → (b ≤ a → P) → P
+by-order a b = decided (decLt a b)
 
 -- ---- options
 

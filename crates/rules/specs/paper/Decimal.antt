@@ -1,4 +1,4 @@
--- Numbers and words as the text of an answer: bytes, in ASCII.
+-- Numbers and texts as bytes, in ASCII: of the program's answer and of the annex page.
 use Prim.Native.Nat.{ℕ, zero, suc, _+_, _/_, _%_}
 use Prim.Native.Char.{code}
 use Prim.Native.String.{String, [] as end, _∷_ as _then_}

@@ -1,0 +1,6 @@
+pub mod Names
+pub mod Lines
+pub mod Page
+pub mod Columns
+pub mod Forest
+pub mod Writing
