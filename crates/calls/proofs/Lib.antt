@@ -1,5 +1,7 @@
+mod LoadedLaws
 mod CheckLaws
 mod ExecuteLaws
 mod NeedsLaws
 mod OrderLaws
+mod PageLaws
 mod PerformLaws

@@ -8,17 +8,15 @@ use lib.Dec.{ltb, ltb→lt, lt→ltb}
 use lib.ListN.{length}
 use Rattle.rules.specs.proofs.Basics.{true-test, false-test}
 use Rattle.rules.specs.paper.Refusals.{refusal-number}
-use Rattle.rules.specs.paper.Limits.{most-nodes, most-registers, most-steps, work-words}
+use Rattle.rules.specs.paper.Limits.{most-registers, most-steps, work-words}
 use Rattle.rules.specs.paper.Tree.{Root}
 use Rattle.rules.specs.paper.Needs.{control, values, cells, bindings, routine-need}
-use Rattle.rules.specs.paper.Engine.{Checked, turned-back, passed, check-image, cleared, figures-of, needs-answer, needs}
-use Rattle.rules.specs.claims.Listing.{root-nodes}
+use Rattle.rules.specs.paper.Engine.{check-image, cleared, figures-of, needs-answer, needs}
 use Rattle.rules.specs.proofs.checking.ImageExact.{check-exact}
 use Rattle.rules.specs.proofs.needs.RoomBounds.{figures-small}
 use Rattle.reader.specs.Put.{KeptBeyond}
-use Rattle.reader.specs.Stored.{StoredRoot, root-expression, root-command, root-absent, RootAt}
+use Rattle.reader.specs.Stored.{RootAt}
 use Rattle.reader.specs.StoredLaws.{same-root}
-use Rattle.reader.specs.StandingLaws.{expression-root, command-root}
 use Rattle.estimator.specs.Figures.{stopped}
 use Rattle.estimator.specs.Entries.{WritesEntriesFrom}
 use Rattle.estimator.specs.Answers.{RoutineNeeds, LoopFound}
@@ -32,6 +30,7 @@ use Rattle.calls.specs.Needs.{needs-reply, SmallRoom, SmallTree, Estimat
 use Rattle.calls.specs.declared.Estimated.{Estimated}
 use Rattle.calls.specs.declared.Estimated.the-variants.{Figures, Open, Refused}
 use Rattle.calls.proofs.CheckLaws.{cleared-same}
+use Rattle.calls.proofs.LoadedLaws.{Passes, loaded-passes, loaded-refused}
 
 -- ---- The figures of a tree.
 
@@ -43,14 +42,6 @@ same-figures p q r s t = cc
 
 pub beyond-entries : {a b : List ℕ} {node : ℕ} → WritesEntriesFrom a b node → KeptBeyond work-words a b
 beyond-entries {a} {b} k = record { same-length = k .same-length; same-beyond = drop-same work-words a b (k .same-length) (λ i h. k .same-beyond i (omega (arith, h))) }
-
-pub nodes-low : {words : List ℕ} {nodes : ℕ} {t : Root} → RootAt words nodes t → nodes ≤ most-nodes
-nodes-low at = by (at .stored)
-  where
-    by : {words : List ℕ} {d j : ℕ} {t : Root} → StoredRoot words d 0 j t → j ≤ most-nodes
-    by (root-expression s) = expression-root s .word .end-low
-    by (root-command s) = command-root s .word .end-low
-    by root-absent = omega arith
 
 module _ (words words′ : List ℕ) (registers nodes : ℕ) (need : Need) (routine : RoutineNeeds words registers nodes need) (kept : WritesEntriesFrom words words′ 0) where
   kept-root : (t : Root) → RootAt words nodes t → RootAt words′ nodes t
@@ -102,56 +93,24 @@ module _ (words words′ : List ℕ) (registers nodes : ℕ) (need : Need) (rout
 
 -- ---- An image.
 
-loaded-twice : (e : Loaded) (number count nodes x p : ℕ) → e ≡ Load.Passed number count nodes → e ≡ Load.Refused x p → ⊥
-loaded-twice e number count nodes x p g h = let z : _≡_ {A = ℕ} 0 1 = cc in omega arith
-
-same-count : (e : Loaded) (number count nodes other-number other-count other-nodes : ℕ) → e ≡ Load.Passed number count nodes → e ≡ Load.Passed other-number other-count other-nodes → count ≡ other-count
-same-count e number count nodes other-number other-count other-nodes g h = cc
-
-same-nodes : (e : Loaded) (number count nodes other-number other-count other-nodes : ℕ) → e ≡ Load.Passed number count nodes → e ≡ Load.Passed other-number other-count other-nodes → nodes ≡ other-nodes
-same-nodes e number count nodes other-number other-count other-nodes g h = cc
-
-same-refusal : (e : Loaded) (x p y q : ℕ) → e ≡ Load.Refused x p → e ≡ Load.Refused y q → Refused x p ≡ Refused y q
-same-refusal e x p y q g h = cc
-
 module _ (image before after : List ℕ) (e : Loaded) (loaded : LoadAnswer (check-image image) e before after) where
-  pub loaded-beyond : KeptBeyond work-words before after
-  loaded-beyond = by (check-image image) loaded
-    where
-      by : (c : Checked) → LoadAnswer c e before after → KeptBeyond work-words before after
-      by (turned-back x p) t = t .beyond
-      by (passed r t c) f = f .beyond
-
   module _ (number count nodes : ℕ) (g : e ≡ Load.Passed number count nodes) where
+    image-passes : Passes image after count nodes
+    image-passes = loaded-passes image before after e loaded number count nodes g
+
+    small : SmallRoom count (image-passes .tree)
+    small = figures-small image count (image-passes .tree) (image-passes .root-is) (image-passes .passes)
+
     pub tree-loaded : (count ≤ most-registers) × SmallTree after count nodes
-    tree-loaded = by (check-image image) refl loaded
-      where
-        by : (c : Checked) → check-image image ≡ c → LoadAnswer c e before after → (count ≤ most-registers) × SmallTree after count nodes
-        by (turned-back x p) q t = absurd (loaded-twice e number count nodes (refusal-number x) p g (t .answer))
-        by (passed r t c) q f =
-            let r-is = same-count e number count nodes _ r (length (root-nodes t)) g (f .answer) in
-            let n-is = same-nodes e number count nodes _ r (length (root-nodes t)) g (f .answer) in (
-              omega (arith, r-is, check-exact image r t c .0 q .shape .registers),
-              (t, subst (λ n. RootAt after n t) (sym n-is) (f .stands), subst (λ k. SmallRoom k t) (sym r-is) (figures-small image r t c q)),
-            )
+    tree-loaded = (check-exact image count (image-passes .tree) (image-passes .root-is) .0 (image-passes .passes) .shape .registers, (image-passes .tree, image-passes .stands, small))
 
     pub passed-answered : (r : Estimated) → EstimatedAs after count nodes r → r ≡ needs-reply (needs-answer (check-image image))
-    passed-answered r done = by (check-image image) refl loaded
-      where
-        by : (c : Checked) → check-image image ≡ c → LoadAnswer c e before after → r ≡ needs-reply (needs-answer c)
-        by (turned-back x p) q t = absurd (loaded-twice e number count nodes (refusal-number x) p g (t .answer))
-        by (passed k t c) q f =
-            let r-is = same-count e number count nodes _ k (length (root-nodes t)) g (f .answer) in
-            let n-is = same-nodes e number count nodes _ k (length (root-nodes t)) g (f .answer) in
-            done t (subst (λ n. RootAt after n t) (sym n-is) (f .stands)) (subst (λ m. SmallRoom m t) (sym r-is) (figures-small image k t c q))
-            ∙ ap (λ m. needs-reply (figures-of m t)) r-is
+    passed-answered r done = done (image-passes .tree) (image-passes .stands) small ∙ sym (ap (λ c. needs-reply (needs-answer c)) (image-passes .passes))
 
   pub refusal-answered : (x p : ℕ) → e ≡ Load.Refused x p → Refused x p ≡ needs-reply (needs-answer (check-image image))
-  refusal-answered x p g = by (check-image image) loaded
-    where
-      by : (c : Checked) → LoadAnswer c e before after → Refused x p ≡ needs-reply (needs-answer c)
-      by (turned-back y o) t = same-refusal e x p (refusal-number y) o g (t .answer)
-      by (passed r t c) f = absurd (loaded-twice e _ r _ x p (f .answer) g)
+  refusal-answered x p g =
+      let l = loaded-refused image before after e loaded x p g in
+      ap (λ n. Refused n p) (l .number-is) ∙ sym (ap (λ c. needs-reply (needs-answer c)) (l .refused))
 
 -- ---- The call.
 

@@ -4,3 +4,4 @@ pub mod Delivered
 pub mod Runs
 pub mod Sizes
 pub mod Needs
+pub mod Page

@@ -1,17 +1,21 @@
-// The engine's three calls: the checker alone, the needs alone, and the run.
+// The engine's four calls: the checker alone, the needs alone, the annex page, and the run.
 mod estimate;
 mod perform;
+mod print;
 pub mod refusals;
 
 ghost use mathlib.Core.Path.{_≡_};
 ghost use Prim.Native.Nat.{_<_, _≤_};
 ghost use lib.ListN.{length};
 ghost use Rattle.rules.specs.paper.Engine.{checker, needs};
+ghost use Rattle.page.specs.Call.{page-call};
 ghost use Rattle.calls.specs.Answers.{check-reply};
 ghost use Rattle.calls.specs.Needs.{needs-reply};
+ghost use Rattle.calls.specs.Page.{PagedAs};
 ghost use Rattle.calls.specs.Runs.{run-call, RanAs};
 use crate::estimate::estimate_image;
 use crate::perform::run_image;
+use crate::print::print_image;
 use crate::refusals::REFUSED_BUDGET;
 use crate::refusals::REFUSED_WORK;
 use checker::COMMAND;
@@ -39,6 +43,12 @@ pub enum Checked {
 pub enum Estimated {
     Figures(u64, u64, u64, u64, u64),
     Open(u64, u64, u64, u64),
+    Refused(u64, usize),
+}
+
+// What the annex page answers: the page is written, a line for each node; or a refusal with its place, and no byte is.
+pub enum Printed {
+    Whole,
     Refused(u64, usize),
 }
 
@@ -86,6 +96,21 @@ pub fn needs(image: &[u32], work: &mut [u64]) -> Estimated
         return Estimated::Refused(REFUSED_WORK, 0);
     }
     let answer = estimate_image(image, work);
+    clear(work);
+    answer
+}
+
+// By `every-line` (page, EveryLine.antt) each line has 30 columns and a newline, whatever the tree.
+// The annex page: any image words, any bytes lent for the page, any work words. The lines stand in the first 31 bytes for each node, and the
+// bytes beyond them stay. A refusal writes no byte. Under 8,192 work words nothing is touched; every other call leaves the first 8,192 of
+// them 0 and the rest as they were.
+pub fn page(image: &[u32], page: &mut [u8], work: &mut [u64]) -> Printed
+    ensures { λ r. ⌜ PagedAs (page-call (now (image .entry)) (now (page .entry)) (now (work .entry))) r (now (page .exit)) (now (work .exit)) ⌝ }
+{
+    if work.len() < WORK_WORDS {
+        return Printed::Refused(REFUSED_WORK, 0);
+    }
+    let answer = print_image(image, page, work);
     clear(work);
     answer
 }

@@ -11,3 +11,6 @@ pub const REFUSED_WORK: u64 = 22;
 
 // There is no Loop, and the steps come out above the most that are given.
 pub const REFUSED_STEPS: u64 = 40;
+
+// The lent page is shorter than 31 bytes a node.
+pub const REFUSED_PAGE: u64 = 41;

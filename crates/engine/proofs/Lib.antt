@@ -2,4 +2,5 @@ mod BytesCounts
 mod BytesRun
 mod CheckNumbers
 mod NeedsNumbers
+mod PageNumbers
 mod RunNumbers

@@ -3,3 +3,4 @@ pub mod BytesKept
 pub mod BytesRead
 pub mod Replies
 pub mod NeedsReplies
+pub mod PageReplies

@@ -165,7 +165,15 @@ mutual
   bound-on (ref h a) = omega (arith, expression-on a)
   bound-on (abs l h a b) = omega (arith, formals-on a, block-on b)
 
--- ---- A root with no node is absent.
+-- ---- How many nodes a root has: at most 2,000; and with none it is absent.
+
+pub nodes-low : {words : List ℕ} {nodes : ℕ} {t : Root} → RootAt words nodes t → nodes ≤ most-nodes
+nodes-low at = by (at .stored)
+  where
+    by : {words : List ℕ} {d j : ℕ} {t : Root} → StoredRoot words d 0 j t → j ≤ most-nodes
+    by (root-expression s) = expression-root s .word .end-low
+    by (root-command s) = command-root s .word .end-low
+    by root-absent = omega arith
 
 pub absent-root : {words : List ℕ} {nodes : ℕ} {t : Root} → nodes ≡ 0 → RootAt words nodes t → t ≡ absent
 absent-root none at = by none (at .stored)

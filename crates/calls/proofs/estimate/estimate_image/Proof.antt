@@ -1,7 +1,8 @@
 -- The image, then its figures.
 use native.Mathlib.Omega.{arith}
 use Rattle.loader.proofs.LoadLaws.{beyond-then}
-use Rattle.calls.proofs.NeedsLaws.{loaded-beyond, tree-loaded, passed-answered, refusal-answered}
+use Rattle.calls.proofs.LoadedLaws.{loaded-beyond}
+use Rattle.calls.proofs.NeedsLaws.{tree-loaded, passed-answered, refusal-answered}
 use borrow.Author.Needs.{needs}
 use Rattle.calls.proofs.estimate.estimate_image.Statement.{statement}
 use Rattle.calls.proofs.estimate.estimate_image.Tie as tie

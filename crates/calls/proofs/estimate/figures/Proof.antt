@@ -2,7 +2,8 @@
 use mathlib.Core.Path.{subst}
 use native.Mathlib.Omega.{arith}
 use Rattle.estimator.specs.Answers.{LoopFound}
-use Rattle.calls.proofs.NeedsLaws.{nodes-low, beyond-entries, open-answered, steps-refused, figures-answered}
+use Rattle.reader.specs.StandingLaws.{nodes-low}
+use Rattle.calls.proofs.NeedsLaws.{beyond-entries, open-answered, steps-refused, figures-answered}
 use borrow.Author.Needs.{needs}
 use Rattle.calls.proofs.estimate.figures.Statement.{statement}
 use Rattle.calls.proofs.estimate.figures.Tie as tie
