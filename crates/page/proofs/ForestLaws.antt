@@ -13,6 +13,7 @@ use Rattle.reader.specs.Stored.{HasWord, StoredExpression, StoredActuals, no-ac
 use Rattle.reader.specs.Stored as Stored
 use Rattle.page.specs.Lines.{Line, line-of, node-lines, expression-lines, formal-lines, all-lines, command-lines, block-lines, declaration-lines, bound-lines, root-lines}
 use Rattle.page.specs.Forest.{Forest, no-tree, a-tree}
+use Rattle.page.proofs.LineLaws.{LineFits, word-fits}
 
 -- ---- Forests one after the other, and a forest of one tree.
 
@@ -107,3 +108,25 @@ root-forest at = by (at .depth-low) (at .stored)
     by low (root-expression s) = expression-forest 1 (omega (arith, low)) s
     by low (root-command s) = command-forest 1 (omega (arith, low)) s
     by low root-absent = no-tree
+
+-- ---- Its lines fit their columns.
+
+abbrev pub AllFit : List Line → Type 0
+AllFit [] = Unit {0}
+AllFit (l ∷ ls) = LineFits l × AllFit ls
+
+pub fit-both : (a b : List Line) → AllFit a → AllFit b → AllFit (a ++ b)
+fit-both [] b p q = q
+fit-both (l ∷ a) b p q = (p .0, fit-both a b (p .1) q)
+
+pub fit-first : (a b : List Line) → AllFit (a ++ b) → AllFit a
+fit-first [] b p = tt
+fit-first (l ∷ a) b p = (p .0, fit-first a b (p .1))
+
+pub fit-later : (a b : List Line) → AllFit (a ++ b) → AllFit b
+fit-later [] b p = p
+fit-later (l ∷ a) b p = fit-later a b (p .1)
+
+pub all-fit : {words : List ℕ} {d i j : ℕ} {ls : List Line} → Forest words d i j ls → AllFit ls
+all-fit no-tree = tt
+all-fit {d = d} (a-tree {kind = kind} {below = below} {rest = rest} h low inner later) = (word-fits d kind h low, fit-both below rest (all-fit inner) (all-fit later))

@@ -5,3 +5,6 @@ pub mod NameLaws
 pub mod LineLaws
 pub mod ForestLaws
 pub mod TreeLaws
+pub mod ListingLaws
+pub mod ColumnLaws
+pub mod EveryLine

@@ -109,6 +109,48 @@ line-parts i d k w e =
     end : List ℕ
     end = blank ∷ to-the-right end-columns (decimal e)
 
+-- ---- Its length.
+
+-- The numbers of a line are small enough for their columns.
+pub record LineFits (l : Line) : Type 0 where
+  pub node-low : l .node < most-nodes
+  pub depth-low : l .depth ≤ most-depth
+  pub operand-low : l .operand < Limits.words
+  pub end-low : l .end ≤ most-nodes
+
+pub word-fits : {words : List ℕ} {i w e : ℕ} (d : ℕ) (k : Kind) → HasWord words i (kind-number k) w e → d ≤ most-depth → LineFits (line-of i d k w e)
+word-fits d k h low = record { node-low = h .place-low; depth-low = low; operand-low = h .operand-low; end-low = h .end-low }
+
+one-more : (part rest : List ℕ) (columns others : ℕ) → length part ≡ columns → length rest ≡ others → length (part ++ (blank ∷ rest)) ≡ columns + suc others
+one-more part rest columns others p q = omega (arith, length-append part (blank ∷ rest), p, q)
+
+module _ (l : Line) (fits : LineFits l) where
+  pub node-length : length (to-the-right node-columns (decimal (l .node))) ≡ node-columns
+  node-length = right-length node-columns (decimal (l .node)) (node-fits (l .node) (fits .node-low))
+
+  pub depth-length : length (to-the-right depth-columns (decimal (l .depth))) ≡ depth-columns
+  depth-length = right-length depth-columns (decimal (l .depth)) (depth-fits (l .depth) (fits .depth-low))
+
+  pub name-length : length (to-the-left name-columns (ascii (kind-name (l .kind)))) ≡ name-columns
+  name-length = left-length name-columns (ascii (kind-name (l .kind))) (name-fits (l .kind))
+
+  pub operand-length : length (to-the-right operand-columns (decimal (l .operand))) ≡ operand-columns
+  operand-length = right-length operand-columns (decimal (l .operand)) (operand-fits (l .operand) (fits .operand-low))
+
+  pub end-length : length (to-the-right end-columns (decimal (l .end))) ≡ end-columns
+  end-length = right-length end-columns (decimal (l .end)) (end-fits (l .end) (fits .end-low))
+
+  pub line-length : length (line-text l) ≡ line-bytes
+  line-length =
+      ap length (line-parts (l .node) (l .depth) (l .kind) (l .operand) (l .end))
+      ∙ one-more (to-the-right node-columns (decimal (l .node))) (depth-text (l .depth) (l .kind) (l .operand) (l .end)) node-columns 26 node-length
+      (one-more (to-the-right depth-columns (decimal (l .depth))) (name-text (l .kind) (l .operand) (l .end)) depth-columns 23 depth-length
+      (one-more (to-the-left name-columns (ascii (kind-name (l .kind)))) (operand-text (l .operand) (l .end)) name-columns 16 name-length
+      (one-more (to-the-right operand-columns (decimal (l .operand))) (end-text (l .end)) operand-columns 5 operand-length
+      (length-append (to-the-right end-columns (decimal (l .end))) (newline ∷ []) ∙ ap (λ n. n + 1) end-length))))
+
+-- ---- The line as it is written.
+
 pub line-written : (words before after-node after-depth after-name after-operand after : List ℕ) (node depth kind operand end : ℕ) → SomeLine words node depth →
     after-node ≡ put (line-bytes * node) (to-the-right node-columns (decimal node) ++ (blank ∷ [])) before →
     after-depth ≡ put (line-bytes * node + 5) (to-the-right depth-columns (decimal depth) ++ (blank ∷ [])) after-node →
@@ -120,28 +162,20 @@ line-written words before after-node after-depth after-name after-operand after 
     p₅
     ∙ ap (λ v. put (at + 26) (end-text v) after-operand) (end-here ∙ end-is h (kind-low k))
     ∙ ap (put (at + 26) (end-text e)) (p₄ ∙ ap (λ v. put (at + 15) (to-the-right operand-columns (decimal v) ++ (blank ∷ [])) after-name) (operand-here ∙ operand-is h (kind-low k)))
-    ∙ part-then (at + 15) (at + 26) blank (to-the-right operand-columns (decimal w)) (end-text e) after-name (omega (arith, right-length operand-columns (decimal w) (operand-fits w (h .operand-low))))
+    ∙ part-then (at + 15) (at + 26) blank (to-the-right operand-columns (decimal w)) (end-text e) after-name (omega (arith, operand-length line fits))
     ∙ ap (put (at + 15) (operand-text w e)) (p₃ k (kind-here ∙ kind-is h (kind-low k)))
-    ∙ part-then (at + 8) (at + 15) blank (to-the-left name-columns (ascii (kind-name k))) (operand-text w e) after-depth (omega (arith, left-length name-columns (ascii (kind-name k)) (name-fits k)))
+    ∙ part-then (at + 8) (at + 15) blank (to-the-left name-columns (ascii (kind-name k))) (operand-text w e) after-depth (omega (arith, name-length line fits))
     ∙ ap (put (at + 8) (name-text k w e)) p₂
-    ∙ part-then (at + 5) (at + 8) blank (to-the-right depth-columns (decimal depth)) (name-text k w e) after-node (omega (arith, right-length depth-columns (decimal depth) (depth-fits depth (some .4))))
+    ∙ part-then (at + 5) (at + 8) blank (to-the-right depth-columns (decimal depth)) (name-text k w e) after-node (omega (arith, depth-length line fits))
     ∙ ap (put (at + 5) (depth-text depth k w e)) p₁
-    ∙ part-then at (at + 5) blank (to-the-right node-columns (decimal node)) (depth-text depth k w e) before (omega (arith, right-length node-columns (decimal node) (node-fits node (h .place-low))))
+    ∙ part-then at (at + 5) blank (to-the-right node-columns (decimal node)) (depth-text depth k w e) before (omega (arith, node-length line fits))
     ∙ ap (λ l. put at l before) (sym (line-parts node depth k w e))
   where
     at : ℕ
     at = line-bytes * node
 
--- ---- Its length.
+    line : Line
+    line = line-of node depth k w e
 
-one-more : (part rest : List ℕ) (columns others : ℕ) → length part ≡ columns → length rest ≡ others → length (part ++ (blank ∷ rest)) ≡ columns + suc others
-one-more part rest columns others p q = omega (arith, length-append part (blank ∷ rest), p, q)
-
-pub line-length : {words : List ℕ} {i w e : ℕ} (d : ℕ) (k : Kind) → HasWord words i (kind-number k) w e → d ≤ most-depth → length (line-text (line-of i d k w e)) ≡ line-bytes
-line-length {i = i} {w} {e} d k h low =
-    ap length (line-parts i d k w e)
-    ∙ one-more (to-the-right node-columns (decimal i)) (depth-text d k w e) node-columns 26 (right-length node-columns (decimal i) (node-fits i (h .place-low)))
-    (one-more (to-the-right depth-columns (decimal d)) (name-text k w e) depth-columns 23 (right-length depth-columns (decimal d) (depth-fits d low))
-    (one-more (to-the-left name-columns (ascii (kind-name k))) (operand-text w e) name-columns 16 (left-length name-columns (ascii (kind-name k)) (name-fits k))
-    (one-more (to-the-right operand-columns (decimal w)) (end-text e) operand-columns 5 (right-length operand-columns (decimal w) (operand-fits w (h .operand-low)))
-    (length-append (to-the-right end-columns (decimal e)) (newline ∷ []) ∙ ap (λ n. n + 1) (right-length end-columns (decimal e) (end-fits e (h .end-low)))))))
+    fits : LineFits line
+    fits = word-fits depth k h (some .4)

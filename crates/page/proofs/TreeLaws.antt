@@ -16,8 +16,8 @@ use Rattle.page.specs.Lines.{Line, line-of, root-lines}
 use Rattle.page.specs.Page.{line-bytes, line-text, lines-text, page-of}
 use Rattle.page.specs.Forest.{Forest, no-tree, a-tree, SomeTrees}
 use Rattle.page.specs.Writing.{SomeLine, LinePut, TreesPut, PagePut}
-use Rattle.page.proofs.LineLaws.{kind-low, line-length}
-use Rattle.page.proofs.ForestLaws.{join, counted, root-forest}
+use Rattle.page.proofs.LineLaws.{kind-low, word-fits, line-length}
+use Rattle.page.proofs.ForestLaws.{join, counted, root-forest, AllFit, all-fit}
 
 -- ---- A line keeps the number of bytes.
 
@@ -31,11 +31,10 @@ unfolding lines-text
 lines-append [] b = refl
 lines-append (l ∷ a) b = ap (λ t. line-text l ++ t) (lines-append a b) ∙ sym (append-assoc (line-text l) (lines-text a) (lines-text b))
 
-pub lines-length : {words : List ℕ} {d i j : ℕ} {ls : List Line} → Forest words d i j ls → length (lines-text ls) ≡ line-bytes * length ls
+pub lines-length : (ls : List Line) → AllFit ls → length (lines-text ls) ≡ line-bytes * length ls
 unfolding lines-text
-lines-length no-tree = refl
-lines-length {d = d} {i} (a-tree {j = j} {w = w} {kind = kind} {below = below} {rest = rest} h low inner later) =
-    omega (arith, length-append (line-text (line-of i d kind w j)) (lines-text (below ++ rest)), line-length d kind h low, ap length (lines-append below rest), length-append (lines-text below) (lines-text rest), lines-length inner, lines-length later, length-append below rest)
+lines-length [] fits = refl
+lines-length (l ∷ ls) fits = omega (arith, length-append (line-text l) (lines-text ls), line-length l (fits .0), lines-length ls (fits .1))
 
 -- ---- The first tree of some.
 
@@ -131,9 +130,9 @@ module _ {words before : List ℕ} {depth first next node : ℕ} {now : List ℕ
             trees (tree .below) (children tree after ends)
             ∙ ap (put (line-bytes * (node + 1)) (lines-text (tree .below))) (line (tree .kind) (tree .operand) (tree .end) (tree .word) ∙ ap (put (line-bytes * node) (line-text line-is)) (here .written))
             ∙ ap (λ p. put p (lines-text (tree .below)) (put (line-bytes * node) (line-text line-is) (put (line-bytes * first) (lines-text (here .done)) before)))
-            (next-line (length (line-text line-is)) (line-length depth (tree .kind) (tree .word) (tree .low)))
+            (next-line (length (line-text line-is)) (line-length line-is (word-fits depth (tree .kind) (tree .word) (tree .low))))
             ∙ put-append (line-bytes * node) (line-text line-is) (lines-text (tree .below)) (put (line-bytes * first) (lines-text (here .done)) before)
-            ∙ ap (λ p. put p (lines-text (line-is ∷ tree .below)) (put (line-bytes * first) (lines-text (here .done)) before)) (this-line (here .done) (counted (here .past)) (lines-length (here .past)))
+            ∙ ap (λ p. put p (lines-text (line-is ∷ tree .below)) (put (line-bytes * first) (lines-text (here .done)) before)) (this-line (here .done) (counted (here .past)) (lines-length (here .done) (all-fit (here .past))))
             ∙ put-append (line-bytes * first) (lines-text (here .done)) (lines-text (line-is ∷ tree .below)) before
             ∙ ap (λ t. put (line-bytes * first) t before) (sym (lines-append (here .done) (line-is ∷ tree .below)));
       }
@@ -167,4 +166,4 @@ page-put words before now nodes room put-there t at =
     put-there (root-lines t) (root-forest at) ∙ put-front (lines-text (root-lines t)) before (omega (arith, sized, room)) ∙ ap (λ n. lines-text (root-lines t) ++ drop n before) sized
   where
     sized : length (lines-text (root-lines t)) ≡ line-bytes * nodes
-    sized = omega (arith, lines-length (root-forest at), counted (root-forest at))
+    sized = omega (arith, lines-length (root-lines t) (all-fit (root-forest at)), counted (root-forest at))
