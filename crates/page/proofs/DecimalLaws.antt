@@ -50,3 +50,14 @@ decimal-within (suc k) n h =
 
 pub decimal-some : (n : ℕ) → 1 ≤ length (decimal n)
 decimal-some n = by-order n 10 (λ low. omega (arith, ap length (decimal-short n low))) (λ high. omega (arith, length-long n high))
+
+-- As many as there are do: a number's digits can be computed.
+pub decimal-computed : (k n : ℕ) → n < 10 ^ suc k → decimal n ≡ digits-within (suc k) n
+decimal-computed zero n h = let low = subst (λ p. n < p) (pow-suc 10 0) h in decimal-short n (omega (arith, low)) ∙ sym (one-digit 0 n (omega (arith, low)))
+decimal-computed (suc k) n h =
+    by-order n 10
+    (λ low. decimal-short n low ∙ sym (one-digit (suc k) n low))
+    (λ high.
+      decimal-long n high
+      ∙ ap (λ l. l ++ (digit (n % 10) ∷ [])) (decimal-computed k (n / 10) (div-lt-iff-lt-mul (omega arith) .1 (subst (λ p. n < p) (pow-suc 10 (suc k)) h)))
+      ∙ sym (more-digits (suc k) n high))

@@ -8,3 +8,4 @@ pub mod TreeLaws
 pub mod ListingLaws
 pub mod ColumnLaws
 pub mod EveryLine
+pub mod Samples

@@ -11,8 +11,8 @@ use Rattle.rules.specs.paper.Limits.{most-nodes, most-depth}
 use Rattle.rules.specs.paper.Decimal.{ascii, decimal}
 use Rattle.rules.specs.paper.Kinds.{Kind, kind-number, every-kind}
 use Rattle.reader.specs.Put.{put, put-append}
-use Rattle.reader.specs.Pack.{kinds-room, packed-kind, packed-operand, packed-end}
-use Rattle.reader.specs.Stored.{HasWord, kind-is, operand-is, end-is}
+use Rattle.reader.specs.Pack.{kinds-room, packed-kind, packed-operand}
+use Rattle.reader.specs.Stored.{HasWord, kind-is, operand-is}
 use Rattle.reader.proofs.TableRows.{all-of, each-kind, known-low}
 use Rattle.rules.specs.proofs.reading.ReaderComplete.{kind-known}
 use Rattle.page.specs.Names.{kind-name}
@@ -53,12 +53,9 @@ left-length columns text h = omega (arith, h, length-append text (blanks (column
 pub kind-low : (k : Kind) → kind-number k < kinds-room
 kind-low k = known-low (kind-number k) k (kind-known k)
 
--- The same of what is read of a node.
-pub some-operand-fits : {words : List ℕ} {node depth : ℕ} (operand : ℕ) → operand ≡ packed-operand (getD words node 0) → SomeLine words node depth → length (decimal operand) ≤ operand-columns
-some-operand-fits operand q (k, w, e, h, d) = operand-fits operand (omega (arith, q, operand-is h (kind-low k), h .operand-low))
-
-pub some-end-fits : {words : List ℕ} {node depth : ℕ} (end : ℕ) → end ≡ packed-end (getD words node 0) → SomeLine words node depth → length (decimal end) ≤ end-columns
-some-end-fits end q (k, w, e, h, d) = end-fits end (omega (arith, q, end-is h (kind-low k), h .end-low))
+-- The same of the operand that is read of a node.
+pub some-operand-fits : {words : List ℕ} {node depth end : ℕ} (operand : ℕ) → operand ≡ packed-operand (getD words node 0) → SomeLine words node depth end → length (decimal operand) ≤ operand-columns
+some-operand-fits operand q (k, w, h, d) = operand-fits operand (omega (arith, q, operand-is h (kind-low k), h .operand-low))
 
 -- ---- A part, a byte behind it, and what follows.
 
@@ -151,31 +148,29 @@ module _ (l : Line) (fits : LineFits l) where
 
 -- ---- The line as it is written.
 
-pub line-written : (words before after-node after-depth after-name after-operand after : List ℕ) (node depth kind operand end : ℕ) → SomeLine words node depth →
+pub line-written : (words before after-node after-depth after-name after-operand after : List ℕ) (node depth kind operand end : ℕ) → SomeLine words node depth end →
     after-node ≡ put (line-bytes * node) (to-the-right node-columns (decimal node) ++ (blank ∷ [])) before →
     after-depth ≡ put (line-bytes * node + 5) (to-the-right depth-columns (decimal depth) ++ (blank ∷ [])) after-node →
     kind ≡ packed-kind (getD words node 0) → NamePut kind (line-bytes * node + 8) after-depth after-name →
     operand ≡ packed-operand (getD words node 0) → after-operand ≡ put (line-bytes * node + 15) (to-the-right operand-columns (decimal operand) ++ (blank ∷ [])) after-name →
-    end ≡ packed-end (getD words node 0) → after ≡ put (line-bytes * node + 26) (to-the-right end-columns (decimal end) ++ (newline ∷ [])) after-operand →
-    LinePut words node depth before after
-line-written words before after-node after-depth after-name after-operand after node depth kind operand end some p₁ p₂ kind-here p₃ operand-here p₄ end-here p₅ k w e h =
+    after ≡ put (line-bytes * node + 26) (end-text end) after-operand → LinePut words node depth end before after
+line-written words before after-node after-depth after-name after-operand after node depth kind operand end some p₁ p₂ kind-here p₃ operand-here p₄ p₅ k w h =
     p₅
-    ∙ ap (λ v. put (at + 26) (end-text v) after-operand) (end-here ∙ end-is h (kind-low k))
-    ∙ ap (put (at + 26) (end-text e)) (p₄ ∙ ap (λ v. put (at + 15) (to-the-right operand-columns (decimal v) ++ (blank ∷ [])) after-name) (operand-here ∙ operand-is h (kind-low k)))
-    ∙ part-then (at + 15) (at + 26) blank (to-the-right operand-columns (decimal w)) (end-text e) after-name (omega (arith, operand-length line fits))
-    ∙ ap (put (at + 15) (operand-text w e)) (p₃ k (kind-here ∙ kind-is h (kind-low k)))
-    ∙ part-then (at + 8) (at + 15) blank (to-the-left name-columns (ascii (kind-name k))) (operand-text w e) after-depth (omega (arith, name-length line fits))
-    ∙ ap (put (at + 8) (name-text k w e)) p₂
-    ∙ part-then (at + 5) (at + 8) blank (to-the-right depth-columns (decimal depth)) (name-text k w e) after-node (omega (arith, depth-length line fits))
-    ∙ ap (put (at + 5) (depth-text depth k w e)) p₁
-    ∙ part-then at (at + 5) blank (to-the-right node-columns (decimal node)) (depth-text depth k w e) before (omega (arith, node-length line fits))
-    ∙ ap (λ l. put at l before) (sym (line-parts node depth k w e))
+    ∙ ap (put (at + 26) (end-text end)) (p₄ ∙ ap (λ v. put (at + 15) (to-the-right operand-columns (decimal v) ++ (blank ∷ [])) after-name) (operand-here ∙ operand-is h (kind-low k)))
+    ∙ part-then (at + 15) (at + 26) blank (to-the-right operand-columns (decimal w)) (end-text end) after-name (omega (arith, operand-length line fits))
+    ∙ ap (put (at + 15) (operand-text w end)) (p₃ k (kind-here ∙ kind-is h (kind-low k)))
+    ∙ part-then (at + 8) (at + 15) blank (to-the-left name-columns (ascii (kind-name k))) (operand-text w end) after-depth (omega (arith, name-length line fits))
+    ∙ ap (put (at + 8) (name-text k w end)) p₂
+    ∙ part-then (at + 5) (at + 8) blank (to-the-right depth-columns (decimal depth)) (name-text k w end) after-node (omega (arith, depth-length line fits))
+    ∙ ap (put (at + 5) (depth-text depth k w end)) p₁
+    ∙ part-then at (at + 5) blank (to-the-right node-columns (decimal node)) (depth-text depth k w end) before (omega (arith, node-length line fits))
+    ∙ ap (λ l. put at l before) (sym (line-parts node depth k w end))
   where
     at : ℕ
     at = line-bytes * node
 
     line : Line
-    line = line-of node depth k w e
+    line = line-of node depth k w end
 
     fits : LineFits line
-    fits = word-fits depth k h (some .4)
+    fits = word-fits depth k h (some .3)

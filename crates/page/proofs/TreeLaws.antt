@@ -21,8 +21,8 @@ use Rattle.page.proofs.ForestLaws.{join, counted, root-forest, AllFit, 
 
 -- ---- A line keeps the number of bytes.
 
-pub line-put-length : (before : List ℕ) {words after : List ℕ} {node depth : ℕ} → SomeLine words node depth → LinePut words node depth before after → length after ≡ length before
-line-put-length before {node = node} {depth} (k, w, e, h, low) put-there = ap length (put-there k w e h) ∙ put-length (line-bytes * node) (line-text (line-of node depth k w e)) before
+pub line-put-length : (before : List ℕ) {words after : List ℕ} {node depth end : ℕ} → SomeLine words node depth end → LinePut words node depth end before after → length after ≡ length before
+line-put-length before {node = node} {depth} {end} (k, w, h, low) put-there = ap length (put-there k w h) ∙ put-length (line-bytes * node) (line-text (line-of node depth k w end)) before
 
 -- ---- The text of lines.
 
@@ -95,12 +95,18 @@ module _ {words before : List ℕ} {depth first next node : ℕ} {now : List ℕ
       tree : FirstTree words depth node next (here .rest)
       tree = first-tree (here .coming) more
 
-      pub line-here : SomeLine words node depth
-      line-here = (tree .kind, tree .operand, tree .end, tree .word, tree .low)
+      pub node-low : node < most-nodes
+      node-low = tree .word .place-low
+
+      pub depth-low : depth ≤ most-depth
+      depth-low = tree .low
 
       module _ (after : ℕ) (read : after ≡ packed-end (getD words node 0)) where
         ends : after ≡ tree .end
         ends = read ∙ end-is (tree .word) (kind-low (tree .kind))
+
+        pub line-here : SomeLine words node depth after
+        line-here = (tree .kind, tree .operand, subst (HasWord words node (kind-number (tree .kind)) (tree .operand)) (sym ends) (tree .word), tree .low)
 
         -- The next tree stands behind this one, and ends no later than all.
         pub end-within : (node < after) × (after ≤ next)
@@ -109,7 +115,7 @@ module _ {words before : List ℕ} {depth first next node : ℕ} {now : List ℕ
         pub children-here : SomeTrees words (depth + 1) (node + 1) after
         children-here = (tree .below, children tree after ends)
 
-  pub one-more-put : (with-line later : List ℕ) (after : ℕ) → node < next → after ≡ packed-end (getD words node 0) → LinePut words node depth now with-line →
+  pub one-more-put : (with-line later : List ℕ) (after : ℕ) → node < next → after ≡ packed-end (getD words node 0) → LinePut words node depth after now with-line →
       TreesPut words (depth + 1) (node + 1) after with-line later → SoFar words before depth first next after later
   unfolding lines-text
   one-more-put with-line later after more read line trees lines f =
@@ -117,6 +123,7 @@ module _ {words before : List ℕ} {depth first next node : ℕ} {now : List ℕ
       let tree = first-tree (here .coming) more in
       let line-is = line-of node depth (tree .kind) (tree .operand) (tree .end) in
       let ends : after ≡ tree .end = read ∙ end-is (tree .word) (kind-low (tree .kind)) in
+      let line-there = subst (λ e. LinePut words node depth e now with-line) ends line in
       record {
         done = here .done ++ (line-is ∷ tree .below);
         rest = tree .rest;
@@ -128,7 +135,7 @@ module _ {words before : List ℕ} {depth first next node : ℕ} {now : List ℕ
         coming = subst (λ j. Forest words depth j next (tree .rest)) (sym ends) (tree .later);
         written =
             trees (tree .below) (children tree after ends)
-            ∙ ap (put (line-bytes * (node + 1)) (lines-text (tree .below))) (line (tree .kind) (tree .operand) (tree .end) (tree .word) ∙ ap (put (line-bytes * node) (line-text line-is)) (here .written))
+            ∙ ap (put (line-bytes * (node + 1)) (lines-text (tree .below))) (line-there (tree .kind) (tree .operand) (tree .word) ∙ ap (put (line-bytes * node) (line-text line-is)) (here .written))
             ∙ ap (λ p. put p (lines-text (tree .below)) (put (line-bytes * node) (line-text line-is) (put (line-bytes * first) (lines-text (here .done)) before)))
             (next-line (length (line-text line-is)) (line-length line-is (word-fits depth (tree .kind) (tree .word) (tree .low))))
             ∙ put-append (line-bytes * node) (line-text line-is) (lines-text (tree .below)) (put (line-bytes * first) (lines-text (here .done)) before)

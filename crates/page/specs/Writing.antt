@@ -21,13 +21,13 @@ NameOf number letters = (k : Kind) → number ≡ kind-number k → letters ≡ 
 abbrev pub NamePut : (number at : ℕ) → (before after : List ℕ) → Type 0
 NamePut number at before after = (k : Kind) → number ≡ kind-number k → after ≡ put at (to-the-left name-columns (ascii (kind-name k)) ++ (blank ∷ [])) before
 
--- A node that has its word, at a depth that a tree may have.
-abbrev pub SomeLine : List ℕ → (node depth : ℕ) → Type 0
-SomeLine words node depth = (k : Kind) × (w e : ℕ) × HasWord words node (kind-number k) w e × (depth ≤ most-depth)
+-- A node that has its word, with this end, at a depth that a tree may have.
+abbrev pub SomeLine : List ℕ → (node depth end : ℕ) → Type 0
+SomeLine words node depth end = (k : Kind) × (w : ℕ) × HasWord words node (kind-number k) w end × (depth ≤ most-depth)
 
-abbrev pub LinePut : List ℕ → (node depth : ℕ) → (before after : List ℕ) → Type 0
-LinePut words node depth before after =
-    (k : Kind) (w e : ℕ) → HasWord words node (kind-number k) w e → after ≡ put (line-bytes * node) (line-text (line-of node depth k w e)) before
+abbrev pub LinePut : List ℕ → (node depth end : ℕ) → (before after : List ℕ) → Type 0
+LinePut words node depth end before after =
+    (k : Kind) (w : ℕ) → HasWord words node (kind-number k) w end → after ≡ put (line-bytes * node) (line-text (line-of node depth k w end)) before
 
 abbrev pub TreesPut : List ℕ → (depth first next : ℕ) → (before after : List ℕ) → Type 0
 TreesPut words depth first next before after = (lines : List Line) → Forest words depth first next lines → after ≡ put (line-bytes * first) (lines-text lines) before

@@ -27,9 +27,10 @@ fn put_trees(page: &mut [u8], work: &[u64], first: usize, next: usize, depth: us
 {
     let mut node = first;
     while node < next {
+        let child = node + 1;
         let after = end(work, node);
-        put_line(page, work, node, depth);
-        put_trees(page, work, node + 1, after, depth + 1);
+        put_line(page, work, node, depth, after);
+        put_trees(page, work, child, after, depth + 1);
         node = after;
     }
 }

@@ -7,7 +7,6 @@ ghost use Rattle.page.specs.Writing.{SomeLine, LinePut};
 use crate::names::NAME_COLUMNS;
 use crate::names::put_name;
 use crate::text::put_number;
-use reader::end;
 use reader::kind;
 use reader::operand;
 
@@ -31,17 +30,17 @@ const END_AT: usize = OPERAND_AT + OPERAND_COLUMNS + 1;
 
 pub(crate) const LINE_BYTES: usize = END_AT + END_COLUMNS + 1;
 
-// The node, its depth, its kind's name, its operand and the first node after its descendants.
-pub(crate) fn put_line(page: &mut [u8], work: &[u64], node: usize, depth: usize)
+// The node, its depth, its kind's name, its operand and its end, the first node after its descendants.
+pub(crate) fn put_line(page: &mut [u8], work: &[u64], node: usize, depth: usize, end: usize)
     requires { ⌜ most-nodes ≤ length (now work) ⌝ }
     requires { ⌜ line-bytes * node + line-bytes ≤ length (now page) ⌝ }
-    requires { ⌜ SomeLine (now work) node depth ⌝ }
-    ensures { λ r. ⌜ LinePut (now (work .entry)) node depth (now (page .entry)) (now (page .exit)) ⌝ }
+    requires { ⌜ SomeLine (now work) node depth end ⌝ }
+    ensures { λ r. ⌜ LinePut (now (work .entry)) node depth end (now (page .entry)) (now (page .exit)) ⌝ }
 {
     let at = LINE_BYTES * node;
     put_number(page, at, NODE_COLUMNS, node, b' ');
     put_number(page, at + DEPTH_AT, DEPTH_COLUMNS, depth, b' ');
     put_name(page, at + NAME_AT, kind(work, node));
     put_number(page, at + OPERAND_AT, OPERAND_COLUMNS, operand(work, node), b' ');
-    put_number(page, at + END_AT, END_COLUMNS, end(work, node), b'\n');
+    put_number(page, at + END_AT, END_COLUMNS, end, b'\n');
 }

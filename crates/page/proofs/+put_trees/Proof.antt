@@ -2,7 +2,7 @@
 -- to its children.
 use Prim.Native.Nat.{ℕ, _-_, _<_}
 use native.Mathlib.Omega.{arith}
-use Rattle.page.proofs.TreeLaws.{line-put-length, SoFar, none-put, so-far-length, within, line-here, end-within, children-here, one-more-put, all-put}
+use Rattle.page.proofs.TreeLaws.{line-put-length, SoFar, none-put, so-far-length, within, node-low, depth-low, line-here, end-within, children-here, one-more-put, all-put}
 use borrow.Fn.Kinds.{In}
 use borrow.Fn.PlainCycle.{Measures, is, falls, and}
 use Rattle.page.proofs.put_trees.Reads as put-trees
@@ -36,35 +36,33 @@ put-trees-calls t = (end-reads.Asked, end-reads.Learnt, put-line-reads.Asked, pu
 put-trees-loop-holds : (t : ℕ) → put-trees-lts.Need-loop-holds (put-trees-calls t) (put-trees-at t) put-trees.Post put-trees-Inv-loop put-trees-μ-loop
 put-trees-loop-holds t c = none-put _ _ _ _ _
 
+put-trees-add-child : (t : ℕ) → put-trees-lts.Need-add-child (put-trees-calls t) (put-trees-at t) put-trees.Post put-trees-Inv-loop put-trees-μ-loop
+put-trees-add-child t c = record { fits = omega (arith, node-low (c .before .loop .inv) (c .before .before .before .before .pre .1 .1 .1) (c .loop-test .taken)) }
+
 put-trees-end-requires : (t : ℕ) → put-trees-lts.Need-end-requires (put-trees-calls t) (put-trees-at t) put-trees.Post put-trees-Inv-loop put-trees-μ-loop
 put-trees-end-requires t c κs =
     let start = c .before .before .before .before in
-    omega (arith, line-here (c .before .loop .inv) (start .pre .1 .1 .1) (c .loop-test .taken) .3 .place-low, start .pre .1 .0)
+    omega (arith, node-low (c .before .loop .inv) (start .pre .1 .1 .1) (c .loop-test .taken), start .pre .1 .0)
 
 put-trees-put-line-requires : (t : ℕ) → put-trees-lts.Need-put-line-requires (put-trees-calls t) (put-trees-at t) put-trees.Post put-trees-Inv-loop put-trees-μ-loop
 put-trees-put-line-requires t c κs =
-    let turn = c .before .before in
+    let ended = c .before in
+    let turn = ended .before in
     let start = turn .before .before .before .before in
-    (start .pre .1 .0, (omega (arith, turn .loop-test .taken, start .pre .1 .1 .0, so-far-length (turn .before .loop .inv) (start .pre .1 .1 .1)), line-here (turn .before .loop .inv) (start .pre .1 .1 .1) (turn .loop-test .taken)))
+    (start .pre .1 .0, (omega (arith, turn .loop-test .taken, start .pre .1 .1 .0, so-far-length (turn .before .loop .inv) (start .pre .1 .1 .1)), line-here (turn .before .loop .inv) (start .pre .1 .1 .1) (turn .loop-test .taken) _ (ended .end .ensures)))
 
 put-trees-add-put-trees : (t : ℕ) → put-trees-lts.Need-add-put-trees (put-trees-calls t) (put-trees-at t) put-trees.Post put-trees-Inv-loop put-trees-μ-loop
 put-trees-add-put-trees t c =
     let turn = c .before .before .before .before .before .before in
     let start = turn .before .before .before .before in
-    record { fits = omega (arith, line-here (turn .before .loop .inv) (start .pre .1 .1 .1) (turn .loop-test .taken) .3 .place-low) }
-
-put-trees-add-put-trees-2 : (t : ℕ) → put-trees-lts.Need-add-put-trees-2 (put-trees-calls t) (put-trees-at t) put-trees.Post put-trees-Inv-loop put-trees-μ-loop
-put-trees-add-put-trees-2 t c =
-    let turn = c .before .before .before .before .before .before in
-    let start = turn .before .before .before .before in
-    record { fits = omega (arith, line-here (turn .before .loop .inv) (start .pre .1 .1 .1) (turn .loop-test .taken) .4) }
+    record { fits = omega (arith, depth-low (turn .before .loop .inv) (start .pre .1 .1 .1) (turn .loop-test .taken)) }
 
 put-trees-put-trees-requires : (t : ℕ) → put-trees-lts.Need-put-trees-requires (put-trees-calls t) (put-trees-at t) put-trees.Post put-trees-Inv-loop put-trees-μ-loop
 put-trees-put-trees-requires t c κs =
     let ended = c .before .before .before .before .before in
     let turn = ended .before in
     let start = turn .before .before .before .before in
-    let here = line-here (turn .before .loop .inv) (start .pre .1 .1 .1) (turn .loop-test .taken) in
+    let here = line-here (turn .before .loop .inv) (start .pre .1 .1 .1) (turn .loop-test .taken) _ (ended .end .ensures) in
     let ends = end-within (turn .before .loop .inv) (start .pre .1 .1 .1) (turn .loop-test .taken) _ (ended .end .ensures) in
     let room = so-far-length (turn .before .loop .inv) (start .pre .1 .1 .1) in
     let same = line-put-length _ here (c .before .before .before .put-line .ensures) in (
@@ -99,10 +97,10 @@ pub +put-trees-spec : {M : Type 1} → statement M
     put-trees-Inv-loop
     put-trees-μ-loop
     (put-trees-loop-holds t)
+    (put-trees-add-child t)
     (put-trees-end-requires t)
     (put-trees-put-line-requires t)
     (put-trees-add-put-trees t)
-    (put-trees-add-put-trees-2 t)
     (put-trees-put-trees-requires t)
     (put-trees-loop-less t)
     (put-trees-loop-again t)
