@@ -98,15 +98,16 @@ Buffer buffer_holding(const void *contents, size_t bytes, size_t offset)
 
 Buffer buffer_of_junk(size_t bytes)
 {
-    return buffer_unset(bytes, 0);
+    return buffer_unset(bytes, 0, 0);
 }
 
-Buffer buffer_unset(size_t bytes, size_t unset)
+Buffer buffer_unset(size_t bytes, size_t unset, size_t offset)
 {
-    Buffer buffer = buffer_new(bytes, 0);
+    Buffer buffer = buffer_new(bytes, offset);
     size_t skipped = exact_layout ? unset : 0;
 
-    fill(buffer.block + skipped, block_bytes(&buffer) - skipped);
+    fill(buffer.block, before(&buffer));
+    fill(buffer.start + skipped, bytes - skipped + guard());
     note_made(&buffer);
     return buffer;
 }

@@ -26,8 +26,8 @@ Buffer buffer_holding(const void *contents, size_t bytes, size_t offset);
 /* A buffer full of junk, another one each time. */
 Buffer buffer_of_junk(size_t bytes);
 
-/* The same, with its first bytes left unset if buffers are exact. */
-Buffer buffer_unset(size_t bytes, size_t unset);
+/* The same, with its first bytes left unset if buffers are exact; and its start as above. */
+Buffer buffer_unset(size_t bytes, size_t unset, size_t offset);
 
 void buffer_free(Buffer *buffer);
 

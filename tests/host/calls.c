@@ -2,6 +2,7 @@
 
 #include "buffers.h"
 #include "figures.h"
+#include "lines.h"
 #include "report.h"
 
 #include <inttypes.h>
@@ -26,7 +27,7 @@ Buffer lend_work(size_t work_length, uint64_t budget)
     /* Where nothing may be touched every word is looked at, so every word is set. */
     if (work_length < PI_WORK_WORDS || budget > PI_MOST_BUDGET)
         return buffer_of_junk(bytes);
-    return buffer_unset(bytes, WORK_BYTES);
+    return buffer_unset(bytes, WORK_BYTES, 0);
 }
 
 void work_settled(const Buffer *work, uint64_t refusal)
@@ -45,7 +46,7 @@ void registers_settled(const Buffer *registers, uint64_t refusal)
 }
 
 /* By the refusal's number, of which this is the last. */
-#define LAST PI_REFUSAL_TOO_MANY_STEPS
+#define LAST PI_REFUSAL_PAGE
 static size_t answered[LAST + 1];
 
 size_t times_answered(PiRefusal refusal)
@@ -217,6 +218,52 @@ PiNeedsReply call_needs(const Call *call)
     return reply;
 }
 
+/* What pi_page must answer with a page of so many bytes: 22, as pi_check does, or else 41. */
+static PiPageReply reply_of_page(const Call *call, size_t page_length)
+{
+    static uint64_t work[PI_WORK_WORDS];
+    size_t work_length = call->work_length < PI_WORK_WORDS ? call->work_length : PI_WORK_WORDS;
+    PiCheckReply checked = pi_check(call->image, call->image_length, work, work_length);
+    PiPageReply reply;
+
+    reply.refusal = checked.refusal;
+    reply.place = checked.place;
+    if (checked.refusal == PI_REFUSAL_NONE && page_length < PI_PAGE_BYTES(call->image[0]))
+        reply.refusal = PI_REFUSAL_PAGE;
+    return reply;
+}
+
+PiPageReply call_page(const Call *call, size_t page_length, uint8_t *left)
+{
+    static uint8_t lines[PAGE_ROOM];
+    PiPageReply expected = reply_of_page(call, page_length);
+    size_t nodes = expected.refusal == PI_REFUSAL_NONE ? page_of(call->image, lines) : 0;
+    size_t bytes = PI_PAGE_BYTES(nodes);
+    Buffer image = buffer_holding(call->image, call->image_length * sizeof(uint32_t), 0);
+    Buffer page = buffer_unset(page_length, bytes, page_length % 8);
+    Buffer work = lend_work(call->work_length, 0);
+    PiPageReply reply = pi_page((const uint32_t *)(const void *)image.start, call->image_length,
+                                page.start, page_length, (uint64_t *)(void *)work.start,
+                                call->work_length);
+
+    if (reply.refusal != expected.refusal || reply.place != expected.place)
+        test_fault("page of %lu bytes: refusal %" PRIu64 " at %" PRIu64 " in place of %" PRIu64
+                   " at %" PRIu64,
+                   (unsigned long)page_length, reply.refusal, reply.place, expected.refusal,
+                   expected.place);
+    same_lines(page.start, lines, nodes);
+    buffer_kept(&image, "image", 0);
+    buffer_kept(&page, "page", bytes);
+    work_settled(&work, reply.refusal);
+    count_answer(reply.refusal);
+    if (left != NULL && page_length != 0)
+        memcpy(left, page.start, page_length);
+    buffer_free(&image);
+    buffer_free(&page);
+    buffer_free(&work);
+    return reply;
+}
+
 Ran call_run(const Call *call)
 {
     Buffer image = buffer_holding(call->image, call->image_length * sizeof(uint32_t), 0);
@@ -353,6 +400,7 @@ Ran call_all(const Call *call)
     if (expected != PI_REFUSAL_NONE && ran.reply.refusal != expected)
         test_fault("refusal %" PRIu64 " in place of %" PRIu64, ran.reply.refusal, expected);
     fits_the_needs(call, &ran);
+    fits_the_pages(call);
     if (touches_nothing(ran.reply.refusal))
         return ran;
     fits_the_check(call, &ran);

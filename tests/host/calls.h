@@ -31,6 +31,13 @@ PiCheckReply call_check(const Call *call);
 PiNeedsReply call_needs(const Call *call);
 Ran call_run(const Call *call);
 
+/*
+ * Lends buffers to pi_page, of which the page has so many bytes. The reply is held to the check of the
+ * image, and the page to its words. All bytes of the page are left here after the call, or nowhere
+ * where this is NULL.
+ */
+PiPageReply call_page(const Call *call, size_t page_length, uint8_t *left);
+
 /* The work buffer of a call, which it may clear or not. */
 Buffer lend_work(size_t work_length, uint64_t budget);
 
@@ -50,7 +57,7 @@ uint64_t refusal_by_lengths(const Call *call);
 /*
  * Checks and runs, and notes where the two do not fit together: the run of what passes, its outcome's
  * sort, the count of registers, and the same run with one step less, just enough, and other junk. And
- * works out the needs, which must fit both.
+ * works out the needs, which must fit both, and has pages written.
  */
 Ran call_all(const Call *call);
 

@@ -55,6 +55,15 @@ pub struct NeedsReply {
     pub open: u64,
 }
 
+/// What `pi_page` returns, the header's `PiPageReply`. Refusal 0: the lines stand in the lent
+/// page, and the place is 0. Otherwise the paper's number and place.
+#[repr(C)]
+#[derive(Clone, Copy, Debug, PartialEq, Eq)]
+pub struct PageReply {
+    pub refusal: u64,
+    pub place: u64,
+}
+
 extern "C" {
     fn pi_check(image: *const u32, image_len: usize, work: *mut u64, work_len: usize)
         -> CheckReply;
@@ -71,6 +80,15 @@ extern "C" {
 
     fn pi_needs(image: *const u32, image_len: usize, work: *mut u64, work_len: usize)
         -> NeedsReply;
+
+    fn pi_page(
+        image: *const u32,
+        image_len: usize,
+        page: *mut u8,
+        page_len: usize,
+        work: *mut u64,
+        work_len: usize,
+    ) -> PageReply;
 
     fn pi_check_bytes(
         image: *const u8,
@@ -116,6 +134,21 @@ pub fn run(image: &[u32], registers: &mut [u64], budget: u64, work: &mut [u64]) 
 pub fn needs(image: &[u32], work: &mut [u64]) -> NeedsReply {
     // Each pointer is its slice's own, and each length its slice's length.
     unsafe { pi_needs(image.as_ptr(), image.len(), work.as_mut_ptr(), work.len()) }
+}
+
+/// The engine's page of an image, in the lent bytes.
+pub fn page(image: &[u32], page: &mut [u8], work: &mut [u64]) -> PageReply {
+    // Each pointer is its slice's own, and each length its slice's length.
+    unsafe {
+        pi_page(
+            image.as_ptr(),
+            image.len(),
+            page.as_mut_ptr(),
+            page.len(),
+            work.as_mut_ptr(),
+            work.len(),
+        )
+    }
 }
 
 /// The engine's answer to an image of bytes.

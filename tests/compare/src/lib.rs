@@ -2,11 +2,11 @@
 //! interpreter.
 //!
 //! [`engine`] is the engine's C interface as safe functions. A comparison, as in
-//! [`check`], [`run`], [`needs`] and [`bytes`], makes one call on [`guarded`] buffers full of
-//! junk ([`lent`] has those of every call), asks the second interpreter what must have
+//! [`check`], [`run`], [`needs`], [`page`] and [`bytes`], makes one call on [`guarded`] buffers
+//! full of junk ([`lent`] has those of every call), asks the second interpreter what must have
 //! come of it, and answers a [`difference`] where anything is otherwise: the reply, the
-//! registers, the work words, a word outside the slices. [`program`] does so with a run
-//! of the program.
+//! registers, the lent page, the work words, a word outside the slices. [`program`] does so
+//! with a run of the program.
 //! [`sample`] makes calls from the second interpreter's generators, [`byte_calls`]
 //! and [`inputs`] make others from calls on bytes and from the program's inputs, and
 //! [`tally`] counts what they were answered. [`progress`] is what a command line shows
@@ -21,6 +21,7 @@ pub mod guarded;
 pub mod inputs;
 pub mod lent;
 pub mod needs;
+pub mod page;
 pub mod program;
 pub mod progress;
 pub mod run;

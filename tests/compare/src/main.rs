@@ -3,8 +3,8 @@
 use compare::difference::Difference;
 use compare::program::Program;
 use compare::progress::{of_all, Progress};
-use compare::sample::{compare_bytes, compare_check, compare_needs, compare_program, compare_run};
-use compare::sample::{Mixture, Sample, CHECKED, NEEDED, RUN};
+use compare::sample::{compare_bytes, compare_check, compare_needs, compare_page};
+use compare::sample::{compare_program, compare_run, Mixture, Sample, CHECKED, NEEDED, RUN};
 use compare::tally::Tally;
 use second::command_line::{arguments, asks_for_help, complain, write_out};
 use second::generate::Family;
@@ -26,6 +26,9 @@ usage: compare COMMAND
                              are too many for the second interpreter are counted
                              apart, and compared as far as it has gone
   needs COUNT SEED FAMILY    the same, of one family
+  page COUNT SEED            compares the pages of COUNT images, each in lent pages that
+                             are too short, exact and longer
+  page COUNT SEED FAMILY     the same, of one family
   bytes COUNT SEED           compares the calls on bytes of COUNT images: whole, at
                              some budgets, and with lengths, bytes, registers, work
                              words or a budget changed
@@ -41,9 +44,9 @@ Exit status: 0 no difference, 1 a difference, 2 bad usage or an output that cann
 written. The program is target/bin/pirun, or what PIRUN names.
 
 In a release build a second is enough for about 5,000 images of check, 500 of run,
-1,500 of needs, 1,000 of bytes and 350 of program: 100,000 images take 20 seconds,
-3 minutes, 1 minute, 2 minutes and 5 minutes. On a terminal the count and the time left
-are shown on standard error.
+1,500 of needs, 1,500 of page, 1,000 of bytes and 350 of program: 100,000 images take
+20 seconds, 3 minutes, 1 minute, 1 minute, 2 minutes and 5 minutes. On a terminal the
+count and the time left are shown on standard error.
 
 families: small medium large faulty sequences choices functions limits damaged empty
           shaped plausible words host
@@ -53,10 +56,11 @@ families: small medium large faulty sequences choices functions limits damaged e
 type Comparison = fn(Sample, &mut Tally) -> Result<(), Box<Difference>>;
 
 /// The comparisons by their command, each with the mixture of families it takes.
-const COMPARISONS: [(&str, Comparison, &Mixture); 5] = [
+const COMPARISONS: [(&str, Comparison, &Mixture); 6] = [
     ("check", compare_check, &CHECKED),
     ("run", compare_run, &RUN),
     ("needs", compare_needs, &NEEDED),
+    ("page", compare_page, &RUN),
     ("bytes", compare_bytes, &CHECKED),
     (PROGRAM, compare_program, &RUN),
 ];

@@ -4,7 +4,8 @@
 use crate::byte_calls::{ByteCall, NEAR_BUDGETS};
 use crate::bytes::{self, RanOnBytes};
 use crate::difference::Difference;
-use crate::inputs::changed;
+use crate::inputs::{changed, random_bytes};
+use crate::page::{self, LINE};
 use crate::program::{self, Program};
 use crate::run::Ran;
 use crate::tally::Tally;
@@ -13,6 +14,7 @@ use second::encode::program_input;
 use second::engine::{MOST_BUDGET, WORK_WORDS};
 use second::generate::random::{starting_value, Random};
 use second::generate::{Case, Family};
+use second::kinds::MOST_NODES;
 use second::program::with_budget;
 use second::refusal;
 
@@ -60,7 +62,7 @@ pub const CHECKED: Mixture = [
     (5, Family::Host),
 ];
 
-/// For runs, the program's too: more of what passes the checker.
+/// For runs, the program's too, and for pages: more of what passes the checker.
 pub const RUN: Mixture = [
     (20, Family::Small),
     (9, Family::Medium),
@@ -150,6 +152,39 @@ pub fn compare_needs(sample: Sample, tally: &mut Tally) -> Result<(), Box<Differ
         tally.count(refusal, words);
     }
     Ok(())
+}
+
+/// Compares the pages of one sample: with a work slice that is enough, lent pages on both sides
+/// of the length that its lines have; with each of its other work slices, one of those.
+pub fn compare_page(sample: Sample, tally: &mut Tally) -> Result<(), Box<Difference>> {
+    let Case { image, work_length, .. } = sample.case();
+    let random = &mut sample.random();
+    let page_lengths = page_lengths(&image, random);
+    let work_lengths = work_lengths(work_length, random);
+    let mut calls: Vec<_> = page_lengths.iter().map(|length| (*length, work_lengths[0])).collect();
+    for length in &work_lengths[1..] {
+        calls.push((*random.pick(&page_lengths), *length));
+    }
+    for (page_length, work_length) in calls {
+        let before = random_bytes(page_length, random);
+        let paged = page::compare(&image, &before, work_length, random)
+            .map_err(|difference| sample.named(difference))?;
+        let (refusal, words) = page::in_words(paged.answer);
+        tally.count(refusal, words);
+    }
+    Ok(())
+}
+
+/// The lengths of lent pages: none, exact, a byte less and a byte more, and any other on
+/// either side. Where the image's n is more than any tree has, as if it were that.
+fn page_lengths(image: &[u32], random: &mut Random) -> Vec<usize> {
+    let nodes = image.first().map_or(0, |nodes| (*nodes).min(MOST_NODES));
+    let exact = LINE * nodes as usize;
+    let mut lengths = vec![exact, exact + 1, exact + random.between(2, 200)];
+    if exact > 0 {
+        lengths.extend([0, exact - 1, random.below(exact)]);
+    }
+    lengths
 }
 
 /// The lengths of the work slices for a call that has no others: one that is enough, the

@@ -2,8 +2,8 @@
 //! routine by hand.
 //!
 //! text → [`pieces`] → [`parse`] → nodes in preorder → words, with the starting
-//! [`values`] behind them; [`find`] says where in the text a node or a refusal is, and
-//! [`needs`] what a routine needs at most.
+//! [`values`] behind them; [`find`] says where in the text a node or a refusal is,
+//! [`needs`] what a routine needs at most, and [`page`] is its page, line by line.
 //! The other way, [`print`] writes an image down as such a text, and [`show`] as a
 //! numbered tree, damaged images too. [`files`] tells texts and images apart.
 
@@ -11,6 +11,7 @@ pub mod codes;
 pub mod files;
 pub mod find;
 pub mod needs;
+pub mod page;
 pub mod parse;
 pub mod pieces;
 pub mod print;

@@ -3,6 +3,7 @@
 use image::files::{image, text};
 use image::find::{find_node, find_refusal};
 use image::needs::needs_of;
+use image::page::page_of;
 use image::parse::{parse, Listing};
 use image::print::print;
 use image::show::show;
@@ -30,6 +31,9 @@ usage: image COMMAND FILE
   needs FILE             what a text's routine needs at most before it is loaded: entries
                          of control and of values, cells, bindings, and steps, which are
                          open where it has a Loop; or where it is refused
+  page FILE              the page of a text's routine, a line for each node: the node, its
+                         depth, the kind's name, the operand and the first node after its
+                         descendants; or where it is refused
   refusals               the refusals, one a line: number, name and what it says
   help                   prints this, and so does --help behind any command
 
@@ -51,7 +55,7 @@ Exit status: 0 where the command is done, a refusal shown too; 2 where the text 
 command line is wrong or a stream fails.
 ";
 
-const COMMANDS: [&str; 6] = ["make", "show", "text", "find", "needs", "refusals"];
+const COMMANDS: [&str; 7] = ["make", "show", "text", "find", "needs", "page", "refusals"];
 
 /// What a command line gives: the output, and what is to be said beside it.
 struct Given {
@@ -88,6 +92,7 @@ fn answer(arguments: &[String]) -> Result<Given, String> {
             let (output, note) = needs_of(file, &listing(file)?);
             return Ok(Given { output: output.into(), note });
         }
+        ["page", file] => page_of(file, &listing(file)?),
         ["refusals"] => refusal::TABLE.iter().map(|row| format!("{row}\n")).collect(),
         [] => return Err("no command; `image help` lists them".to_string()),
         [command, ..] if COMMANDS.contains(command) => {

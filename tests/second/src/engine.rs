@@ -1,9 +1,10 @@
-//! What the host calls: `check`, `run` and `needs`, with the order of refusals, the
-//! registers and the work words (the paper's "What the engine says no with").
+//! What the host calls: `check`, `run`, `needs` and `page`, with the order of refusals, the
+//! registers, the lent page and the work words (the paper's "What the engine says no with").
 
 use crate::checker::{self, Passed};
 use crate::execution::Execution;
 use crate::needs::{self, Needs};
+use crate::page::lines_of;
 use crate::reader;
 use crate::refusal::{self, Refusal};
 use crate::state::{State, ValueEntry};
@@ -93,6 +94,19 @@ pub fn needs(image: &[u32], work_length: usize, effort: u64) -> Needs {
         Ok((routine, _)) => needs::needs(&routine, effort),
         Err(refusal) => Needs::Refused(refusal),
     }
+}
+
+/// A page tests 22, then the image, then 41: the lent page is shorter than its lines. The
+/// lines go to the front, and bytes beyond them stay; a refusal writes no byte.
+pub fn page(image: &[u32], page: &mut [u8], work_length: usize) -> Result<(), Refusal> {
+    if work_length < WORK_WORDS {
+        return Err(Refusal::whole(refusal::WORK));
+    }
+    let (routine, _) = pass(image)?;
+    let lines = lines_of(&routine);
+    let front = page.get_mut(..lines.len()).ok_or(Refusal::whole(refusal::SHORT_PAGE))?;
+    front.copy_from_slice(lines.as_bytes());
+    Ok(())
 }
 
 /// What becomes of the work words in a call that answers so: 21 and 22 touch

@@ -4,8 +4,8 @@
 //! and shares nothing with the engine it is held against. Data flows one way:
 //!
 //! words → [`reader`] → tree → [`checker`] → [`execution`] (states, rules,
-//! limits) and [`needs`] (free runs) → [`engine`] (the host's calls) → [`bytes`] (the
-//! same on bytes) and [`program`] (bytes to text).
+//! limits), [`needs`] (free runs) and [`page`] (the tree line by line) → [`engine`] (the
+//! host's calls) → [`bytes`] (the same on bytes) and [`program`] (bytes to text).
 //!
 //! Beside that stand what test programs need: [`build`] to write a tree down,
 //! [`encode`] to turn it into an image, [`show`] to print it, [`generate`] to make
@@ -28,6 +28,7 @@ pub mod generate;
 pub mod kinds;
 pub mod needs;
 pub mod node;
+pub mod page;
 pub mod program;
 pub mod reader;
 pub mod refusal;
@@ -39,6 +40,6 @@ pub mod streams;
 pub mod tree;
 
 pub use encode::encode;
-pub use engine::{check, needs, run, Answer, Outcome, Reply};
+pub use engine::{check, needs, page, run, Answer, Outcome, Reply};
 pub use program::program;
 pub use refusal::Refusal;

@@ -2,9 +2,10 @@
 
 use second::bytes::{check, whole_image};
 use second::command_line::{arguments, asks_for_help, complain, write_out};
-use second::engine::{needs, Answer, WORK_WORDS};
+use second::engine::{needs, pass, Answer, WORK_WORDS};
 use second::generate::Family;
 use second::needs::{Needs, EFFORT};
+use second::page::lines_of;
 use second::program::{print_answer, print_needs, program, with_budget};
 use second::reader::read;
 use second::show::{from_hexadecimal, hexadecimal, show};
@@ -26,6 +27,10 @@ usage: second COMMAND [--hex]
                              and `steps N` or `steps open`; or `refused N at P`.
                              Where the runs are too many to go through, each line
                              has what some of them reach: `control at least N`
+  page                       standard input: an image; prints its page, a line for
+                             each node: the node, its depth, the kind's name, the
+                             operand and the first node after its descendants; or
+                             `refused N at P`
   show                       standard input: an image; prints it as a tree
   generate FAMILY SEED COUNT prints COUNT images made from SEED, SEED + 1, and so
                              on, one a line, as words in hexadecimal
@@ -35,8 +40,8 @@ usage: second COMMAND [--hex]
                              the program
   help                       prints this, and so does --help behind any command
 
-With --hex, program, run, check, needs and show read words in hexadecimal, as
-generate prints them, in place of little-endian bytes.
+With --hex, program, run, check, needs, page and show read words in hexadecimal,
+as generate prints them, in place of little-endian bytes.
 
 families: small medium large faulty sequences choices functions limits damaged
           empty shaped plausible words host
@@ -45,7 +50,7 @@ Exit status: 0 where the command is done, a refusal printed too; 2 where the
 command line or the input is wrong or a stream fails.
 ";
 
-const COMMANDS: [&str; 6] = ["program", "run", "check", "needs", "show", "generate"];
+const COMMANDS: [&str; 7] = ["program", "run", "check", "needs", "page", "show", "generate"];
 
 fn main() -> ExitCode {
     let done = arguments().and_then(|arguments| answer(&arguments)).and_then(write_out);
@@ -75,6 +80,12 @@ fn answer(arguments: &[String]) -> Result<Vec<u8>, String> {
                 Err(refusal) => Needs::Refused(refusal),
             };
             Ok(print_needs(needs).into())
+        }
+        ["page", options @ ..] => {
+            match whole_image(&input(options)?).and_then(|image| pass(&image)) {
+                Ok((routine, _)) => Ok(lines_of(&routine).into()),
+                Err(refusal) => Ok(print_answer(Answer::Refused(refusal)).into()),
+            }
         }
         ["show", options @ ..] => {
             match whole_image(&input(options)?).and_then(|image| read(&image)) {

@@ -17,7 +17,7 @@ impl Refusal {
     }
 
     /// A refusal whose place is 0 by the paper: those of the image as a whole,
-    /// of the host, of the run and of the needs.
+    /// of the host, of the run, of the needs and of the page.
     pub fn whole(number: u32) -> Refusal {
         Refusal { number, place: 0 }
     }
@@ -55,6 +55,9 @@ pub const CONTROL: u32 = 36;
 // Caused by the wish for the needs.
 pub const TOO_MANY_STEPS: u32 = 40;
 
+// Caused by the page that the host lends.
+pub const SHORT_PAGE: u32 = 41;
+
 /// Refusals 1 to 22 come before the first step: they report 0 steps and keep
 /// the registers.
 pub fn before_the_run(number: u32) -> bool {
@@ -80,7 +83,7 @@ const fn whole(number: u32, name: &'static str, sentence: &'static str) -> Row {
 }
 
 /// Every refusal, by number.
-pub const TABLE: [Row; 22] = [
+pub const TABLE: [Row; 23] = [
     whole(LENGTH, "length", "the length does not fit the counts"),
     whole(COUNTS, "counts", "n is above 2,000, or r is above 16"),
     at_node(KIND, "kind", "no such kind of node"),
@@ -103,6 +106,7 @@ pub const TABLE: [Row; 22] = [
     whole(VALUES, "values", "a 513th entry would be on the value stack"),
     whole(CONTROL, "control", "a 513th entry would be on the control stack"),
     whole(TOO_MANY_STEPS, "too many steps", "the steps come out above 1,000,000"),
+    whole(SHORT_PAGE, "short page", "the page is shorter than 31 bytes a node"),
 ];
 
 /// The row of a refusal.

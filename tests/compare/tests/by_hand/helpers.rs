@@ -4,9 +4,10 @@
 
 use compare::byte_calls::ByteCall;
 use compare::bytes::RanOnBytes;
+use compare::page::Paged;
 use compare::run::Ran;
 use compare::sample::SHORT_RUN;
-use compare::{bytes, check, engine, needs, run, Difference};
+use compare::{bytes, check, engine, needs, page, run, Difference};
 use second::build::image;
 use second::encode::{bytes_of, register_bytes};
 use second::engine::{Answer, Outcome, Reply, MOST_BUDGET, WORK_WORDS};
@@ -126,6 +127,33 @@ pub fn needs_are(image: &[u32], expected: Needs) {
 
 pub fn needs_refused(number: u32, place: Place) -> Needs {
     Needs::Refused(Refusal::new(number, place))
+}
+
+/// The answer about a page, and the lent page after it, which held this before.
+pub fn page_over(
+    image: &[u32],
+    before: &[u8],
+    work_length: usize,
+) -> (Result<(), Refusal>, Vec<u8>) {
+    let random = &mut Random::new(before.len() as u64);
+    let Paged { answer, page } = agreed(page::compare(image, before, work_length, random));
+    (answer, page)
+}
+
+/// The page of an image that passes, as long as its lines are.
+pub fn paged(image: &[u32]) -> String {
+    let (answer, page) = page_over(image, &vec![b'#'; 31 * image[0] as usize], WORK_WORDS);
+    assert_eq!(answer, Ok(()));
+    String::from_utf8(page).expect("a text")
+}
+
+/// The page of a tree with this many registers.
+pub fn paged_tree(registers: u32, root: impl Into<Root>) -> String {
+    paged(&image(registers, root))
+}
+
+pub fn page_refused(number: u32, place: Place) -> Result<(), Refusal> {
+    Err(Refusal::new(number, place))
 }
 
 fn agreed<T>(compared: Result<T, Box<Difference>>) -> T {

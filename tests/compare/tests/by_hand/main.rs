@@ -37,6 +37,14 @@ mod need_steps;
 mod needs;
 #[path = "../../../second/tests/suite/no_routine.rs"]
 mod no_routine;
+#[path = "../../../second/tests/suite/page_claims.rs"]
+mod page_claims;
+#[path = "../../../second/tests/suite/page_limits.rs"]
+mod page_limits;
+#[path = "../../../second/tests/suite/page_refusals.rs"]
+mod page_refusals;
+#[path = "../../../second/tests/suite/pages.rs"]
+mod pages;
 #[path = "../../../second/tests/suite/sequence_limits.rs"]
 mod sequence_limits;
 #[path = "../../../second/tests/suite/sequence_types.rs"]

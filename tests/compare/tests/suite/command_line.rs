@@ -45,6 +45,17 @@ fn needs_counts_what_it_compared() {
 }
 
 #[test]
+fn page_counts_what_it_compared() {
+    let (output, _, status) = compare(&["page", "300", "9"]);
+    assert_eq!(status, Some(0), "{output}");
+    assert!(output.contains("page: 300 images, "), "{output}");
+    assert!(output.contains(" calls, no difference"), "{output}");
+    for words in ["  page\n", "  refused 10\n", "  refused 41\n"] {
+        assert!(output.contains(words), "{output}");
+    }
+}
+
+#[test]
 fn bytes_counts_what_it_compared() {
     let (output, _, status) = compare(&["bytes", "100", "9"]);
     assert_eq!(status, Some(0), "{output}");
@@ -89,7 +100,7 @@ fn another_program_is_named_by_pirun() {
 #[test]
 fn each_command_takes_each_family() {
     for (family, _) in second::generate::Family::ALL {
-        for command in ["check", "run", "needs", "bytes", "program"] {
+        for command in ["check", "run", "needs", "page", "bytes", "program"] {
             let (output, _, status) = compare(&[command, "3", "18446744073709551614", family]);
             assert_eq!(status, Some(0), "{output}");
             assert!(output.contains(&format!("{command}: 3 images, ")), "{output}");
@@ -101,14 +112,14 @@ fn each_command_takes_each_family() {
 #[test]
 fn help_goes_to_standard_output() {
     let mut asked: Vec<Vec<&str>> = vec![vec!["help"], vec!["--help"], vec!["-h"]];
-    for command in ["check", "run", "needs", "bytes", "program", "help"] {
+    for command in ["check", "run", "needs", "page", "bytes", "program", "help"] {
         asked.extend([vec![command, "--help"], vec![command, "-h"], vec!["help", command]]);
         asked.push(vec![command, "100000", "1", "--help"]);
     }
     for arguments in asked {
         let (output, error, status) = compare(&arguments);
         assert_eq!((status, error.as_str()), (Some(0), ""), "{arguments:?}");
-        for command in ["check", "run", "needs", "bytes", "program"] {
+        for command in ["check", "run", "needs", "page", "bytes", "program"] {
             assert!(output.contains(&format!("  {command} COUNT SEED")), "{arguments:?}");
         }
         assert!(output.contains("100,000 images take"), "{arguments:?}");
@@ -117,13 +128,14 @@ fn help_goes_to_standard_output() {
 
 #[test]
 fn bad_usage_says_what_is_wrong() {
-    let cases: [(&[&str], &str); 12] = [
+    let cases: [(&[&str], &str); 13] = [
         (&[], "no command"),
         (&["compare"], "no command compare"),
         (&["check"], "check takes COUNT, SEED"),
         (&["check", "1"], "check takes COUNT, SEED"),
         (&["run", "1"], "run takes COUNT, SEED"),
         (&["needs", "1"], "needs takes COUNT, SEED"),
+        (&["page", "1"], "page takes COUNT, SEED"),
         (&["bytes", "1"], "bytes takes COUNT, SEED"),
         (&["program", "1"], "program takes COUNT, SEED"),
         (&["check", "1", "2", "small", "4"], "check takes COUNT, SEED"),

@@ -8,6 +8,7 @@ mod command_line;
 mod helpers;
 mod image_calls;
 mod needs;
+mod page;
 mod program;
 mod run;
 mod scripts;

@@ -39,6 +39,7 @@ command
     assert_eq!(text_said(&["find", "-"], text.as_bytes()), "-: passes as a command (no routine)\n");
     let needs = "control 0\nvalues 0\ncells 2\nbindings 2\nsteps 0\n";
     assert_eq!(text_said(&["needs", "-"], text.as_bytes()), needs);
+    assert_eq!(text_said(&["page", "-"], text.as_bytes()), "");
     let no_node = |number: &str| {
         let message = format!("standard input has no routine, so it has no node {number}");
         wrong(&["find", "-", number], text.as_bytes(), &message);
@@ -106,7 +107,8 @@ fn refusals_prints_the_table() {
     assert!(lines.starts_with(&format!("{first}2 counts: n is above 2,000, or r is above 16\n")));
     assert!(lines.contains("\n13 not assignable: the name cannot be set\n"));
     assert!(lines.contains("\n36 control: a 513th entry would be on the control stack\n"));
-    assert!(lines.ends_with("\n40 too many steps: the steps come out above 1,000,000\n"));
+    assert!(lines.contains("\n40 too many steps: the steps come out above 1,000,000\n"));
+    assert!(lines.ends_with("\n41 short page: the page is shorter than 31 bytes a node\n"));
     assert_eq!(lines.lines().count(), second::refusal::TABLE.len());
 }
 
@@ -119,7 +121,7 @@ fn help_is_everywhere() {
     for arguments in [&["--help"], &["-h"]] {
         assert_eq!(text_said(arguments, &[]), help);
     }
-    for command in ["make", "show", "text", "find", "needs", "refusals"] {
+    for command in ["make", "show", "text", "find", "needs", "page", "refusals"] {
         assert!(help.contains(&format!("\n  {command} ")), "{command}");
         assert_eq!(text_said(&["help", command], &[]), help);
         assert_eq!(text_said(&[command, "--help"], &[]), help);
@@ -142,18 +144,16 @@ fn bad_usage_says_what_is_wrong() {
     wrong(&[], b"", "no command; `image help` lists them");
     wrong(&["walk"], b"", "no command walk; `image help` lists them");
     wrong(&["walk", "--help"], b"", "no command walk; `image help` lists them");
-    for command in ["make", "show", "text", "find", "needs"] {
+    for command in ["make", "show", "text", "find", "needs", "page"] {
         wrong(&[command], b"", &format!("wrong arguments for {command}; see `image help`"));
     }
     wrong(&["needs", "-", "8192"], b"", "wrong arguments for needs; see `image help`");
+    wrong(&["page", "-", "62"], b"", "wrong arguments for page; see `image help`");
     wrong(&["refusals", "-"], b"", "wrong arguments for refusals; see `image help`");
-    wrong(&["make", "-"], b"registers 0\n(Not 5)", "-:2:6: an expression must stand here, not `5`");
-    wrong(&["find", "-"], b"registers 0\n(Not 5)", "-:2:6: an expression must stand here, not `5`");
-    wrong(
-        &["needs", "-"],
-        b"registers 0\n(Not 5)",
-        "-:2:6: an expression must stand here, not `5`",
-    );
+    for command in ["make", "find", "needs", "page"] {
+        let no_expression = "-:2:6: an expression must stand here, not `5`";
+        wrong(&[command, "-"], b"registers 0\n(Not 5)", no_expression);
+    }
     wrong(&["find", "-", "8"], DOUBLE.as_bytes(), "standard input has nodes 0 to 7, not 8");
     wrong(&["find", "-", "x"], DOUBLE.as_bytes(), "standard input has nodes 0 to 7, not x");
     wrong(&["find", "-", "1"], b"registers 0 (Num 1)", "standard input has node 0 alone, not 1");

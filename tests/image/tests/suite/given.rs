@@ -97,6 +97,7 @@ fn an_image_where_a_text_is_wanted() {
         wrong(&["find", &file], b"", &message);
         wrong(&["find", &file, "0"], b"", &message);
         wrong(&["needs", &file], b"", &message);
+        wrong(&["page", &file], b"", &message);
     }
     let message = "standard input is an image, not a text; `image text -` makes a text of it";
     wrong(&["make", "-"], &bytes_of(&double()), message);

@@ -1,6 +1,6 @@
 //! The suite: trees go to text and back unchanged, faults of a text are named where
-//! they are, damaged images are shown as far as they go, a text's needs are printed, and
-//! the tables of refusals agree.
+//! they are, damaged images are shown as far as they go, a text's needs and its page are
+//! printed, and the tables of refusals agree.
 
 mod binary;
 
@@ -9,6 +9,7 @@ mod faults;
 mod given;
 mod names;
 mod needed;
+mod paged;
 mod round_trip;
 mod shown;
 mod streams;

@@ -27,6 +27,7 @@ fn output_that_fails() {
         (&["make", "-"], DOUBLE.as_bytes()),
         (&["find", "-"], DOUBLE.as_bytes()),
         (&["needs", "-"], DOUBLE.as_bytes()),
+        (&["page", "-"], DOUBLE.as_bytes()),
         (&["show", "-"], &bytes_of(&double())),
         (&["refusals"], b""),
         (&["help"], b""),
@@ -48,7 +49,7 @@ fn error_output_that_fails() {
 #[test]
 fn files_that_cannot_be_read() {
     let folder = env!("CARGO_MANIFEST_DIR");
-    for command in ["make", "show", "text", "find", "needs"] {
+    for command in ["make", "show", "text", "find", "needs", "page"] {
         let none = "no such file: No such file or directory (os error 2)";
         wrong(&[command, "no such file"], b"", none);
         wrong(&[command, folder], b"", &format!("{folder}: Is a directory (os error 21)"));

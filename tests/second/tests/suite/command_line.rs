@@ -95,6 +95,18 @@ fn needs_says_figures_or_refusal() {
 }
 
 #[test]
+fn page_says_lines_or_refusal() {
+    let set = bytes_of(&image(1, assign(0, num(10))));
+    let lines = "   0  1 Assign          0    2\n   1  2 Num            10    2\n";
+    assert_eq!(said(&["page"], &set), lines);
+    assert_eq!(said(&["page", "--hex"], b"2 1 14 1 0 a"), lines);
+    assert_eq!(said(&["page", "--hex"], b"0 3"), "");
+    assert_eq!(said(&["page"], &bytes_of(&image(0, id(3)))), "refused 10 at 0\n");
+    assert_eq!(said(&["page"], &bytes_of(&[2, 0, 15, 99, 0, 0])), "refused 3 at 1\n");
+    assert_eq!(said(&["page"], &set[..set.len() - 1]), "refused 1 at 0\n");
+}
+
+#[test]
 fn show_prints_the_tree() {
     let body = block(bind_ref(3, id(2)), assign(0, id(3)));
     let root = blk(bind_abs(1, &[(2, 5)], body), call(1, vec![num(7)]));
@@ -154,6 +166,7 @@ fn bad_usage_says_what_is_wrong() {
     wrong(&["generate", "small", "x", "1"], "SEED must be a whole number, not x");
     wrong(&["check", "--octal"], "no option --octal");
     wrong(&["needs", "7"], "no option 7");
+    wrong(&["page", "62"], "no option 62");
     wrong(&["check", "--hex"], "zz is no 32-bit word");
     wrong(&["walk", "--help"], "no command walk");
     let mut bytes = command(&["check"]);
@@ -170,7 +183,7 @@ fn help_is_everywhere() {
     for arguments in [&["--help"], &["-h"]] {
         assert_eq!(said(arguments, &[]), help);
     }
-    for command in ["program", "run", "check", "needs", "show", "generate"] {
+    for command in ["program", "run", "check", "needs", "page", "show", "generate"] {
         assert!(help.contains(&format!("\n  {command} ")), "{command}");
         assert_eq!(said(&["help", command], &[]), help);
         assert_eq!(said(&[command, "--help"], &[]), help);

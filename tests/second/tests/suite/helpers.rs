@@ -2,7 +2,7 @@
 
 use second::build::image;
 use second::bytes;
-use second::engine::{check, needs, run, Answer, Outcome, Reply, MOST_BUDGET, WORK_WORDS};
+use second::engine::{check, needs, page, run, Answer, Outcome, Reply, MOST_BUDGET, WORK_WORDS};
 pub use second::needs::{given, open};
 use second::needs::{Figures, Needs, Steps, EFFORT};
 use second::refusal::TOO_MANY_STEPS;
@@ -109,4 +109,31 @@ pub fn within(some: Figures, most: Figures) -> bool {
 
 pub fn needs_refused(number: u32, place: Place) -> Needs {
     Needs::Refused(Refusal::new(number, place))
+}
+
+/// The answer about a page, and the lent page after it, which held this before.
+pub fn page_over(
+    image: &[u32],
+    before: &[u8],
+    work_length: usize,
+) -> (Result<(), Refusal>, Vec<u8>) {
+    let mut lent = before.to_vec();
+    let answer = page(image, &mut lent, work_length);
+    (answer, lent)
+}
+
+/// The page of an image that passes, as long as its lines are.
+pub fn paged(image: &[u32]) -> String {
+    let (answer, page) = page_over(image, &vec![b'#'; 31 * image[0] as usize], WORK_WORDS);
+    assert_eq!(answer, Ok(()));
+    String::from_utf8(page).expect("a text")
+}
+
+/// The page of a tree with this many registers.
+pub fn paged_tree(registers: u32, root: impl Into<Root>) -> String {
+    paged(&image(registers, root))
+}
+
+pub fn page_refused(number: u32, place: Place) -> Result<(), Refusal> {
+    Err(Refusal::new(number, place))
 }

@@ -106,7 +106,7 @@ fn work_words_end_as_0_except_after_21_and_22() {
     };
     let mut cleared = vec![0; WORK_WORDS];
     cleared.extend([9; 3]);
-    let numbers = [1, 2, 3, 4, 5, 6, 10, 11, 12, 13, 14, 20, 30, 31, 32, 33, 34, 35, 36, 40];
+    let numbers = [1, 2, 3, 4, 5, 6, 10, 11, 12, 13, 14, 20, 30, 31, 32, 33, 34, 35, 36, 40, 41];
     for refusal in numbers.map(Some).into_iter().chain([None]) {
         assert_eq!(settled(refusal), cleared, "{refusal:?}");
     }
