@@ -4,7 +4,7 @@ use mathlib.Core.Path.{_≡_}
 use mathlib.Core.List.{List}
 use Rattle.rules.specs.paper.Refusals.{refusal-number}
 use Rattle.page.specs.Call.{PageAnswer, printed, not-printed, PageCalled}
-use Rattle.engine.specs.declared.PageReply.{PageReply}
+use Rattle.engine.specs.declared.annex.PageReply.{PageReply}
 
 -- 0 where the page is written.
 abbrev pub page-refusal : PageAnswer → ℕ

@@ -1,18 +1,16 @@
-// The engine as a C host calls it: the checker alone, the needs alone, the annex page and the run on words; in `bytes`, the checker and the
-// run on bytes.
+// The engine as a C host calls it: the checker alone, the needs alone and the run on words; in `annex`, the annex page; in `bytes`, the
+// checker and the run on bytes.
+pub mod annex;
 pub mod bytes;
 
 ghost use mathlib.Core.Path.{_≡_};
 ghost use Rattle.rules.specs.paper.Engine.{checker, needs};
 ghost use Rattle.integers.specs.Words.{words-of};
-ghost use Rattle.page.specs.Call.{page-call};
 ghost use Rattle.calls.specs.Runs.{run-call};
 ghost use Rattle.engine.specs.Replies.{Replies, RunCalled};
 ghost use Rattle.engine.specs.NeedsReplies.{NeedsReplied};
-ghost use Rattle.engine.specs.PageReplies.{PageReplied};
 use calls::Checked;
 use calls::Estimated;
-use calls::Printed;
 use calls::Ran;
 use calls::check;
 use calls::needs;
@@ -37,13 +35,6 @@ pub struct NeedsReply {
     pub bindings: u64,
     pub steps: u64,
     pub open: u64,
-}
-
-// What the annex page answers to a C host: refusal 0 where the page is written.
-#[repr(C)]
-pub struct PageReply {
-    pub refusal: u64,
-    pub place: u64,
 }
 
 // A run's answer for a C host: refusal 0 where the run ends, and then the outcome is 1 for a number, 2 for a truth, 3 for a cell and 0
@@ -120,24 +111,6 @@ pub extern "C" fn pi_needs(image: &[u32], work: &mut [u64]) -> NeedsReply
             bindings: 0,
             steps: 0,
             open: 0,
-        },
-    }
-}
-
-// `page` for a C host.
-#[no_mangle]
-pub extern "C" fn pi_page(image: &[u32], page: &mut [u8], work: &mut [u64]) -> PageReply
-    ensures { λ r. ⌜ PageReplied (page-call (now (image .entry)) (now (page .entry)) (now (work .entry))) r (now (page .exit)) (now (work .exit)) ⌝ }
-{
-    let answer = calls::page(image, page, work);
-    match answer {
-        Printed::Whole => PageReply {
-            refusal: 0,
-            place: 0,
-        },
-        Printed::Refused(number, place) => PageReply {
-            refusal: number,
-            place: place as u64,
         },
     }
 }

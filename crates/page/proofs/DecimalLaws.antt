@@ -58,6 +58,6 @@ decimal-computed (suc k) n h =
     by-order n 10
     (λ low. decimal-short n low ∙ sym (one-digit (suc k) n low))
     (λ high.
-      decimal-long n high
-      ∙ ap (λ l. l ++ (digit (n % 10) ∷ [])) (decimal-computed k (n / 10) (div-lt-iff-lt-mul (omega arith) .1 (subst (λ p. n < p) (pow-suc 10 (suc k)) h)))
-      ∙ sym (more-digits (suc k) n high))
+    decimal-long n high
+    ∙ ap (λ l. l ++ (digit (n % 10) ∷ [])) (decimal-computed k (n / 10) (div-lt-iff-lt-mul (omega arith) .1 (subst (λ p. n < p) (pow-suc 10 (suc k)) h)))
+    ∙ sym (more-digits (suc k) n high))

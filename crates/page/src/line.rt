@@ -41,6 +41,12 @@ pub(crate) fn put_line(page: &mut [u8], work: &[u64], node: usize, depth: usize,
     put_number(page, at, NODE_COLUMNS, node, b' ');
     put_number(page, at + DEPTH_AT, DEPTH_COLUMNS, depth, b' ');
     put_name(page, at + NAME_AT, kind(work, node));
-    put_number(page, at + OPERAND_AT, OPERAND_COLUMNS, operand(work, node), b' ');
+    put_number(
+        page,
+        at + OPERAND_AT,
+        OPERAND_COLUMNS,
+        operand(work, node),
+        b' ',
+    );
     put_number(page, at + END_AT, END_COLUMNS, end, b'\n');
 }

@@ -1,10 +1,10 @@
 -- The answer of `page` in two numbers.
 use Rattle.engine.proofs.PageNumbers.{replies-whole, replies-refused}
 use borrow.Author.Needs.{needs}
-use Rattle.engine.proofs.pi_page.Statement.{statement}
-use Rattle.engine.proofs.pi_page.Tie as tie
-use Rattle.engine.proofs.pi_page.Reads as reads
-use Rattle.engine.proofs.pi_page.Lts as lts
+use Rattle.engine.proofs.annex.pi_page.Statement.{statement}
+use Rattle.engine.proofs.annex.pi_page.Tie as tie
+use Rattle.engine.proofs.annex.pi_page.Reads as reads
+use Rattle.engine.proofs.annex.pi_page.Lts as lts
 use Rattle.calls.proofs.page.Reads as page-reads
 
 page-requires : tie.Need-page-requires
