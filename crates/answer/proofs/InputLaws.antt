@@ -12,8 +12,8 @@ use Rattle.rules.specs.paper.Engine.{Called, refused, refusing}
 use Rattle.reader.specs.SizeLaws.{few-nodes, few-registers}
 use Rattle.rules.specs.paper.Decimal.{ascii, decimal}
 use Rattle.little_endian.specs.Numbers.{little-endian}
-use Rattle.answer.specs.Program.{line, outcome-text, page, input-bytes, run-input, call-input, program}
-use Rattle.answer.specs.Writing.{ran-text, refusal-page, CountsFit, CountAnswer}
+use Rattle.answer.specs.Program.{line, outcome-text, answer-text, input-bytes, run-input, call-input, program}
+use Rattle.answer.specs.Writing.{ran-text, refusal-answer, CountsFit, CountAnswer}
 use Rattle.answer.specs.declared.input.Counted.{Counted}
 use Rattle.answer.specs.declared.input.Counted.the-variants.{Fits, Refused}
 
@@ -22,13 +22,13 @@ use Rattle.answer.specs.declared.input.Counted.the-variants.{Fits, Refus
 abbrev steps-line : List ℕ
 steps-line = line (ascii "steps " ++ decimal 0)
 
-length-page : page (refusing Length 0 [] []) ≡ refusal-page 1
-unfolding page outcome-text refusal-number refusal-page ran-text
-length-page = append-nil (line (outcome-text (refused Length 0)) ++ steps-line)
+length-answer : answer-text (refusing Length 0 [] []) ≡ refusal-answer 1
+unfolding answer-text outcome-text refusal-number refusal-answer ran-text
+length-answer = append-nil (line (outcome-text (refused Length 0)) ++ steps-line)
 
-size-page : page (refusing Size 0 [] []) ≡ refusal-page 2
-unfolding page outcome-text refusal-number refusal-page ran-text
-size-page = append-nil (line (outcome-text (refused Size 0)) ++ steps-line)
+size-answer : answer-text (refusing Size 0 [] []) ≡ refusal-answer 2
+unfolding answer-text outcome-text refusal-number refusal-answer ran-text
+size-answer = append-nil (line (outcome-text (refused Size 0)) ++ steps-line)
 
 -- ---- The tests, in their order.
 
@@ -37,23 +37,23 @@ called n r input =
     cond (ltb (length input) 8) (refusing Length 0 [] [])
     (cond (size-fits n r) (cond (eqb (length input) (input-bytes n r)) (run-input n r input) (refusing Length 0 [] [])) (refusing Size 0 [] []))
 
-pub too-short : (input : List ℕ) → length input < 8 → program input ≡ refusal-page 1
+pub too-short : (input : List ℕ) → length input < 8 → program input ≡ refusal-answer 1
 unfolding program call-input
-too-short input h = ap page (rw (lt-ltb (length input) 8 h)) ∙ length-page
+too-short input h = ap answer-text (rw (lt-ltb (length input) 8 h)) ∙ length-answer
 
 module _ (input : List ℕ) (n r : ℕ) (n-is : n ≡ little-endian (take 4 input)) (r-is : r ≡ little-endian (take 4 (drop 4 input))) (long : 8 ≤ length input) where
-  called-at : program input ≡ page (called n r input)
+  called-at : program input ≡ answer-text (called n r input)
   unfolding program call-input called
-  called-at = ap (λ k. page (called k (little-endian (take 4 (drop 4 input))) input)) (sym n-is) ∙ ap (λ k. page (called n k input)) (sym r-is)
+  called-at = ap (λ k. answer-text (called k (little-endian (take 4 (drop 4 input))) input)) (sym n-is) ∙ ap (λ k. answer-text (called n k input)) (sym r-is)
 
-  pub missized : size-fits n r ≡ false → program input ≡ refusal-page 2
+  pub missized : size-fits n r ≡ false → program input ≡ refusal-answer 2
   unfolding called
-  missized h = called-at ∙ ap page (rw (le-ltb (length input) 8 long, h)) ∙ size-page
+  missized h = called-at ∙ ap answer-text (rw (le-ltb (length input) 8 long, h)) ∙ size-answer
 
   module _ (sized : size-fits n r ≡ true) where
-    pub miscounted : (length input ≡ input-bytes n r → ⊥) → program input ≡ refusal-page 1
+    pub miscounted : (length input ≡ input-bytes n r → ⊥) → program input ≡ refusal-answer 1
     unfolding called
-    miscounted h = called-at ∙ ap page (rw (le-ltb (length input) 8 long, sized, ne-eqb (length input) (input-bytes n r) h)) ∙ length-page
+    miscounted h = called-at ∙ ap answer-text (rw (le-ltb (length input) 8 long, sized, ne-eqb (length input) (input-bytes n r) h)) ∙ length-answer
 
     pub counted : length input ≡ input-bytes n r → CountsFit n r input
     unfolding called
@@ -62,7 +62,7 @@ module _ (input : List ℕ) (n r : ℕ) (n-is : n ≡ little-endian (take 4 inpu
           few-nodes = few-nodes n r sized;
           few-registers = few-registers n r sized;
           bytes = h;
-          answer = called-at ∙ ap page (rw (le-ltb (length input) 8 long, sized, eq-eqb (length input) (input-bytes n r) h));
+          answer = called-at ∙ ap answer-text (rw (le-ltb (length input) 8 long, sized, eq-eqb (length input) (input-bytes n r) h));
         }
 
 -- ---- By the answer.
@@ -70,5 +70,5 @@ module _ (input : List ℕ) (n r : ℕ) (n-is : n ≡ little-endian (take 4 inpu
 pub fitting : (input : List ℕ) (a : Counted) (n r : ℕ) → CountAnswer input a → a ≡ Fits n r → CountsFit n r input
 fitting input a n r h e = subst (λ k. CountAnswer input k) e h
 
-pub refusing-it : (input : List ℕ) (a : Counted) (x : ℕ) → CountAnswer input a → a ≡ Refused x → program input ≡ refusal-page x
+pub refusing-it : (input : List ℕ) (a : Counted) (x : ℕ) → CountAnswer input a → a ≡ Refused x → program input ≡ refusal-answer x
 refusing-it input a x h e = subst (λ k. CountAnswer input k) e h

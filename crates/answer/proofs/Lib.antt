@@ -1,6 +1,6 @@
 mod DecimalLaws
 mod InputLaws
 mod LineLaws
-mod PageLaws
+mod AnswerLaws
 mod PutLaws
 mod RangeLaws

@@ -9,14 +9,14 @@ use lib.IntN.{ℤ}
 use lib.ListN.{length, take, getD}
 use lib.Seq.{take-suc, take-length, length-take-le}
 use Rattle.rules.specs.paper.Limits.{most-registers}
-use Rattle.answer.specs.Sizes.{outcome-bytes, steps-bytes, register-line-bytes, register-lines-bytes, page-bytes}
+use Rattle.answer.specs.Sizes.{outcome-bytes, steps-bytes, register-line-bytes, register-lines-bytes, answer-bytes}
 use Rattle.integers.specs.Words.{integer-of, integers-of}
 use Rattle.integers.specs.WordLaws.{integers-length}
 use Rattle.calls.specs.declared.Ran.{Ran}
 use Rattle.calls.specs.declared.Ran.the-variants.{Number, Truth, Location, Nothing, Refused}
 use Rattle.rules.specs.paper.Decimal.{ascii, decimal, integer}
 use Rattle.answer.specs.Program.{line, register-text, register-lines}
-use Rattle.answer.specs.Writing.{Put, PutWithin, ran-text, ran-steps, ran-shows, ran-page, refusal-page}
+use Rattle.answer.specs.Writing.{Put, PutWithin, ran-text, ran-steps, ran-shows, ran-answer, refusal-answer}
 use Rattle.answer.proofs.PutLaws.{within, within-then, within-as}
 
 -- ---- The outcome.
@@ -125,25 +125,25 @@ module _ (before second third : List ℕ) (answer : Ran) (a b steps : ℕ) (outc
   two-lines : PutWithin 80 before 0 (line (ran-text answer) ++ line (ascii "steps " ++ decimal steps)) b third
   two-lines = within-as 80 (sym (append-assoc (ran-text answer) (ascii "\n") (line (ascii "steps " ++ decimal steps)))) (omega arith) (within-then outcome counted)
 
-  pub page-with-registers : (after : List ℕ) (last : ℕ) (zs : List ℤ) → steps ≡ ran-steps answer → ran-shows answer ≡ true → PutWithin register-lines-bytes third b (register-lines 0 zs) last after →
-      PutWithin page-bytes before 0 (ran-page answer zs) last after
-  unfolding ran-page
-  page-with-registers after last zs e shows p =
-      within-as page-bytes
+  pub answer-with-registers : (after : List ℕ) (last : ℕ) (zs : List ℤ) → steps ≡ ran-steps answer → ran-shows answer ≡ true → PutWithin register-lines-bytes third b (register-lines 0 zs) last after →
+      PutWithin answer-bytes before 0 (ran-answer answer zs) last after
+  unfolding ran-answer
+  answer-with-registers after last zs e shows p =
+      within-as answer-bytes
       (ap (λ k. line (ran-text answer) ++ line (ascii "steps " ++ decimal k) ++ register-lines 0 zs) e ∙
       ap (λ t. line (ran-text answer) ++ line (ascii "steps " ++ decimal (ran-steps answer)) ++ cond t (register-lines 0 zs) []) (sym shows))
       (omega arith) (within-then two-lines p)
 
-  pub page-without : (zs : List ℤ) → steps ≡ ran-steps answer → ran-shows answer ≡ false → PutWithin page-bytes before 0 (ran-page answer zs) b third
-  unfolding ran-page
-  page-without zs e shows =
-      within-as page-bytes
+  pub answer-without : (zs : List ℤ) → steps ≡ ran-steps answer → ran-shows answer ≡ false → PutWithin answer-bytes before 0 (ran-answer answer zs) b third
+  unfolding ran-answer
+  answer-without zs e shows =
+      within-as answer-bytes
       (ap (λ k. line (ran-text answer) ++ line (ascii "steps " ++ decimal k)) e ∙
       sym (append-nil (line (ran-text answer) ++ line (ascii "steps " ++ decimal (ran-steps answer)))) ∙
       ap (λ t. line (ran-text answer) ++ line (ascii "steps " ++ decimal (ran-steps answer)) ++ cond t (register-lines 0 zs) []) (sym shows))
       (omega arith) two-lines
 
-pub refused-page : (before second after : List ℕ) (a last x : ℕ) → PutWithin outcome-bytes before 0 (ran-text (Refused x 0 0)) a second →
-    PutWithin steps-bytes second a (ascii "\n" ++ line (ascii "steps " ++ decimal 0)) last after → PutWithin page-bytes before 0 (refusal-page x) last after
-unfolding refusal-page
-refused-page before second after a last x p q = within-as page-bytes refl (omega arith) (two-lines before second after (Refused x 0 0) a last 0 p q)
+pub refused-answer : (before second after : List ℕ) (a last x : ℕ) → PutWithin outcome-bytes before 0 (ran-text (Refused x 0 0)) a second →
+    PutWithin steps-bytes second a (ascii "\n" ++ line (ascii "steps " ++ decimal 0)) last after → PutWithin answer-bytes before 0 (refusal-answer x) last after
+unfolding refusal-answer
+refused-answer before second after a last x p q = within-as answer-bytes refl (omega arith) (two-lines before second after (Refused x 0 0) a last 0 p q)

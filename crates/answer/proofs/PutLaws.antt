@@ -5,7 +5,7 @@ use mathlib.Core.List.{List, _++_, append-assoc}
 use native.Mathlib.Omega.{arith}
 use lib.ListN.{length, take, getD, set, length-append}
 use lib.Seq.{paste, paste-suc, length-paste, take-paste, take-length, length-take-le}
-use Rattle.answer.specs.Sizes.{page-bytes}
+use Rattle.answer.specs.Sizes.{answer-bytes}
 use Rattle.answer.specs.Writing.{Put, PutWithin}
 
 -- ---- One text, byte by byte.
@@ -71,7 +71,7 @@ within-as {at = at} {next} {a} b q h p = record { put = put-as q (p .put); short
     bound at next a b p h = omega arith
 
 -- A text from the first byte on is the output's first bytes.
-pub whole : (before after text answer : List ℕ) (next : ℕ) → PutWithin page-bytes before 0 text next after → length after ≡ length before → length before ≡ page-bytes → answer ≡ text →
+pub whole : (before after text answer : List ℕ) (next : ℕ) → PutWithin answer-bytes before 0 text next after → length after ≡ length before → length before ≡ answer-bytes → answer ≡ text →
     ((next ≤ length after) × (next ≡ length (take next after))) × (take next after ≡ answer)
 whole before after text answer next p kept room same = ((fits, sym (length-take-le next after fits)), p .put .written ∙ sym same)
   where

@@ -17,7 +17,7 @@ use Rattle.rules.specs.paper.Engine.{check-image, register-environment, registe
 use Rattle.integers.specs.Words.{integer-of, integers-of}
 use Rattle.rules.specs.paper.Decimal.{ascii, digits-within, decimal, integer}
 use Rattle.little_endian.specs.Numbers.{little-endian, numbers}
-use Rattle.answer.specs.Program.{outcome-text, register-text, register-lines, page, run-input, call-input, program}
+use Rattle.answer.specs.Program.{outcome-text, register-text, register-lines, answer-text, run-input, call-input, program}
 
 -- Words below 256, four bytes each.
 abbrev words : List ℕ → List ℕ
@@ -47,7 +47,7 @@ pub record CasesHold : Type 0 where
   pub no-routine-many-registers : program (words (0 ∷ 17 ∷ [])) ≡ ascii "refused 2 at 0\nsteps 0\n"
 
 pub cases-hold : CasesHold
-unfolding program call-input run-input page register-lines register-text outcome-text little-endian numbers integer decimal digits-within integers-of integer-of refusal-number engine check-image read read-root read-command read-expression read-many read-formal node nodes-of kind-of operand-fits root-is register-scope command-ok expression-codes expression-code meaning-of has-name shares-name distinct with-formals start register-environment register-store run judge holds first-holding priority reason-number fire fire-item fire-expression fire-command fire-mark fire-operator compute compare equal-integers equal-truths combine lookup join find store-at in-set remove put-actuals match-formals registers-from
+unfolding program call-input run-input answer-text register-lines register-text outcome-text little-endian numbers integer decimal digits-within integers-of integer-of refusal-number engine check-image read read-root read-command read-expression read-many read-formal node nodes-of kind-of operand-fits root-is register-scope command-ok expression-codes expression-code meaning-of has-name shares-name distinct with-formals start register-environment register-store run judge holds first-holding priority reason-number fire fire-item fire-expression fire-command fire-mark fire-operator compute compare equal-integers equal-truths combine lookup join find store-at in-set remove put-actuals match-formals registers-from
 cases-hold =
     record {
       a-number = refl;

@@ -42,8 +42,8 @@ shows-registers (outcome o) = true
 shows-registers (refused x p) = ltb last-before-run (refusal-number x)
 
 -- The outcome, the steps and the registers, a line each.
-unfoldable pub page : Called → List ℕ
-page c =
+unfoldable pub answer-text : Called → List ℕ
+answer-text c =
     line (outcome-text (c .reply .answer)) ++ line (ascii "steps " ++ decimal (c .reply .steps)) ++
     cond (shows-registers (c .reply .answer)) (register-lines 0 (c .registers)) []
 
@@ -70,4 +70,4 @@ call-input input =
     cond (ltb (length input) 8) (refusing Length 0 [] []) sized
 
 unfoldable pub program : List ℕ → List ℕ
-program input = page (call-input input)
+program input = answer-text (call-input input)

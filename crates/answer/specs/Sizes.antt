@@ -25,5 +25,5 @@ abbrev pub register-lines-bytes : ℕ
 register-lines-bytes = most-registers * register-line-bytes
 
 -- The room for an answer: its parts are 52 + 28 + 832 = 912.
-abbrev pub page-bytes : ℕ
-page-bytes = 1024
+abbrev pub answer-bytes : ℕ
+answer-bytes = 1024

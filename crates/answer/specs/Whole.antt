@@ -15,7 +15,7 @@ use Rattle.rules.specs.claims.Listing.{truth-word}
 use Rattle.little_endian.specs.Numbers.{little-endian}
 use Rattle.answer.specs.RegistersShown.{registers-shown}
 use Rattle.rules.specs.paper.Decimal.{ascii, digit, digits-within, decimal, integer}
-use Rattle.answer.specs.Program.{line, outcome-text, register-text, register-lines, shows-registers, page, call-input, program}
+use Rattle.answer.specs.Program.{line, outcome-text, register-text, register-lines, shows-registers, answer-text, call-input, program}
 
 abbrev pub newline : ℕ
 newline = 10
@@ -105,9 +105,9 @@ two-lines-and-more first second rest k e d m =
     omega (arith, newlines-line first e, newlines-append (line first) (line second), newlines-line second d, m)
 
 -- An answer has its lines.
-page-lines : (c : Called) → newlines (page c) ≡ answer-lines c
-unfolding page newlines
-page-lines c =
+lines-of-answer : (c : Called) → newlines (answer-text c) ≡ answer-lines c
+unfolding answer-text newlines
+lines-of-answer c =
     two-lines-and-more (outcome-text (c .reply .answer)) (ascii "steps " ++ decimal (c .reply .steps)) (cond (shows-registers (c .reply .answer)) (register-lines 0 (c .registers)) [])
     (cond (shows-registers (c .reply .answer)) (length (c .registers)) 0) (no-newline-outcome (c .reply .answer))
     (labelled (ascii "steps ") (decimal (c .reply .steps)) refl (no-newline-decimal (c .reply .steps))) (newlines-shown (shows-registers (c .reply .answer)) (c .registers))
@@ -145,9 +145,9 @@ unfolding EndsWithNewline
 newline-ends-shown true zs = newline-ends-registers 0 zs
 newline-ends-shown false zs = tt
 
-newline-ends-page : (c : Called) → EndsWithNewline (page c)
-unfolding page
-newline-ends-page c =
+newline-ends-answer : (c : Called) → EndsWithNewline (answer-text c)
+unfolding answer-text
+newline-ends-answer c =
     newline-ends-append (line (outcome-text (c .reply .answer)) ++ line (ascii "steps " ++ decimal (c .reply .steps))) _
     (newline-ends-append (line (outcome-text (c .reply .answer))) _ (newline-ends-line (outcome-text (c .reply .answer))) (newline-ends-line (ascii "steps " ++ decimal (c .reply .steps))))
     (newline-ends-shown (shows-registers (c .reply .answer)) (c .registers))
@@ -168,10 +168,10 @@ nothing-behind : (front behind : List ℕ) → EndsWithNewline behind → newlin
 nothing-behind front [] e d = sym (append-nil front)
 nothing-behind front (x ∷ xs) e d = absurd (omega (arith, d, newlines-append front (x ∷ xs), end-is-newline x xs e))
 
-whole-page : (c : Called) (k : ℕ) → newlines (take k (page c)) ≡ newlines (page c) → take k (page c) ≡ page c
-whole-page c k e =
-    nothing-behind (take k (page c)) (drop k (page c)) (newline-ends-drop k (page c) (newline-ends-page c)) (e ∙ ap newlines (sym (take-append-drop k (page c)))) ∙
-    take-append-drop k (page c)
+whole-answer : (c : Called) (k : ℕ) → newlines (take k (answer-text c)) ≡ newlines (answer-text c) → take k (answer-text c) ≡ answer-text c
+whole-answer c k e =
+    nothing-behind (take k (answer-text c)) (drop k (answer-text c)) (newline-ends-drop k (answer-text c) (newline-ends-answer c)) (e ∙ ap newlines (sym (take-append-drop k (answer-text c)))) ∙
+    take-append-drop k (answer-text c)
 
 counted : (b : Bool) (m r : ℕ) → (b ≡ true → m ≡ r) → 2 + cond b m 0 ≡ 2 + cond b r 0
 counted true m r e = ap (λ (n : ℕ). 2 + n) (e refl)
@@ -182,7 +182,7 @@ unfolding program
 answers-told input =
     record {
       lines =
-          page-lines (call-input input) ∙
+          lines-of-answer (call-input input) ∙
           counted (shows-registers (call-input input .reply .answer)) (length (call-input input .registers)) (little-endian (take 4 (drop 4 input))) (registers-shown input .as-many);
-      whole = whole-page (call-input input);
+      whole = whole-answer (call-input input);
     }

@@ -11,7 +11,7 @@ use Rattle.integers.specs.Words.{integer-of}
 use Rattle.calls.specs.declared.Ran.{Ran}
 use Rattle.calls.specs.declared.Ran.the-variants.{Number, Truth, Location, Nothing, Refused}
 use Rattle.rules.specs.paper.Decimal.{ascii, decimal, integer}
-use Rattle.answer.specs.Program.{line, register-lines, last-before-run, page, input-bytes, run-input, program}
+use Rattle.answer.specs.Program.{line, register-lines, last-before-run, answer-text, input-bytes, run-input, program}
 use Rattle.answer.specs.declared.input.Counted.{Counted}
 use Rattle.answer.specs.declared.input.Counted.the-variants as Count
 
@@ -46,20 +46,20 @@ ran-shows (Location w k) = true
 ran-shows (Nothing k) = true
 ran-shows (Refused x p k) = ltb last-before-run x
 
-unfoldable pub ran-page : Ran → List ℤ → List ℕ
-ran-page r zs = line (ran-text r) ++ line (ascii "steps " ++ decimal (ran-steps r)) ++ cond (ran-shows r) (register-lines 0 zs) []
+unfoldable pub ran-answer : Ran → List ℤ → List ℕ
+ran-answer r zs = line (ran-text r) ++ line (ascii "steps " ++ decimal (ran-steps r)) ++ cond (ran-shows r) (register-lines 0 zs) []
 
 -- The answer to an input that is refused before its image is read.
-unfoldable pub refusal-page : (number : ℕ) → List ℕ
-refusal-page x = line (ran-text (Refused x 0 0)) ++ line (ascii "steps " ++ decimal 0)
+unfoldable pub refusal-answer : (number : ℕ) → List ℕ
+refusal-answer x = line (ran-text (Refused x 0 0)) ++ line (ascii "steps " ++ decimal 0)
 
 -- What an input's counts come to: they fit its byte count, or it is refused.
 pub record CountsFit (n r : ℕ) (input : List ℕ) : Type 0 where
   pub few-nodes : n ≤ most-nodes
   pub few-registers : r ≤ most-registers
   pub bytes : length input ≡ input-bytes n r
-  pub answer : program input ≡ page (run-input n r input)
+  pub answer : program input ≡ answer-text (run-input n r input)
 
 abbrev pub CountAnswer : (input : List ℕ) → Counted → Type 0
 CountAnswer input (Count.Fits n r) = CountsFit n r input
-CountAnswer input (Count.Refused x) = program input ≡ refusal-page x
+CountAnswer input (Count.Refused x) = program input ≡ refusal-answer x

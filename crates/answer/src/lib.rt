@@ -7,15 +7,15 @@ ghost use mathlib.Core.Path.{_≡_};
 ghost use Prim.Native.Nat.{_+_, _*_, _≤_};
 ghost use lib.ListN.{length, take, drop};
 ghost use Rattle.rules.specs.paper.Limits.{most-nodes, most-registers, most-budget};
-ghost use Rattle.answer.specs.Sizes.{page-bytes};
+ghost use Rattle.answer.specs.Sizes.{answer-bytes};
 ghost use Rattle.io.specs.Counts.{Counts};
 ghost use Rattle.little_endian.specs.Numbers.{numbers};
 ghost use Rattle.calls.specs.Runs.{run-call};
-ghost use Rattle.answer.specs.Program.{page, input-bytes, run-numbers, run-input, program};
+ghost use Rattle.answer.specs.Program.{answer-text, input-bytes, run-numbers, run-input, program};
 ghost use Rattle.answer.specs.Writing.{PutWithin};
 use crate::input::Counted;
 use crate::input::count_input;
-use crate::lines::put_page;
+use crate::lines::put_answer;
 use crate::lines::put_refusal;
 use calls::MOST_BUDGET;
 use calls::MOST_IMAGE_WORDS;
@@ -30,7 +30,7 @@ use reader::MOST_REGISTERS;
 pub const MOST_INPUT_BYTES: usize = 8 + 8 * MOST_NODES + 8 * MOST_REGISTERS;
 
 // The room for an answer. The longest has 912 bytes: an outcome of 52, the steps of 28, and 16 registers of 52.
-pub const PAGE_BYTES: usize = 1024;
+pub const ANSWER_BYTES: usize = 1024;
 
 // The image and the starting values of an input.
 fn unpack_input(input: &[u8], image: &mut [u32], registers: &mut [u64])
@@ -45,11 +45,11 @@ fn unpack_input(input: &[u8], image: &mut [u32], registers: &mut [u64])
 // The run is made, and its answer is written.
 fn answer_run(image: &[u32], registers: &mut [u64], work: &mut [u64], output: &mut [u8]) -> usize
     requires { ⌜ length (now registers) ≤ most-registers ⌝ }
-    requires { ⌜ page-bytes ≤ length (now output) ⌝ }
-    ensures { λ r. ⌜ PutWithin page-bytes (now (output .entry)) 0 (page (run-call (now (image .entry)) (now (registers .entry)) most-budget (now (work .entry)))) r (now (output .exit)) ⌝ }
+    requires { ⌜ answer-bytes ≤ length (now output) ⌝ }
+    ensures { λ r. ⌜ PutWithin answer-bytes (now (output .entry)) 0 (answer-text (run-call (now (image .entry)) (now (registers .entry)) most-budget (now (work .entry)))) r (now (output .exit)) ⌝ }
 {
     let answer = run(image, registers, MOST_BUDGET, work);
-    put_page(output, answer, registers)
+    put_answer(output, answer, registers)
 }
 
 // The image and the starting values are taken from the input and run.
@@ -62,8 +62,8 @@ fn answer_input(
 ) -> usize
     requires { ⌜ 4 * length (now image) + 8 * length (now registers) ≤ length (now input) ⌝ }
     requires { ⌜ length (now registers) ≤ most-registers ⌝ }
-    requires { ⌜ page-bytes ≤ length (now output) ⌝ }
-    ensures { λ r. ⌜ PutWithin page-bytes (now (output .entry)) 0 (page (run-numbers (length (now (image .entry))) (length (now (registers .entry))) (now (input .entry)) (now (work .entry)))) r (now (output .exit)) ⌝ }
+    requires { ⌜ answer-bytes ≤ length (now output) ⌝ }
+    ensures { λ r. ⌜ PutWithin answer-bytes (now (output .entry)) 0 (answer-text (run-numbers (length (now (image .entry))) (length (now (registers .entry))) (now (input .entry)) (now (work .entry)))) r (now (output .exit)) ⌝ }
 {
     unpack_input(input, image, registers);
     answer_run(image, registers, work, output)
@@ -74,8 +74,8 @@ fn answer_counted(input: &[u8], nodes: usize, count: usize, output: &mut [u8]) -
     requires { ⌜ nodes ≤ most-nodes ⌝ }
     requires { ⌜ count ≤ most-registers ⌝ }
     requires { ⌜ length (now input) ≡ input-bytes nodes count ⌝ }
-    requires { ⌜ page-bytes ≤ length (now output) ⌝ }
-    ensures { λ r. ⌜ PutWithin page-bytes (now (output .entry)) 0 (page (run-input nodes count (now (input .entry)))) r (now (output .exit)) ⌝ }
+    requires { ⌜ answer-bytes ≤ length (now output) ⌝ }
+    ensures { λ r. ⌜ PutWithin answer-bytes (now (output .entry)) 0 (answer-text (run-input nodes count (now (input .entry)))) r (now (output .exit)) ⌝ }
 {
     let mut image = [0u32; MOST_IMAGE_WORDS];
     let mut registers = [0u64; MOST_REGISTERS];
@@ -91,7 +91,7 @@ fn answer_counted(input: &[u8], nodes: usize, count: usize, output: &mut [u8]) -
 }
 
 // The program: any input. The answer is the first bytes of the output, as many as are returned.
-pub fn answer(input: &[u8], output: &mut [u8; PAGE_BYTES]) -> usize
+pub fn answer(input: &[u8], output: &mut [u8; ANSWER_BYTES]) -> usize
     ensures { λ r. ⌜ Counts r (now (output .exit)) ⌝ }
     ensures { λ r. ⌜ take r (now (output .exit)) ≡ program (now (input .entry)) ⌝ }
 {

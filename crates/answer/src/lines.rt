@@ -4,11 +4,11 @@ ghost use mathlib.Core.List.{_++_};
 ghost use Prim.Native.Nat.{_+_, _≤_, _<_};
 ghost use lib.ListN.{length};
 ghost use Rattle.rules.specs.paper.Limits.{most-registers};
-ghost use Rattle.answer.specs.Sizes.{outcome-bytes, register-line-bytes, steps-bytes, register-lines-bytes, page-bytes};
+ghost use Rattle.answer.specs.Sizes.{outcome-bytes, register-line-bytes, steps-bytes, register-lines-bytes, answer-bytes};
 ghost use Rattle.integers.specs.Words.{integer-of, integers-of};
 ghost use Rattle.rules.specs.paper.Decimal.{ascii, decimal};
 ghost use Rattle.answer.specs.Program.{line, register-text, register-lines};
-ghost use Rattle.answer.specs.Writing.{PutWithin, ran-text, ran-steps, ran-shows, ran-page, refusal-page};
+ghost use Rattle.answer.specs.Writing.{PutWithin, ran-text, ran-steps, ran-shows, ran-answer, refusal-answer};
 use crate::text::put;
 use crate::text::put_labelled;
 use crate::text::put_labelled_integer;
@@ -92,10 +92,10 @@ fn shows_registers(answer: Ran) -> bool
 }
 
 // The whole answer.
-pub(crate) fn put_page(output: &mut [u8], answer: Ran, registers: &[u64]) -> usize
+pub(crate) fn put_answer(output: &mut [u8], answer: Ran, registers: &[u64]) -> usize
     requires { ⌜ length (now registers) ≤ most-registers ⌝ }
-    requires { ⌜ page-bytes ≤ length (now output) ⌝ }
-    ensures { λ r. ⌜ PutWithin page-bytes (now (output .entry)) 0 (ran-page answer (integers-of (now (registers .entry)))) r (now (output .exit)) ⌝ }
+    requires { ⌜ answer-bytes ≤ length (now output) ⌝ }
+    ensures { λ r. ⌜ PutWithin answer-bytes (now (output .entry)) 0 (ran-answer answer (integers-of (now (registers .entry)))) r (now (output .exit)) ⌝ }
 {
     let first = put_outcome(output, answer);
     let next = put_steps(output, first, steps_of(answer));
@@ -107,8 +107,8 @@ pub(crate) fn put_page(output: &mut [u8], answer: Ran, registers: &[u64]) -> usi
 
 // The answer to an input that is refused before its image is read.
 pub(crate) fn put_refusal(output: &mut [u8], number: u64) -> usize
-    requires { ⌜ page-bytes ≤ length (now output) ⌝ }
-    ensures { λ r. ⌜ PutWithin page-bytes (now (output .entry)) 0 (refusal-page number) r (now (output .exit)) ⌝ }
+    requires { ⌜ answer-bytes ≤ length (now output) ⌝ }
+    ensures { λ r. ⌜ PutWithin answer-bytes (now (output .entry)) 0 (refusal-answer number) r (now (output .exit)) ⌝ }
 {
     let first = put_outcome(output, Ran::Refused(number, 0, 0));
     put_steps(output, first, 0)

@@ -1,7 +1,7 @@
 // The program: reads an image and its starting values from standard input, runs it, and writes the answer to standard output. A stream that
 // fails is said on standard error: without a whole input there is no answer.
+use answer::ANSWER_BYTES;
 use answer::MOST_INPUT_BYTES;
-use answer::PAGE_BYTES;
 use libc::STDERR_FILENO;
 use streams::Ended;
 
@@ -27,7 +27,7 @@ error, and the answer is then missing or cut.
 
 // Runs the whole input and writes the answer.
 fn respond(input: &[u8]) {
-    let mut output = [0u8; PAGE_BYTES];
+    let mut output = [0u8; ANSWER_BYTES];
     let length = answer::answer(input, &mut output);
     let ended = streams::send(&output[..length]);
     match ended {

@@ -3,7 +3,7 @@ use mathlib.Core.Path.{sym}
 use native.Mathlib.Omega.{arith}
 use denote.Ref.{now}
 use lib.Seq.{length-take-le}
-use Rattle.answer.proofs.PageLaws.{room, counted-page}
+use Rattle.answer.proofs.AnswerLaws.{room, counted-answer}
 use borrow.Author.Needs.{needs}
 use Rattle.answer.proofs.answer_counted.Statement.{statement}
 use Rattle.answer.proofs.answer_counted.Tie as tie
@@ -43,7 +43,7 @@ same-length c = search needs
 returns : tie.Need-returns
 returns c =
     let start = c .before .before .before .before .before .before .before .before .before .before .before .before in
-    counted-page _ _ _ _ _ _ (start .pre .0) (start .pre .1 .0) (c .before .before .before .before .before .answer-input .ensures)
+    counted-answer _ _ _ _ _ _ (start .pre .0) (start .pre .1 .0) (c .before .before .before .before .before .answer-input .ensures)
 
 pub answer-counted-spec : {M : Type 1} → statement M
 answer-counted-spec =

@@ -1,5 +1,5 @@
 -- answer_input: the numbers of the input, and the run on them.
-use Rattle.answer.proofs.PageLaws.{input-put}
+use Rattle.answer.proofs.AnswerLaws.{input-put}
 use borrow.Author.Needs.{needs}
 use Rattle.answer.proofs.answer_input.Statement.{statement}
 use Rattle.answer.proofs.answer_input.Tie as tie

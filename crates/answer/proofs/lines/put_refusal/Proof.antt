@@ -1,5 +1,5 @@
 -- put_refusal: two lines.
-use Rattle.answer.proofs.LineLaws.{refused-page}
+use Rattle.answer.proofs.LineLaws.{refused-answer}
 use borrow.Author.Needs.{needs}
 use Rattle.answer.proofs.lines.put_refusal.Statement.{statement}
 use Rattle.answer.proofs.lines.put_refusal.Tie as tie
@@ -18,7 +18,7 @@ same-length : tie.Need-same-length
 same-length c = search needs
 
 returns : tie.Need-returns
-returns c = refused-page _ _ _ _ _ _ (c .before .before .before .before .before .before .put-outcome .ensures) (c .before .before .put-steps .ensures)
+returns c = refused-answer _ _ _ _ _ _ (c .before .before .before .before .before .before .put-outcome .ensures) (c .before .before .put-steps .ensures)
 
 pub put-refusal-spec : {M : Type 1} → statement M
 put-refusal-spec = tie.close (tie.spec put-outcome-requires put-steps-requires same-length returns)

@@ -1,4 +1,4 @@
--- The page of an answer in the code's words is the page of the engine's call.
+-- The text of an answer in the code's words is that of the engine's call.
 use Prim.Native.Nat.{ℕ, _+_, _*_, _<_, _≤_}
 use mathlib.Core.Path.{_≡_, refl, ap, _∙_}
 use mathlib.Core.Bool.{cond}
@@ -7,7 +7,7 @@ use native.Mathlib.Omega.{arith}
 use lib.ListN.{length, take, drop, getD, replicate, length-replicate}
 use lib.Seq.{length-take-le}
 use Rattle.calls.specs.Sizes.{most-image-words}
-use Rattle.answer.specs.Sizes.{page-bytes}
+use Rattle.answer.specs.Sizes.{answer-bytes}
 use Rattle.rules.specs.paper.Limits.{most-budget, work-words, most-nodes, most-registers}
 use Rattle.rules.specs.paper.Engine.{number, truth-of, cell, nothing, Answer, outcome, refused, Called, engine}
 use Rattle.integers.specs.Words.{integers-of, words-of}
@@ -17,8 +17,8 @@ use Rattle.calls.specs.Delivered.{all-in-range}
 use Rattle.calls.specs.declared.Ran.{Ran}
 use Rattle.rules.specs.paper.Decimal.{ascii, decimal, integer}
 use Rattle.little_endian.specs.Numbers.{numbers}
-use Rattle.answer.specs.Program.{line, outcome-text, register-lines, shows-registers, page, input-bytes, run-numbers, run-input}
-use Rattle.answer.specs.Writing.{PutWithin, ran-text, ran-steps, ran-shows, ran-page}
+use Rattle.answer.specs.Program.{line, outcome-text, register-lines, shows-registers, answer-text, input-bytes, run-numbers, run-input}
+use Rattle.answer.specs.Writing.{PutWithin, ran-text, ran-steps, ran-shows, ran-answer}
 use Rattle.answer.proofs.PutLaws.{within-as}
 use Rattle.answer.proofs.RangeLaws.{RangedAnswer, Ranged, integers-back, engine-ranged}
 
@@ -44,9 +44,9 @@ same-shows (outcome (cell l)) k = refl
 same-shows (outcome nothing) k = refl
 same-shows (refused x p) k = refl
 
-same-page : (c : Called) → Ranged c → ran-page (run-reply (c .reply)) (integers-of (words-of (c .registers))) ≡ page c
-unfolding ran-page page
-same-page c ranged =
+same-answer : (c : Called) → Ranged c → ran-answer (run-reply (c .reply)) (integers-of (words-of (c .registers))) ≡ answer-text c
+unfolding ran-answer answer-text
+same-answer c ranged =
     let zs = integers-of (words-of (c .registers)) in
     let r = run-reply (c .reply) in
     ap (λ l. line l ++ line (ascii "steps " ++ decimal (ran-steps r)) ++ cond (ran-shows r) (register-lines 0 zs) []) (same-text (c .reply .answer) (c .reply .steps) (ranged .answer))
@@ -55,23 +55,23 @@ same-page c ranged =
     ∙ ap (λ ys. line (outcome-text (c .reply .answer)) ++ line (ascii "steps " ++ decimal (c .reply .steps)) ++ cond (shows-registers (c .reply .answer)) (register-lines 0 ys) [])
     (integers-back (c .registers) (ranged .registers))
 
--- What is written after a run is the page of the engine's call.
+-- What is written after a run is the text of the engine's call.
 pub ran-put : (before after image registers work last-registers last-work : List ℕ) (r : Ran) (last : ℕ) → ((i : ℕ) → i < length registers → getD registers i 0 < 18446744073709551616) →
-    RanAs (run-call image registers most-budget work) r last-registers last-work → PutWithin page-bytes before 0 (ran-page r (integers-of last-registers)) last after →
-    PutWithin page-bytes before 0 (page (run-call image registers most-budget work)) last after
+    RanAs (run-call image registers most-budget work) r last-registers last-work → PutWithin answer-bytes before 0 (ran-answer r (integers-of last-registers)) last after →
+    PutWithin answer-bytes before 0 (answer-text (run-call image registers most-budget work)) last after
 ran-put before after image registers work last-registers last-work r last low done p =
-    within-as page-bytes
-    (ap (λ a. ran-page a (integers-of last-registers)) (done .answer-is)
-    ∙ ap (λ l. ran-page (run-reply (run-call image registers most-budget work .reply)) (integers-of l)) (done .registers-are)
-    ∙ same-page (run-call image registers most-budget work) (engine-ranged image (integers-of registers) (all-in-range registers low) most-budget work))
+    within-as answer-bytes
+    (ap (λ a. ran-answer a (integers-of last-registers)) (done .answer-is)
+    ∙ ap (λ l. ran-answer (run-reply (run-call image registers most-budget work .reply)) (integers-of l)) (done .registers-are)
+    ∙ same-answer (run-call image registers most-budget work) (engine-ranged image (integers-of registers) (all-in-range registers low) most-budget work))
     (omega arith) p
 
 -- The image and the registers are the numbers in the input.
 pub input-put : (input work before after image registers : List ℕ) (words values last : ℕ) → image ≡ numbers 4 words input → registers ≡ numbers 8 values (drop (4 * words) input) →
-    PutWithin page-bytes before 0 (page (run-call image registers most-budget work)) last after → PutWithin page-bytes before 0 (page (run-numbers words values input work)) last after
+    PutWithin answer-bytes before 0 (answer-text (run-call image registers most-budget work)) last after → PutWithin answer-bytes before 0 (answer-text (run-numbers words values input work)) last after
 input-put input work before after image registers words values last p q put =
-    within-as page-bytes
-    (ap (λ l. page (run-call l registers most-budget work)) p ∙ ap (λ l. page (run-call (numbers 4 words input) l most-budget work)) q)
+    within-as answer-bytes
+    (ap (λ l. answer-text (run-call l registers most-budget work)) p ∙ ap (λ l. answer-text (run-call (numbers 4 words input) l most-budget work)) q)
     (omega arith) put
 
 -- ---- The room for a run.
@@ -88,26 +88,26 @@ image-fits nodes few = length-take-le (2 + 2 * nodes) image-room (omega (arith, 
 registers-fit : (count : ℕ) → count ≤ most-registers → length (take count register-room) ≡ count
 registers-fit count few = length-take-le count register-room (omega (arith, few, length-replicate {A = ℕ} most-registers 0))
 
-pub room : (input output : List ℕ) (nodes count : ℕ) → nodes ≤ most-nodes → count ≤ most-registers → length input ≡ input-bytes nodes count → page-bytes ≤ length output →
-    (4 * length (take (2 + 2 * nodes) image-room) + 8 * length (take count register-room) ≤ length input) × ((length (take count register-room) ≤ most-registers) × (page-bytes ≤ length output))
+pub room : (input output : List ℕ) (nodes count : ℕ) → nodes ≤ most-nodes → count ≤ most-registers → length input ≡ input-bytes nodes count → answer-bytes ≤ length output →
+    (4 * length (take (2 + 2 * nodes) image-room) + 8 * length (take count register-room) ≤ length input) × ((length (take count register-room) ≤ most-registers) × (answer-bytes ≤ length output))
 room input output nodes count few-nodes few-registers bytes enough =
     let words = image-fits nodes few-nodes in
     let values = registers-fit count few-registers in
     (omega (arith, words, values, bytes), (omega (arith, values, few-registers), enough))
 
-pub counted-page : (input before after : List ℕ) (nodes count last : ℕ) → nodes ≤ most-nodes → count ≤ most-registers →
-    PutWithin page-bytes before 0 (page (run-numbers (length (take (2 + 2 * nodes) image-room)) (length (take count register-room)) input (replicate work-words 0))) last after →
-    PutWithin page-bytes before 0 (page (run-input nodes count input)) last after
+pub counted-answer : (input before after : List ℕ) (nodes count last : ℕ) → nodes ≤ most-nodes → count ≤ most-registers →
+    PutWithin answer-bytes before 0 (answer-text (run-numbers (length (take (2 + 2 * nodes) image-room)) (length (take count register-room)) input (replicate work-words 0))) last after →
+    PutWithin answer-bytes before 0 (answer-text (run-input nodes count input)) last after
 unfolding run-input
-counted-page input before after nodes count last few-nodes few-registers p =
-    within-as page-bytes
+counted-answer input before after nodes count last few-nodes few-registers p =
+    within-as answer-bytes
     (ap (λ k. called k (length (take count register-room)) (4 * k)) (image-fits nodes few-nodes)
     ∙ ap (λ k. called (2 + 2 * nodes) k (4 * (2 + 2 * nodes))) (registers-fit count few-registers)
     ∙ ap (called (2 + 2 * nodes) count) (eight nodes))
     (omega arith) p
   where
     called : (words values from : ℕ) → List ℕ
-    called words values from = page (engine (numbers 4 words input) (integers-of (numbers 8 values (drop from input))) most-budget (replicate work-words 0))
+    called words values from = answer-text (engine (numbers 4 words input) (integers-of (numbers 8 values (drop from input))) most-budget (replicate work-words 0))
 
     eight : (n : ℕ) → 4 * (2 + 2 * n) ≡ 8 + 8 * n
     eight n = omega arith

@@ -1,11 +1,11 @@
--- put_page: the outcome, the steps and the registers.
+-- put_answer: the outcome, the steps and the registers.
 use mathlib.Core.Path.{sym, _∙_}
-use Rattle.answer.proofs.LineLaws.{page-with-registers, page-without}
+use Rattle.answer.proofs.LineLaws.{answer-with-registers, answer-without}
 use borrow.Author.Needs.{needs}
-use Rattle.answer.proofs.lines.put_page.Statement.{statement}
-use Rattle.answer.proofs.lines.put_page.Tie as tie
-use Rattle.answer.proofs.lines.put_page.Reads as reads
-use Rattle.answer.proofs.lines.put_page.Lts as lts
+use Rattle.answer.proofs.lines.put_answer.Statement.{statement}
+use Rattle.answer.proofs.lines.put_answer.Tie as tie
+use Rattle.answer.proofs.lines.put_answer.Reads as reads
+use Rattle.answer.proofs.lines.put_answer.Lts as lts
 use Rattle.answer.proofs.lines.put_outcome.Reads as put-outcome-reads
 use Rattle.answer.proofs.lines.put_registers.Reads as put-registers-reads
 use Rattle.answer.proofs.lines.put_steps.Reads as put-steps-reads
@@ -32,7 +32,7 @@ same-length c = search needs
 
 returns : tie.Need-returns
 returns c =
-    page-with-registers _ _ _ _ _ _ _ (c .before .before .before .before .before .before .before .before .before .before .before .before .before .put-outcome .ensures) (c .before .before .before .before .before .before .before .before .put-steps .ensures) _ _ _ (c .before .before .before .before .before .before .before .before .before .steps-of .ensures)
+    answer-with-registers _ _ _ _ _ _ _ (c .before .before .before .before .before .before .before .before .before .before .before .before .before .put-outcome .ensures) (c .before .before .before .before .before .before .before .before .put-steps .ensures) _ _ _ (c .before .before .before .before .before .before .before .before .before .steps-of .ensures)
     (sym (c .before .before .before .before .before .shows-registers .ensures) ∙ c .before .before .before .before .if1 .taken) (c .before .before .put-registers .ensures)
 
 same-length-2 : tie.Need-same-length-2
@@ -40,11 +40,11 @@ same-length-2 c = search needs
 
 returns-2 : tie.Need-returns-2
 returns-2 c =
-    page-without _ _ _ _ _ _ _ (c .before .before .before .before .before .before .before .before .before .put-outcome .ensures) (c .before .before .before .before .put-steps .ensures) _ (c .before .before .before .before .before .steps-of .ensures)
+    answer-without _ _ _ _ _ _ _ (c .before .before .before .before .before .before .before .before .before .put-outcome .ensures) (c .before .before .before .before .put-steps .ensures) _ (c .before .before .before .before .before .steps-of .ensures)
     (sym (c .before .shows-registers .ensures) ∙ c .if1 .left)
 
-pub put-page-spec : {M : Type 1} → statement M
-put-page-spec =
+pub put-answer-spec : {M : Type 1} → statement M
+put-answer-spec =
     tie.close
     (tie.spec
     put-outcome-requires
