@@ -6,21 +6,21 @@ use native.Mathlib.Omega.{arith}
 use lib.Dec.{ltb, ltb→lt, lt→ltb}
 use lib.ListN.{length, drop}
 use Rattle.rules.specs.proofs.Basics.{true-test, false-test}
-use Rattle.rules.specs.paper.Refusals.{refusal-number, Work, ShortPage}
+use Rattle.rules.specs.paper.Refusals.{refusal-number, ShortPage}
 use Rattle.rules.specs.paper.Limits.{work-words}
 use Rattle.rules.specs.paper.Tree.{Root}
 use Rattle.rules.specs.paper.Checker.{Passed}
-use Rattle.rules.specs.paper.Engine.{Checked, turned-back, passed, check-image, cleared}
+use Rattle.rules.specs.paper.Engine.{check-image, cleared}
 use Rattle.rules.specs.claims.Listing.{root-nodes}
 use Rattle.reader.specs.Put.{KeptBeyond}
 use Rattle.reader.specs.Stored.{RootAt}
 use Rattle.page.specs.Page.{line-bytes, page-of}
-use Rattle.page.specs.Call.{Printing, printed, no-page, print-checked, page-call}
+use Rattle.page.specs.Call.{no-page, print-checked, page-call}
 use Rattle.page.specs.Writing.{PagePut}
 use Rattle.loader.specs.Answers.{LoadAnswer}
 use Rattle.loader.specs.declared.Loaded.{Loaded}
 use Rattle.loader.specs.declared.Loaded.the-variants as Load
-use Rattle.calls.specs.Page.{page-reply, PrintedAs, TreePrinted, PagedAs}
+use Rattle.calls.specs.Page.{PrintedAs, TreePrinted, PagedAs}
 use Rattle.calls.specs.declared.Printed.{Printed}
 use Rattle.calls.specs.declared.Printed.the-variants.{Whole, Refused}
 use Rattle.calls.proofs.CheckLaws.{cleared-same}

@@ -1,11 +1,5 @@
-pub mod DecimalLaws
-pub mod PutLaws
-pub mod NumberLaws
-pub mod NameLaws
-pub mod LineLaws
-pub mod ForestLaws
-pub mod TreeLaws
-pub mod ListingLaws
-pub mod ColumnLaws
-pub mod EveryLine
-pub mod Samples
+mod PutLaws
+mod NumberLaws
+mod NameLaws
+mod WritingLaws
+mod TreeLaws

@@ -1,14 +1,14 @@
 -- A number that is written in its columns from the right to the left: its last digit first, then the others, then blanks.
-use Prim.Native.Nat.{ℕ, zero, suc, _+_, _-_, _/_, _%_, _<_, _≤_}
+use Prim.Native.Nat.{ℕ, suc, _+_, _-_, _/_, _%_, _<_, _≤_}
 use mathlib.Core.Path.{_≡_, refl, sym, ap, _∙_}
 use mathlib.Core.List.{List, [], _∷_, _++_}
 use native.Mathlib.Omega.{arith}
-use lib.ListN.{length, set, length-append, length-replicate, replicate}
+use lib.ListN.{length, set, length-replicate}
 use Rattle.rules.specs.proofs.Basics.{append-assoc}
 use Rattle.rules.specs.paper.Decimal.{digit, decimal}
 use Rattle.reader.specs.Put.{put, put-none, put-length, set-put}
 use Rattle.page.specs.Page.{blank, blanks, to-the-right}
-use Rattle.page.proofs.DecimalLaws.{decimal-short, decimal-long, length-long, decimal-some}
+use Rattle.page.specs.DecimalLaws.{decimal-short, decimal-long, length-long, decimal-some}
 use Rattle.page.proofs.PutLaws.{put-joined, set-one}
 
 -- ---- The last digit of a number that stands to the right.

@@ -1,9 +1,9 @@
 -- Bytes put before others that are there already: the two runs of bytes are one.
 use Prim.Native.Nat.{ℕ, zero, suc, _+_}
-use mathlib.Core.Path.{_≡_, refl, sym, ap, _∙_}
+use mathlib.Core.Path.{_≡_, sym, ap, _∙_}
 use mathlib.Core.List.{List, [], _∷_, _++_}
 use native.Mathlib.Nat.{zero-add, suc-add}
-use lib.ListN.{length, set, drop}
+use lib.ListN.{length, set}
 use Rattle.reader.specs.Put.{put, put-none, set-put}
 
 pub put-before : (i : ℕ) (a b ws : List ℕ) → put i a (put (i + length a) b ws) ≡ put i (a ++ b) ws

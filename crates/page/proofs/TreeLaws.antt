@@ -1,40 +1,27 @@
 -- Trees one after the other: the line of each root, then the lines of its children; what is written after so many of them.
-use Prim.Native.Nat.{ℕ, zero, suc, _+_, _-_, _*_, _<_, _≤_}
+use Prim.Native.Nat.{ℕ, suc, _+_, _-_, _*_, _<_, _≤_}
 use mathlib.Core.Path.{_≡_, refl, sym, ap, _∙_, subst}
 use mathlib.Core.List.{List, [], _∷_, _++_}
 use native.Mathlib.Omega.{arith}
-use lib.ListN.{length, getD, drop, length-append}
+use lib.ListN.{length, getD, drop}
 use Rattle.rules.specs.proofs.Basics.{append-assoc, append-nothing}
 use Rattle.rules.specs.paper.Limits.{most-nodes, most-depth}
 use Rattle.rules.specs.paper.Kinds.{Kind, kind-number}
-use Rattle.rules.specs.paper.Tree.{Root}
 use Rattle.reader.specs.Put.{put, put-none, put-length, put-append}
 use Rattle.reader.specs.Pack.{packed-end}
-use Rattle.reader.specs.Stored.{HasWord, end-is, RootAt}
+use Rattle.reader.specs.Stored.{HasWord, end-is}
 use Rattle.reader.specs.StandingLaws.{after-node}
 use Rattle.page.specs.Lines.{Line, line-of, root-lines}
 use Rattle.page.specs.Page.{line-bytes, line-text, lines-text, page-of}
 use Rattle.page.specs.Forest.{Forest, no-tree, a-tree, SomeTrees}
 use Rattle.page.specs.Writing.{SomeLine, LinePut, TreesPut, PagePut}
-use Rattle.page.proofs.LineLaws.{kind-low, word-fits, line-length}
-use Rattle.page.proofs.ForestLaws.{join, counted, root-forest, AllFit, all-fit}
+use Rattle.page.specs.LineLaws.{kind-low, word-fits, line-length}
+use Rattle.page.specs.ForestLaws.{join, counted, root-forest, all-fit, lines-append, lines-length}
 
 -- ---- A line keeps the number of bytes.
 
 pub line-put-length : (before : List ℕ) {words after : List ℕ} {node depth end : ℕ} → SomeLine words node depth end → LinePut words node depth end before after → length after ≡ length before
 line-put-length before {node = node} {depth} {end} (k, w, h, low) put-there = ap length (put-there k w h) ∙ put-length (line-bytes * node) (line-text (line-of node depth k w end)) before
-
--- ---- The text of lines.
-
-pub lines-append : (a b : List Line) → lines-text (a ++ b) ≡ lines-text a ++ lines-text b
-unfolding lines-text
-lines-append [] b = refl
-lines-append (l ∷ a) b = ap (λ t. line-text l ++ t) (lines-append a b) ∙ sym (append-assoc (line-text l) (lines-text a) (lines-text b))
-
-pub lines-length : (ls : List Line) → AllFit ls → length (lines-text ls) ≡ line-bytes * length ls
-unfolding lines-text
-lines-length [] fits = refl
-lines-length (l ∷ ls) fits = omega (arith, length-append (line-text l) (lines-text ls), line-length l (fits .0), lines-length ls (fits .1))
 
 -- ---- The first tree of some.
 

@@ -5,3 +5,10 @@ pub mod Call
 pub mod Columns
 pub mod Forest
 pub mod Writing
+pub mod DecimalLaws
+pub mod Samples
+pub mod LineLaws
+pub mod ForestLaws
+pub mod ListingLaws
+pub mod ColumnLaws
+pub mod EveryLine

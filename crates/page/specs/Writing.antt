@@ -2,7 +2,7 @@
 use Prim.Native.Nat.{ℕ, _+_, _*_, _≤_}
 use mathlib.Core.Path.{_≡_}
 use mathlib.Core.List.{List, [], _∷_, _++_}
-use lib.ListN.{length, drop}
+use lib.ListN.{drop}
 use Rattle.rules.specs.paper.Limits.{most-depth}
 use Rattle.rules.specs.paper.Tree.{Root}
 use Rattle.rules.specs.paper.Kinds.{Kind, kind-number}

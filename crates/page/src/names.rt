@@ -1,5 +1,4 @@
 // The names of the kinds, in their columns.
-ghost use mathlib.Core.Path.{_≡_};
 ghost use Prim.Native.Nat.{_+_, _<_};
 ghost use lib.ListN.{length};
 ghost use Rattle.page.specs.Page.{name-columns};

@@ -1,7 +1,6 @@
 -- The page: the lines of one tree, the root's, from the first byte on.
-use native.Mathlib.Omega.{arith}
 use borrow.Author.Needs.{needs}
-use Rattle.page.proofs.ForestLaws.{root-forest}
+use Rattle.page.specs.ForestLaws.{root-forest}
 use Rattle.page.proofs.TreeLaws.{page-put}
 use Rattle.page.proofs.put_page.Statement.{statement}
 use Rattle.page.proofs.put_page.Tie as tie

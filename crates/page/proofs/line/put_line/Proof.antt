@@ -1,6 +1,7 @@
 -- The line of a node: the node, its depth, its kind's name, its operand and its end, one behind the other.
 use borrow.Author.Needs.{needs}
-use Rattle.page.proofs.LineLaws.{node-fits, depth-fits, some-operand-fits, end-fits, line-written}
+use Rattle.page.specs.LineLaws.{node-fits, depth-fits, end-fits}
+use Rattle.page.proofs.WritingLaws.{some-operand-fits, line-written}
 use Rattle.page.proofs.line.put_line.Statement.{statement}
 use Rattle.page.proofs.line.put_line.Tie as tie
 use Rattle.page.proofs.line.put_line.Reads as reads

@@ -14,9 +14,9 @@ use Rattle.rules.specs.paper.Kinds.{Kind, every-kind}
 use Rattle.reader.proofs.TableRows.{all-of, each-kind}
 use Rattle.page.specs.Names.{kind-name}
 use Rattle.page.specs.Lines.{Line}
-use Rattle.page.specs.Page.{node-columns, depth-columns, name-columns, operand-columns, end-columns, line-bytes, blank, newline, blanks, to-the-right, to-the-left, line-text}
+use Rattle.page.specs.Page.{node-columns, depth-columns, name-columns, operand-columns, end-columns, blank, newline, blanks, to-the-right, to-the-left, line-text}
 use Rattle.page.specs.Columns.{columns, LineColumns}
-use Rattle.page.proofs.LineLaws.{LineFits, end-text, operand-text, name-text, depth-text, line-parts, node-length, depth-length, name-length, operand-length, end-length, line-length}
+use Rattle.page.specs.LineLaws.{LineFits, end-text, operand-text, name-text, depth-text, line-parts, node-length, depth-length, name-length, operand-length, end-length, line-length}
 
 -- ---- A part, the byte behind it, and what follows.
 

@@ -8,8 +8,7 @@ use lib.Seq.{take-at, drop-at}
 use Rattle.rules.specs.proofs.Basics.{by-order, append-assoc}
 use Rattle.rules.specs.paper.Limits.{most-nodes, most-depth}
 use Rattle.rules.specs.paper.Tree.{Root}
-use Rattle.rules.specs.paper.Checker.{Passed}
-use Rattle.rules.specs.paper.Engine.{passed, check-image}
+use Rattle.rules.specs.paper.Engine.{passed}
 use Rattle.rules.specs.claims.Image.{IsImage}
 use Rattle.rules.specs.claims.Listing.{node-of, root-nodes, image-words}
 use Rattle.rules.specs.proofs.checking.ImageExact.{check-exact}
@@ -21,11 +20,10 @@ use Rattle.page.specs.Lines.{Line, line-of, root-lines}
 use Rattle.page.specs.Page.{line-bytes, line-text, lines-text, page-of}
 use Rattle.page.specs.Columns.{LineColumns, line-at, LineOf, PageClaim, EveryLine}
 use Rattle.page.specs.Forest.{Forest, no-tree, a-tree}
-use Rattle.page.proofs.LineLaws.{LineFits, line-length}
-use Rattle.page.proofs.ForestLaws.{counted, root-forest, AllFit, all-fit, fit-first, fit-later}
-use Rattle.page.proofs.TreeLaws.{lines-append, lines-length}
-use Rattle.page.proofs.ListingLaws.{line-nodes, nodes-append, nodes-length, root-listed, image-kind, image-operand}
-use Rattle.page.proofs.ColumnLaws.{line-columns}
+use Rattle.page.specs.LineLaws.{line-length}
+use Rattle.page.specs.ForestLaws.{counted, root-forest, AllFit, all-fit, fit-first, fit-later, lines-append, lines-length}
+use Rattle.page.specs.ListingLaws.{line-nodes, nodes-append, nodes-length, root-listed, image-kind, image-operand}
+use Rattle.page.specs.ColumnLaws.{line-columns}
 
 -- ---- Line i of a forest.
 

@@ -7,7 +7,7 @@ use Rattle.rules.specs.paper.Kinds.{num, expression-kind}
 use Rattle.rules.specs.paper.Decimal.{ascii, digits-within, decimal}
 use Rattle.page.specs.Lines.{line-of, expression-lines, root-lines}
 use Rattle.page.specs.Page.{line-text, lines-text, page-of}
-use Rattle.page.proofs.DecimalLaws.{decimal-computed}
+use Rattle.page.specs.DecimalLaws.{decimal-computed}
 
 pub a-product :
     page-of (expression (Binary 0 (arithmetic Mul) (Num 1 5) (Binary 2 (arithmetic Sum) (Num 3 3) (Num 4 2)))) ≡

@@ -1,12 +1,11 @@
 -- The lines of a tree list its nodes: kinds and operands are those of the preorder listing, and so the image's words.
-use Prim.Native.Nat.{ℕ, zero, suc, _+_, _<_}
-use mathlib.Core.Path.{_≡_, refl, sym, ap, _∙_, subst}
+use Prim.Native.Nat.{ℕ, suc, _+_}
+use mathlib.Core.Path.{_≡_, refl, sym, ap, _∙_}
 use mathlib.Core.List.{List, [], _∷_, _++_}
 use native.Mathlib.Omega.{arith}
 use lib.ListN.{length, getD}
 use lib.Seq.{getD-append-add}
 use Rattle.rules.specs.paper.Reader.{Node}
-use Rattle.rules.specs.paper.Kinds.{Kind, kind-number}
 use Rattle.rules.specs.paper.Tree.{Expression, Num, Boo, Id, DeRef, ValRef, Binary, Not, Formal, Command, Assign, Loop, CSeq, block, Call, Cond, Block, Blk, Declaration, Bind, DSeq, Bound, plain, Ref, Abs, Root, expression, command, absent}
 use Rattle.rules.specs.claims.Listing.{node-of, expression-nodes, formal-nodes, all-nodes, command-nodes, block-nodes, declaration-nodes, bound-nodes, root-nodes, kind-words, operand-words, image-words}
 use Rattle.page.specs.Lines.{Line, expression-lines, formal-lines, all-lines, command-lines, block-lines, declaration-lines, bound-lines, root-lines}

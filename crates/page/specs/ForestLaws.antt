@@ -1,6 +1,6 @@
 -- A tree that stands in the work words is a forest of one tree, whatever the sorts of its nodes; where a forest ends; and that each of its
 -- lines fits its columns.
-use Prim.Native.Nat.{ℕ, zero, suc, _+_, _*_, _<_, _≤_}
+use Prim.Native.Nat.{ℕ, suc, _+_, _*_, _≤_}
 use mathlib.Core.Path.{_≡_, refl, sym, ap, _∙_, subst}
 use mathlib.Core.List.{List, [], _∷_, _++_}
 use native.Mathlib.Omega.{arith}
@@ -12,8 +12,9 @@ use Rattle.rules.specs.paper.Tree.{Expression, Formal, Command, Block, Declarat
 use Rattle.reader.specs.Stored.{HasWord, StoredExpression, StoredActuals, no-actuals, one-actual, StoredFormals, no-formals, one-formal, StoredCommand, StoredBlock, StoredDeclaration, StoredBound, StoredRoot, root-expression, root-command, root-absent, RootAt}
 use Rattle.reader.specs.Stored as Stored
 use Rattle.page.specs.Lines.{Line, line-of, node-lines, expression-lines, formal-lines, all-lines, command-lines, block-lines, declaration-lines, bound-lines, root-lines}
+use Rattle.page.specs.Page.{line-bytes, line-text, lines-text}
 use Rattle.page.specs.Forest.{Forest, no-tree, a-tree}
-use Rattle.page.proofs.LineLaws.{LineFits, word-fits}
+use Rattle.page.specs.LineLaws.{LineFits, word-fits, line-length}
 
 -- ---- Forests one after the other, and a forest of one tree.
 
@@ -130,3 +131,15 @@ fit-later (l ∷ a) b p = fit-later a b (p .1)
 pub all-fit : {words : List ℕ} {d i j : ℕ} {ls : List Line} → Forest words d i j ls → AllFit ls
 all-fit no-tree = tt
 all-fit {d = d} (a-tree {kind = kind} {below = below} {rest = rest} h low inner later) = (word-fits d kind h low, fit-both below rest (all-fit inner) (all-fit later))
+
+-- ---- The text of its lines.
+
+pub lines-append : (a b : List Line) → lines-text (a ++ b) ≡ lines-text a ++ lines-text b
+unfolding lines-text
+lines-append [] b = refl
+lines-append (l ∷ a) b = ap (λ t. line-text l ++ t) (lines-append a b) ∙ sym (append-assoc (line-text l) (lines-text a) (lines-text b))
+
+pub lines-length : (ls : List Line) → AllFit ls → length (lines-text ls) ≡ line-bytes * length ls
+unfolding lines-text
+lines-length [] fits = refl
+lines-length (l ∷ ls) fits = omega (arith, length-append (line-text l) (lines-text ls), line-length l (fits .0), lines-length ls (fits .1))

@@ -1,25 +1,23 @@
--- The line of a node: its parts, written one behind the other, are the line's text; and each part fits its columns.
-use Prim.Native.Nat.{ℕ, suc, _+_, _-_, _*_, _^_, _<_, _≤_}
-use mathlib.Core.Path.{_≡_, refl, sym, ap, _∙_, subst}
+-- The line of a node: its parts one behind the other, each of which fits its columns, and so how long it is.
+use Prim.Native.Nat.{ℕ, suc, _+_, _-_, _<_, _≤_}
+use mathlib.Core.Path.{_≡_, ap, _∙_}
 use mathlib.Core.List.{List, [], _∷_, _++_}
 use native.Mathlib.Omega.{arith}
 use lib.Dec.{T, leb, leb→le}
-use lib.ListN.{length, getD, length-append, length-replicate}
+use lib.ListN.{length, length-append, length-replicate}
 use Rattle.rules.specs.proofs.Basics.{append-assoc}
 use Rattle.rules.specs.paper.Limits as Limits
 use Rattle.rules.specs.paper.Limits.{most-nodes, most-depth}
 use Rattle.rules.specs.paper.Decimal.{ascii, decimal}
 use Rattle.rules.specs.paper.Kinds.{Kind, kind-number, every-kind}
-use Rattle.reader.specs.Put.{put, put-append}
-use Rattle.reader.specs.Pack.{kinds-room, packed-kind, packed-operand}
-use Rattle.reader.specs.Stored.{HasWord, kind-is, operand-is}
+use Rattle.reader.specs.Pack.{kinds-room}
+use Rattle.reader.specs.Stored.{HasWord}
 use Rattle.reader.proofs.TableRows.{all-of, each-kind, known-low}
 use Rattle.rules.specs.proofs.reading.ReaderComplete.{kind-known}
 use Rattle.page.specs.Names.{kind-name}
 use Rattle.page.specs.Lines.{Line, line-of}
 use Rattle.page.specs.Page.{node-columns, depth-columns, name-columns, operand-columns, end-columns, line-bytes, blank, newline, blanks, to-the-right, to-the-left, line-text}
-use Rattle.page.specs.Writing.{SomeLine, NamePut, LinePut}
-use Rattle.page.proofs.DecimalLaws.{decimal-within}
+use Rattle.page.specs.DecimalLaws.{decimal-within}
 
 -- ---- Each part fits its columns.
 
@@ -52,21 +50,6 @@ left-length columns text h = omega (arith, h, length-append text (blanks (column
 -- A kind fits its part of a node's word.
 pub kind-low : (k : Kind) → kind-number k < kinds-room
 kind-low k = known-low (kind-number k) k (kind-known k)
-
--- The same of the operand that is read of a node.
-pub some-operand-fits : {words : List ℕ} {node depth end : ℕ} (operand : ℕ) → operand ≡ packed-operand (getD words node 0) → SomeLine words node depth end → length (decimal operand) ≤ operand-columns
-some-operand-fits operand q (k, w, h, d) = operand-fits operand (omega (arith, q, operand-is h (kind-low k), h .operand-low))
-
--- ---- A part, a byte behind it, and what follows.
-
-part-then : (i j v : ℕ) (part rest before : List ℕ) → j ≡ i + suc (length part) → put j rest (put i (part ++ (v ∷ [])) before) ≡ put i (part ++ (v ∷ rest)) before
-part-then i j v part rest before q =
-    ap (λ k. put k rest (put i (part ++ (v ∷ [])) before)) (q ∙ ap (λ k. i + k) (sym (one-longer part)))
-    ∙ put-append i (part ++ (v ∷ [])) rest before
-    ∙ ap (λ l. put i l before) (append-assoc part (v ∷ []) rest)
-  where
-    one-longer : (l : List ℕ) → length (l ++ (v ∷ [])) ≡ suc (length l)
-    one-longer l = omega (arith, length-append l (v ∷ []))
 
 -- ---- The whole line.
 
@@ -145,32 +128,3 @@ module _ (l : Line) (fits : LineFits l) where
       (one-more (to-the-left name-columns (ascii (kind-name (l .kind)))) (operand-text (l .operand) (l .end)) name-columns 16 name-length
       (one-more (to-the-right operand-columns (decimal (l .operand))) (end-text (l .end)) operand-columns 5 operand-length
       (length-append (to-the-right end-columns (decimal (l .end))) (newline ∷ []) ∙ ap (λ n. n + 1) end-length))))
-
--- ---- The line as it is written.
-
-pub line-written : (words before after-node after-depth after-name after-operand after : List ℕ) (node depth kind operand end : ℕ) → SomeLine words node depth end →
-    after-node ≡ put (line-bytes * node) (to-the-right node-columns (decimal node) ++ (blank ∷ [])) before →
-    after-depth ≡ put (line-bytes * node + 5) (to-the-right depth-columns (decimal depth) ++ (blank ∷ [])) after-node →
-    kind ≡ packed-kind (getD words node 0) → NamePut kind (line-bytes * node + 8) after-depth after-name →
-    operand ≡ packed-operand (getD words node 0) → after-operand ≡ put (line-bytes * node + 15) (to-the-right operand-columns (decimal operand) ++ (blank ∷ [])) after-name →
-    after ≡ put (line-bytes * node + 26) (end-text end) after-operand → LinePut words node depth end before after
-line-written words before after-node after-depth after-name after-operand after node depth kind operand end some p₁ p₂ kind-here p₃ operand-here p₄ p₅ k w h =
-    p₅
-    ∙ ap (put (at + 26) (end-text end)) (p₄ ∙ ap (λ v. put (at + 15) (to-the-right operand-columns (decimal v) ++ (blank ∷ [])) after-name) (operand-here ∙ operand-is h (kind-low k)))
-    ∙ part-then (at + 15) (at + 26) blank (to-the-right operand-columns (decimal w)) (end-text end) after-name (omega (arith, operand-length line fits))
-    ∙ ap (put (at + 15) (operand-text w end)) (p₃ k (kind-here ∙ kind-is h (kind-low k)))
-    ∙ part-then (at + 8) (at + 15) blank (to-the-left name-columns (ascii (kind-name k))) (operand-text w end) after-depth (omega (arith, name-length line fits))
-    ∙ ap (put (at + 8) (name-text k w end)) p₂
-    ∙ part-then (at + 5) (at + 8) blank (to-the-right depth-columns (decimal depth)) (name-text k w end) after-node (omega (arith, depth-length line fits))
-    ∙ ap (put (at + 5) (depth-text depth k w end)) p₁
-    ∙ part-then at (at + 5) blank (to-the-right node-columns (decimal node)) (depth-text depth k w end) before (omega (arith, node-length line fits))
-    ∙ ap (λ l. put at l before) (sym (line-parts node depth k w end))
-  where
-    at : ℕ
-    at = line-bytes * node
-
-    line : Line
-    line = line-of node depth k w end
-
-    fits : LineFits line
-    fits = word-fits depth k h (some .3)
