@@ -45,6 +45,8 @@ mod page_limits;
 mod page_refusals;
 #[path = "../../../second/tests/suite/pages.rs"]
 mod pages;
+#[path = "../../../second/tests/suite/refused_images.rs"]
+mod refused_images;
 #[path = "../../../second/tests/suite/sequence_limits.rs"]
 mod sequence_limits;
 #[path = "../../../second/tests/suite/sequence_types.rs"]

@@ -1,8 +1,11 @@
 //! What is tested of every call that takes an image and work words alone.
 
-use crate::helpers::CALCULATOR;
+use crate::helpers::*;
 use compare::guarded::Guarded;
+use second::build::*;
+use second::encode;
 use second::engine::WORK_WORDS;
+use second::generate::limits::{near_a_limit, with_nodes};
 use second::generate::random::Random;
 use std::fmt::Debug;
 
@@ -22,6 +25,28 @@ pub const WORK_LENGTHS: [usize; 10] = [
     3 * WORK_WORDS,
     1 << 16,
 ];
+
+/// An image for each answer of the checker, and some for which many work words are used.
+pub fn images() -> Vec<Vec<u32>> {
+    let random = &mut Random::new(9);
+    let mut all: Vec<_> = papers_images().into_iter().map(|(_, image, _)| image).collect();
+    all.extend((0..20).map(|_| encode(&near_a_limit(random))));
+    all.extend([
+        vec![],
+        vec![0, 16],
+        vec![0, 17],
+        vec![1, 0, 99, 0],
+        vec![1, 0, 2, 2],
+        vec![1, 0, 15, 0],
+        image(0, (0..64).fold(boo(true), |operand, _| not(operand))),
+        image(0, id(0)),
+        image(0, sum(num(1), boo(true))),
+        image(1, blk(bind(1, num(0)), call(1, vec![]))),
+        image(1, blk(dseq(bind(1, num(0)), bind(1, num(0))), assign(0, num(0)))),
+        encode(&with_nodes(2_000)),
+    ]);
+    all
+}
 
 /// Functions that reply as they must and are wrong about one work word are found out: `right`
 /// is what they call, and `found` gives the text of the difference.

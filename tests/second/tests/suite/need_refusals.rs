@@ -1,6 +1,7 @@
 //! The needs refused: 22, then the image, then 40; and no figures with any of them.
 
 use crate::helpers::*;
+use crate::refused_images::refused_images;
 use second::build::*;
 use second::engine::WORK_WORDS;
 use second::needs::{Needs, Steps};
@@ -56,28 +57,7 @@ fn first_22_then_the_image_then_40() {
 /// Each refusal of the image, with its place, as the checker has it.
 #[test]
 fn the_images_refusals() {
-    let set = || assign(0, num(1));
-    let unnamed = || block(bind(1, num(0)), set());
-    let deep = (0..64).fold(boo(true), |operand, _| not(operand));
-    let images = [
-        (1, 0, vec![1]),
-        (1, 0, vec![1, 0, 1]),
-        (1, 0, vec![0, 0, 1]),
-        (2, 0, vec![2_001, 0]),
-        (2, 0, vec![0, 17]),
-        (3, 0, vec![1, 0, 99, 0]),
-        (4, 0, vec![1, 0, 2, 2]),
-        (5, 1, vec![1, 0, 15, 0]),
-        (5, 1, vec![2, 0, 1, 1, 0, 0]),
-        (6, 64, image(0, deep)),
-        (10, 2, image(1, cseq(assign(0, id(5)), set()))),
-        (11, 0, image(1, repeat(num(1), set()))),
-        (11, 0, image(1, cond(num(1), set(), set()))),
-        (12, 4, image(1, blk(bind_abs(1, &[(2, 0), (2, 0)], unnamed()), set()))),
-        (13, 3, image(1, blk(bind(1, num(0)), assign(1, num(0))))),
-        (14, 3, image(1, blk(bind(1, num(0)), call(1, vec![])))),
-    ];
-    for (number, place, image) in images {
+    for (number, place, image) in refused_images() {
         assert_eq!(needed(&image), needs_refused(number, place), "{number}");
         assert_eq!(checked(&image), answer_refused(number, place), "{number}");
     }

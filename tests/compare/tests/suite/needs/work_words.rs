@@ -2,13 +2,11 @@
 //! every other answer, 40 too, leaves the first 8,192 words 0 and the rest as they were.
 
 use crate::helpers::*;
-use crate::image_calls::{contents_change_nothing, WORK_LENGTHS};
+use crate::image_calls::{self, contents_change_nothing, WORK_LENGTHS};
 use compare::engine;
 use compare::needs::{self, reply_of};
 use second::build::*;
-use second::encode;
 use second::engine::WORK_WORDS;
-use second::generate::limits::{near_a_limit, with_nodes};
 use second::generate::random::Random;
 use second::needs::{Needs, EFFORT};
 use second::tree::*;
@@ -27,26 +25,8 @@ fn doubling(count: Name) -> Command {
 
 /// An image for each answer, and some for which many work words are used.
 fn images() -> Vec<Vec<u32>> {
-    let random = &mut Random::new(9);
-    let mut all: Vec<_> = papers_images().into_iter().map(|(_, image, _)| image).collect();
-    all.extend((0..20).map(|_| encode(&near_a_limit(random))));
-    all.extend([
-        vec![],
-        vec![0, 16],
-        vec![0, 17],
-        vec![1, 0, 99, 0],
-        vec![1, 0, 2, 2],
-        vec![1, 0, 15, 0],
-        image(0, (0..64).fold(boo(true), |operand, _| not(operand))),
-        image(0, id(0)),
-        image(0, sum(num(1), boo(true))),
-        image(1, blk(bind(1, num(0)), call(1, vec![]))),
-        image(1, blk(dseq(bind(1, num(0)), bind(1, num(0))), assign(0, num(0)))),
-        encode(&with_nodes(2_000)),
-        image(1, doubling(17)),
-        image(1, doubling(50)),
-        image(1, doubling(5)),
-    ]);
+    let mut all = image_calls::images();
+    all.extend([17, 50, 5].map(|count| image(1, doubling(count))));
     all
 }
 

@@ -2,37 +2,12 @@
 //! every other answer, 41 too, leaves the first 8,192 words 0 and the rest as they were.
 
 use crate::helpers::*;
-use crate::image_calls::{contents_change_nothing, WORK_LENGTHS};
+use crate::image_calls::{contents_change_nothing, images, WORK_LENGTHS};
 use compare::engine;
 use compare::page::{self, reply_of, LINE};
-use second::build::*;
-use second::encode;
 use second::engine::WORK_WORDS;
-use second::generate::limits::{near_a_limit, with_nodes};
 use second::generate::random::Random;
 use second::Refusal;
-
-/// An image for each answer of the checker, and some for which many work words are used.
-fn images() -> Vec<Vec<u32>> {
-    let random = &mut Random::new(9);
-    let mut all: Vec<_> = papers_images().into_iter().map(|(_, image, _)| image).collect();
-    all.extend((0..20).map(|_| encode(&near_a_limit(random))));
-    all.extend([
-        vec![],
-        vec![0, 16],
-        vec![0, 17],
-        vec![1, 0, 99, 0],
-        vec![1, 0, 2, 2],
-        vec![1, 0, 15, 0],
-        image(0, (0..64).fold(boo(true), |operand, _| not(operand))),
-        image(0, id(0)),
-        image(0, sum(num(1), boo(true))),
-        image(1, blk(bind(1, num(0)), call(1, vec![]))),
-        image(1, blk(dseq(bind(1, num(0)), bind(1, num(0))), assign(0, num(0)))),
-        encode(&with_nodes(2_000)),
-    ]);
-    all
-}
 
 /// Lent pages for an image: a byte too short, if that can be, and exact.
 fn pages(image: &[u32]) -> Vec<Vec<u8>> {
