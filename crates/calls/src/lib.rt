@@ -5,7 +5,6 @@ mod print;
 pub mod refusals;
 
 ghost use mathlib.Core.Path.{_≡_};
-ghost use Prim.Native.Nat.{_<_};
 ghost use Rattle.rules.specs.paper.Engine.{checker, needs};
 ghost use Rattle.page.specs.Call.{page-call};
 ghost use Rattle.calls.specs.Answers.{check-reply};
