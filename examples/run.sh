@@ -1,13 +1,14 @@
 #!/usr/bin/env bash
 # Makes the image of each sample routine, runs it, and compares with the output stored beside it; works out its needs and
-# compares with those stored; and holds the price list to them.
+# its page and compares with those stored; and holds the price list and the annex to them.
 # A part that cannot run counts as failed. The last line is 'N passed, M failed'; the exit status is 0 only when M is 0.
 set -u
 
 help='usage: examples/run.sh [PROGRAM [ARGUMENT..]]
 
 Runs every sample routine and compares what PROGRAM prints with what is stored;
-and compares the needs of each, which the image tool prints, and the price list.
+and compares the needs and the page of each, which the image tool prints, the
+price list and the annex.
 PROGRAM reads an image and its starting values from standard input. It is
 target/bin/pirun if none is named; another one is the second interpreter:
   examples/run.sh tests/second/target/release/second program
@@ -72,6 +73,19 @@ needs_as_stored() { # NAME
     "$image" needs "examples/$1.pi" >"$made/needs" && diff "examples/$1.needs" "$made/needs"
 }
 
+# The page of a routine, the same way.
+page_as_stored() { # NAME
+    "$image" page "examples/$1.pi" >"$made/page" && diff "examples/$1.page" "$made/page"
+}
+
+# README.md shows the lines of a file, but for empty ones.
+readme_shows() { # FILE
+    local line
+    while IFS= read -r line; do
+        [ -z "$line" ] || grep -qxF -- "    $line" README.md || { echo "README.md does not show: $line"; return 1; }
+    done <"$1"
+}
+
 # The price list, which a C program prints (tests/host/run.sh runs it), has what is stored of each routine it names; and
 # README.md shows it.
 price_list_as_stored() {
@@ -90,10 +104,15 @@ price_list_as_stored() {
             ;;
         esac
     done < <(sed 1d examples/price_list.out)
-    while IFS= read -r line; do
-        grep -qxF -- "    $line" README.md || { echo "README.md does not show: $line"; return 1; }
-    done <examples/price_list.out
-    [ "$rows" -gt 0 ]
+    [ "$rows" -gt 0 ] && readme_shows examples/price_list.out
+}
+
+# The annex, which a C program prints too, is the page that is stored of its routine, below a heading; and README.md
+# shows it.
+annex_as_stored() {
+    local name
+    read -r name <examples/annex.out
+    sed '1,/^node /d' examples/annex.out | diff "examples/$name.page" - && readme_shows examples/annex.out
 }
 
 one_check() { # NAME COMMAND..
@@ -108,11 +127,13 @@ one_check() { # NAME COMMAND..
     fi
 }
 
-for name in $(basename -a examples/*.pi examples/*.values examples/*.needs | sed 's/\.[a-z]*$//' | sort -u); do
+for name in $(basename -a examples/*.pi examples/*.values examples/*.needs examples/*.page | sed 's/\.[a-z]*$//' | sort -u); do
     one_check "$name" runs_as_stored "$name"
     one_check "$name, needs" needs_as_stored "$name"
+    one_check "$name, page" page_as_stored "$name"
 done
 one_check 'price list' price_list_as_stored
+one_check annex annex_as_stored
 
 echo "$passed passed, $failed failed"
 [ "$failed" -eq 0 ]

@@ -1,6 +1,7 @@
 /*
  * The Π IR routine engine, for a C host: checks the image of a routine, works out what its runs may
- * need, and runs it over the site's registers. For C99 and later, and C++11 and later.
+ * need, writes its tree as a page, and runs it over the site's registers. For C99 and later, and C++11
+ * and later.
  *
  * The target is x86-64 Linux, with the System V calling convention; code for other targets is not
  * made. The static library needs nothing but the C library's memory functions. To make it, and to
@@ -59,8 +60,9 @@
  *     }
  *
  * It prints `number 25` and `steps 7`. A run checks the image itself, so a host calls pi_check only
- * to know beforehand whether an image passes, and pi_needs only to know beforehand how much room and
- * how many steps its runs may take (examples/price_list.c).
+ * to know beforehand whether an image passes, pi_needs only to know beforehand how much room and how
+ * many steps its runs may take (examples/price_list.c), and pi_page only to print the tree, as on the
+ * annex of a contract (examples/annex.c).
  *
  * What holds of every call:
  *
@@ -70,10 +72,11 @@
  * - The image is only read.
  * - Refusals 22 and 21 touch nothing. Every other call leaves the first 8,192 work words 0 and the
  *   rest untouched, whatever they held before.
- * - The answer does not hang on what the work words held.
+ * - The answer does not hang on what the work words held, nor on what the page held.
  * - The registers are kept by refusals 1 to 22. Refusals 30 to 36 leave them as before the withheld
  *   step; a run that ends leaves what its last step left.
- * - No memory is used but the lent words and the stack, of which a call takes no more than
+ * - The page is kept by every refusal of pi_page, and its bytes beyond the last line by every call.
+ * - No memory is used but what is lent and the stack, of which a call takes no more than
  *   PI_STACK_WORD_FORMS or PI_STACK_BYTE_FORMS bytes, whatever the image.
  * - Nothing is kept between calls, so calls on different buffers may run at once.
  * - Every call ends: a run makes at most its budget of steps, and the rest goes by the nodes.
@@ -93,9 +96,9 @@ extern "C" {
  * and what changed in which version, is in CHANGELOG.md. PI_VERSION_NUMBER is for #if.
  */
 #define PI_VERSION_MAJOR 5
-#define PI_VERSION_MINOR 1
+#define PI_VERSION_MINOR 2
 #define PI_VERSION_PATCH 0
-#define PI_VERSION "5.1.0"
+#define PI_VERSION "5.2.0"
 #define PI_VERSION_NUMBER (PI_VERSION_MAJOR * 10000 + PI_VERSION_MINOR * 100 + PI_VERSION_PATCH)
 
 /* The work words of 64 bits that a call needs. */
@@ -119,9 +122,9 @@ extern "C" {
 
 /*
  * The most bytes of stack that a call takes, to size a thread's stack with: the word forms, pi_check,
- * pi_run and pi_needs; and the byte forms, pi_check_bytes and pi_run_bytes, which lay the words out
- * there. What the thread itself and a signal handler take comes on top. The figures are measured with
- * the deepest images (tests/host), not proved, and have 4 KB to spare.
+ * pi_run, pi_needs and pi_page; and the byte forms, pi_check_bytes and pi_run_bytes, which lay the words
+ * out there. What the thread itself and a signal handler take comes on top. The figures are measured
+ * with the deepest images (tests/host), not proved, and have 4 KB to spare.
  */
 #define PI_STACK_WORD_FORMS 28672
 #define PI_STACK_BYTE_FORMS 45056
@@ -133,6 +136,10 @@ extern "C" {
  */
 #define PI_IMAGE_WORDS(nodes) (2 + 2 * (size_t)(nodes))
 #define PI_IMAGE_BYTES(nodes) (8 + 8 * (size_t)(nodes))
+
+/* The page: a line for each node, of 30 columns and a newline. */
+#define PI_PAGE_LINE_BYTES 31
+#define PI_PAGE_BYTES(nodes) (PI_PAGE_LINE_BYTES * (size_t)(nodes))
 
 /*
  * The four enums below have names, so that a compiler can warn of a switch with a missing case (gcc
@@ -201,13 +208,14 @@ typedef enum PiCode {
  * The place of 3 to 6 and of 10 to 14 is a node, by its number in preorder; the root's is 0. It is
  * the node judged; for 5 the node that may not stand there, or n where a node is missing, or the
  * first of the nodes left over; for 12 the DSeq with a name on both sides, or the Formal that
- * repeats one. The place of 1, 2 and 20 to 40 is 0 and means no node, so look at the refusal first.
+ * repeats one. The place of 1, 2 and 20 to 41 is 0 and means no node, so look at the refusal first.
  *
  * More exactly: 1 is fewer than 2 words, or a length other than 2 + 2n (in bytes: see below); 6 is
  * depth 65; 14 is no function, or one with another count of Formals; 21 and 22 touch nothing. With
  * 30 to 36 a step is withheld, and the reply has the steps that were made before it; with 30 they
  * equal the budget and the routine has not ended. 40 comes from pi_needs alone: no Loop is in the
- * tree, and the most steps of its runs come out above 1,000,000.
+ * tree, and the most steps of its runs come out above 1,000,000. 41 comes from pi_page alone: the image
+ * passes, and the lent page has fewer than PI_PAGE_BYTES(n) bytes.
  */
 #define PI_REFUSAL_LIST(ROW) \
     /* Caused by the maker of the image. */ \
@@ -236,7 +244,9 @@ typedef enum PiCode {
     ROW(PI_REFUSAL_VALUES, 35, "values", "a 513th entry would be on the value stack") \
     ROW(PI_REFUSAL_CONTROL, 36, "control", "a 513th entry would be on the control stack") \
     /* Caused by the needs, before any run. */ \
-    ROW(PI_REFUSAL_TOO_MANY_STEPS, 40, "too many steps", "the steps come out above 1,000,000")
+    ROW(PI_REFUSAL_TOO_MANY_STEPS, 40, "too many steps", "the steps come out above 1,000,000") \
+    /* Caused by the host, for the page. */ \
+    ROW(PI_REFUSAL_SHORT_PAGE, 41, "short page", "the page is shorter than 31 bytes a node")
 
 #define PI_REFUSAL_ENUMERATOR(enumerator, number, name, sentence) enumerator = number,
 typedef enum PiRefusal {
@@ -283,6 +293,12 @@ typedef struct PiNeedsReply {
     uint64_t steps;    /* the most steps, at most PI_MOST_BUDGET; 0 where they are open */
     uint64_t open;     /* 1 where a Loop is in the tree, so that the steps have no figure; else 0 */
 } PiNeedsReply;
+
+/* What pi_page answers: two 64-bit words. */
+typedef struct PiPageReply {
+    uint64_t refusal; /* a PiRefusal: PI_REFUSAL_NONE where the page is written */
+    uint64_t place;   /* the refusal's place; 0 where the page is written */
+} PiPageReply;
 
 /*
  * Checks an image of so many 32-bit words. Tested in this order: the work words (22), the image (1 to
@@ -340,6 +356,41 @@ PiRunReply pi_run_bytes(const uint8_t *image, size_t image_length,
  */
 PiNeedsReply pi_needs(const uint32_t *image, size_t image_length,
                       uint64_t *work, size_t work_length);
+
+/*
+ * Writes the tree of a routine as the annex of a contract prints it, from an image of so many 32-bit
+ * words: one node a line, in the image's order, 30 columns and a newline. By columns:
+ *
+ *     1 to 4      the node, from 0 on
+ *     6 and 7     its depth; the root's is 1
+ *     9 to 14     the name of its kind, one of those below
+ *     16 to 25    its operand, the image's word
+ *     27 to 30    the first node after its descendants; the root's is n
+ *
+ * Numbers are decimal, to the right of their columns, filled with blanks; names are to the left.
+ * Columns 5, 8, 15 and 26 are blank. The page of 5 x (3 + 2), below a line that counts the columns:
+ *
+ *     123456789012345678901234567890
+ *        0  1 Mul             0    5
+ *        1  2 Num             5    2
+ *        2  2 Sum             0    5
+ *        3  3 Num             3    4
+ *        4  3 Num             2    5
+ *
+ * The names, in the order of PiKind: Num, Boo, Id, Sum, Sub, Mul, Div, Eq, Lt, Le, Gt, Ge, And, Or, Not,
+ * DeRef, ValRef; Assign, Loop, CSeq, Blk, Call, Cond; Bind, DSeq; Ref, Abs, Formal.
+ *
+ * The lines are the first PI_PAGE_BYTES(n) bytes of the lent page, which may be longer: what is beyond
+ * them is kept, and no 0 is written behind them. A page of PI_PAGE_BYTES(PI_MOST_NODES) bytes is enough
+ * for every image.
+ *
+ * Tested in this order: the work words (22), the image (1 to 14), the length of the page (41). A refusal
+ * writes no byte of the page. An image with no node has no line: its page may have length 0 and be NULL,
+ * and a longer one is kept whole. There is no form of this call on bytes.
+ */
+PiPageReply pi_page(const uint32_t *image, size_t image_length,
+                    uint8_t *page, size_t page_length,
+                    uint64_t *work, size_t work_length);
 
 #ifdef __cplusplus
 }

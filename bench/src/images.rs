@@ -37,14 +37,20 @@ pub fn checked() -> Vec<Timed> {
     ]
 }
 
-/// The images whose needs are timed beside their check.
+/// The images whose needs and pages are timed beside their check.
 pub fn needed() -> Vec<Timed> {
     let functions = Timed::new("many functions, each called often", image(1, functions()));
-    vec![straight_line(), nested_blocks(), functions]
+    vec![straight_line(), long_numbers(), nested_blocks(), functions]
 }
 
 fn straight_line() -> Timed {
     Timed::new("straight line: Assigns under CSeqs", encode(&with_nodes(MOST_NODES as usize)))
+}
+
+/// The same straight line but for its numbers, all of which have 10 digits.
+fn long_numbers() -> Timed {
+    let assigns = vec![assign(0, num(u32::MAX)); (MOST_NODES as usize + 1) / 3];
+    Timed::new("straight line, numbers of 10 digits", image(1, balanced(assigns, cseq)))
 }
 
 fn nested_blocks() -> Timed {

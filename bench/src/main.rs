@@ -8,8 +8,8 @@ mod rows;
 
 use compare::progress::{in_words, Progress};
 use measure::REPETITIONS;
-use race::{needs_table, table, Pair, Race};
-use rows::{check_race, clearing, needs_pair, run_race};
+use race::{beside_table, table, Beside, Race};
+use rows::{beside_check, check_race, clearing, run_race};
 use second::command_line::{arguments, complain, write_out, Reader};
 use std::process::ExitCode;
 
@@ -22,8 +22,9 @@ usage: bench           measures, and prints four tables
 The tables:
 
   check    nanoseconds a node, for four images
-  needs    nanoseconds a node, for three images: the check and the needs, by the
-           engine alone, and how many times longer the needs take; 2 is asked at most
+  needs    nanoseconds a node, for four images: the check, the needs and the page, a
+           line a node, by the engine alone, and how many times longer than the check
+           the others take; 2 is asked at most of the needs
   calls    nanoseconds a call: checks of the smallest images, with one node and with
            none, the run of a slot with no routine; and to clear the work words
   run      nanoseconds a step, for seven routines
@@ -31,7 +32,7 @@ The tables:
 The others have the engine's time and the second interpreter's, and check and run say how
 many times longer the second takes. A time is the median of 501 repetitions.
 
-It takes 10 seconds in a release build. On a terminal the row that is measured is shown
+It takes 12 seconds in a release build. On a terminal the row that is measured is shown
 on standard error. The machine should have little else to do.
 
 Exit status: 0 measured, 1 the two give different answers, 2 bad usage or an output that
@@ -94,9 +95,9 @@ fn measure_all() -> Result<(), End> {
         images.iter().map(|timed| rows.measure(timed.name, || check_race(timed))).collect();
     print(&table("check, nanoseconds a node", "nodes", &races?))?;
 
-    let pairs: Result<Vec<Pair>, End> =
-        needed.iter().map(|timed| rows.measure(timed.name, || needs_pair(timed))).collect();
-    print(&format!("\n{}", needs_table(&pairs?)))?;
+    let beside: Result<Vec<Beside>, End> =
+        needed.iter().map(|timed| rows.measure(timed.name, || beside_check(timed))).collect();
+    print(&format!("\n{}", beside_table(&beside?)))?;
 
     let mut calls = String::new();
     for timed in &smallest {

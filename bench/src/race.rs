@@ -1,5 +1,5 @@
 //! One row of a table: the same work by the engine and the second interpreter, or the
-//! check and the needs of the same image by the engine.
+//! check, the needs and the page of the same image by the engine.
 
 pub struct Race {
     pub name: &'static str,
@@ -25,37 +25,51 @@ pub fn table(title: &str, units: &str, races: &[Race]) -> String {
     text
 }
 
-/// The check and the needs of one image.
-pub struct Pair {
+/// The check, the needs and the page of one image.
+pub struct Beside {
     pub name: &'static str,
     pub nodes: u32,
     /// Nanoseconds a call.
     pub check: f64,
     pub needs: f64,
+    pub page: f64,
 }
 
-impl Pair {
-    /// How many times longer the needs take.
-    pub fn ratio(&self) -> f64 {
+impl Beside {
+    /// How many times longer the needs take than the check.
+    pub fn needs_ratio(&self) -> f64 {
         self.needs / self.check
+    }
+
+    /// How many times longer the page takes than the check.
+    pub fn page_ratio(&self) -> f64 {
+        self.page / self.check
     }
 }
 
 /// The needs may take so many times longer than the check.
 pub const MOST_RATIO: f64 = 2.0;
 
-/// Pairs with the time for each node, how many times longer the needs take, and whether
-/// that is asked for.
-pub fn needs_table(pairs: &[Pair]) -> String {
-    let mut text = "needs beside check, nanoseconds a node\n".to_string();
-    let (nodes, check, needs, ratio) = ("nodes", "check", "needs", "needs/check");
-    text += &format!("  {:<36} {nodes:>7} {check:>9} {needs:>9} {ratio:>14}\n", "");
-    for pair in pairs {
-        let Pair { name, nodes, check, needs } = pair;
+/// The calls of each image with the time for each node, which is a line of the page, how
+/// many times longer than the check the others take, and whether that is asked for of the
+/// needs.
+pub fn beside_table(all: &[Beside]) -> String {
+    let mut text =
+        "needs and page beside check, nanoseconds a node, a line of the page\n".to_string();
+    let (name, nodes, check, needs, page) = ("", "nodes", "check", "needs", "page");
+    let (needs_ratio, page_ratio) = ("needs/check", "page/check");
+    text += &format!(
+        "  {name:<36} {nodes:>7} {check:>9} {needs:>9} {needs_ratio:>12} {page:>9} {page_ratio:>11}\n"
+    );
+    for beside in all {
+        let Beside { name, nodes, check, needs, page } = beside;
         let count = f64::from(*nodes);
-        let (check, needs, ratio) = (check / count, needs / count, pair.ratio());
-        text += &format!("  {name:<36} {nodes:>7} {check:>9.2} {needs:>9.2} {ratio:>14.2}\n");
+        let [check, needs, page] = [check, needs, page].map(|time| time / count);
+        let (needs_ratio, page_ratio) = (beside.needs_ratio(), beside.page_ratio());
+        text += &format!("  {name:<36} {nodes:>7} {check:>9.2} {needs:>9.2} {needs_ratio:>12.2} ");
+        text += &format!("{page:>9.2} {page_ratio:>11.2}\n");
     }
-    let within = pairs.iter().all(|pair| pair.ratio() <= MOST_RATIO);
-    text + &format!("  at most {MOST_RATIO:.0} is asked: {}\n", if within { "yes" } else { "NO" })
+    let within = all.iter().all(|beside| beside.needs_ratio() <= MOST_RATIO);
+    let within = if within { "yes" } else { "NO" };
+    text + &format!("  at most {MOST_RATIO:.0} is asked of the needs: {within}\n")
 }

@@ -1,14 +1,14 @@
 //! One row each: the check of an image and the run of a routine, by both, which must
-//! give the same answer first; the needs of an image beside its check; and the clearing
-//! of the work words.
+//! give the same answer first; the needs and the page of an image beside its check; and
+//! the clearing of the work words.
 
 use crate::images::Timed;
 use crate::measure::medians;
-use crate::race::{Pair, Race};
+use crate::race::{Beside, Race};
 use crate::routines::Routine;
 use compare::difference::Difference;
 use compare::run::as_words;
-use compare::{check, engine, needs, run};
+use compare::{check, engine, needs, page, run};
 use second::engine::{MOST_BUDGET, WORK_WORDS};
 use second::generate::random::Random;
 use second::generate::Case;
@@ -30,24 +30,36 @@ pub fn check_race(timed: &Timed) -> Result<Race, String> {
     Ok(Race { name, units: timed.nodes().into(), engine, second })
 }
 
-/// The needs of one image beside its check, by the engine. Both interpreters must find the
-/// same needs.
-pub fn needs_pair(timed: &Timed) -> Result<Pair, String> {
+/// The needs and the page of one image beside its check, by the engine. Both interpreters
+/// must find the same needs and write the same page.
+pub fn beside_check(timed: &Timed) -> Result<Beside, String> {
     let Timed { name, image } = timed;
     must_agree(name, needs::compare(image, WORK_WORDS, &mut Random::new(0)))?;
-    let [check, needs] = check_and_needs(image, medians);
-    Ok(Pair { name, nodes: timed.nodes(), check, needs })
+    must_agree(name, page::compare(image, &lent_page(timed), WORK_WORDS, &mut Random::new(0)))?;
+    let [check, needs, page] = calls(timed, medians);
+    Ok(Beside { name, nodes: timed.nodes(), check, needs, page })
 }
 
-/// The times of the two calls, as a measure has them.
-fn check_and_needs(image: &[u32], measure: fn([&mut dyn FnMut(); 2]) -> [f64; 2]) -> [f64; 2] {
-    let (mut work, mut other_work) = (vec![0; WORK_WORDS], vec![0; WORK_WORDS]);
+/// A page with room for just the lines of an image.
+fn lent_page(timed: &Timed) -> Vec<u8> {
+    vec![0; page::LINE * timed.nodes() as usize]
+}
+
+/// The times of check, needs and page, as a measure has them.
+fn calls(timed: &Timed, measure: fn([&mut dyn FnMut(); 3]) -> [f64; 3]) -> [f64; 3] {
+    let image = &timed.image;
+    let [mut of_check, mut of_needs, mut of_page] = [(); 3].map(|()| vec![0; WORK_WORDS]);
+    let mut lent = lent_page(timed);
     measure([
         &mut || {
-            black_box(engine::check(black_box(image), black_box(&mut work)));
+            black_box(engine::check(black_box(image), black_box(&mut of_check)));
         },
         &mut || {
-            black_box(engine::needs(black_box(image), black_box(&mut other_work)));
+            black_box(engine::needs(black_box(image), black_box(&mut of_needs)));
+        },
+        &mut || {
+            let lent = black_box(&mut lent);
+            black_box(engine::page(black_box(image), lent, black_box(&mut of_page)));
         },
     ])
 }
@@ -100,7 +112,7 @@ fn must_agree<T>(name: &str, compared: Result<T, Box<Difference>>) -> Result<(),
 
 #[cfg(test)]
 mod tests {
-    use super::check_and_needs;
+    use super::calls;
     use crate::images::needed;
     use crate::measure::leasts;
     use crate::race::MOST_RATIO;
@@ -116,7 +128,7 @@ mod tests {
     fn the_needs_take_about_twice_a_check_at_most() {
         for timed in needed() {
             let ratio = |_| {
-                let [check, needs] = check_and_needs(&timed.image, leasts);
+                let [check, needs, _] = calls(&timed, leasts);
                 needs / check
             };
             let is_too_great = |ratio: &f64| *ratio > ALLOWED;

@@ -46,7 +46,7 @@ void registers_settled(const Buffer *registers, uint64_t refusal)
 }
 
 /* By the refusal's number, of which this is the last. */
-#define LAST PI_REFUSAL_PAGE
+#define LAST PI_REFUSAL_SHORT_PAGE
 static size_t answered[LAST + 1];
 
 size_t times_answered(PiRefusal refusal)
@@ -218,7 +218,7 @@ PiNeedsReply call_needs(const Call *call)
     return reply;
 }
 
-/* What pi_page must answer with a page of so many bytes: 22, as pi_check does, or else 41. */
+/* What pi_page must answer: as pi_check does, 22 too; and where that passes, 41 for too few bytes. */
 static PiPageReply reply_of_page(const Call *call, size_t page_length)
 {
     static uint64_t work[PI_WORK_WORDS];
@@ -229,7 +229,7 @@ static PiPageReply reply_of_page(const Call *call, size_t page_length)
     reply.refusal = checked.refusal;
     reply.place = checked.place;
     if (checked.refusal == PI_REFUSAL_NONE && page_length < PI_PAGE_BYTES(call->image[0]))
-        reply.refusal = PI_REFUSAL_PAGE;
+        reply.refusal = PI_REFUSAL_SHORT_PAGE;
     return reply;
 }
 
@@ -240,6 +240,7 @@ PiPageReply call_page(const Call *call, size_t page_length, uint8_t *left)
     size_t nodes = expected.refusal == PI_REFUSAL_NONE ? page_of(call->image, lines) : 0;
     size_t bytes = PI_PAGE_BYTES(nodes);
     Buffer image = buffer_holding(call->image, call->image_length * sizeof(uint32_t), 0);
+    /* Bytes need no alignment. */
     Buffer page = buffer_unset(page_length, bytes, page_length % 8);
     Buffer work = lend_work(call->work_length, 0);
     PiPageReply reply = pi_page((const uint32_t *)(const void *)image.start, call->image_length,

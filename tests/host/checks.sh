@@ -1,5 +1,5 @@
 # shellcheck shell=bash disable=SC2154 # run.sh sets what is not set here
-# The checks of header, archive and example, for run.sh, which has set: built, a folder for what is made;
+# The checks of header, archive and examples, for run.sh, which has set: built, a folder for what is made;
 # archive; and the lists of compiler options strict and stricter.
 
 # The file that uses every name of the header compiles with many warnings, links, and has its answers.
@@ -52,7 +52,7 @@ newest_version() {
 has_every_call() {
     local call missing=0
     nm "$archive" >"$built/symbols" || return
-    for call in pi_check pi_run pi_check_bytes pi_run_bytes pi_needs; do
+    for call in pi_check pi_run pi_check_bytes pi_run_bytes pi_needs pi_page; do
         grep -q " T $call\$" "$built/symbols" || { echo "it has no $call"; missing=1; }
     done
     return $missing
@@ -85,14 +85,26 @@ example_says() { # PROGRAM
     "$1" >"$built/embed.out" && diff "$built/embed.out" examples/embed.out
 }
 
-# The price list is the stored one, and so it is where the example is built as its first comment says.
-price_list_says() {
+# A further example says what is stored, and so it does where it is built as its first comment says.
+says_as_stored() { # NAME
     local command
-    "$built/price_list" >"$built/price_list.out" && diff "$built/price_list.out" examples/price_list.out || return
-    command=$(sed -n 's/^ \*     \(cc .*\)/\1/p' examples/price_list.c)
+    "$built/$1" >"$built/$1.out" && diff "$built/$1.out" "examples/$1.out" || return
+    command=$(sed -n 's/^ \*     \(cc .*\)/\1/p' "examples/$1.c")
     read -r -a command <<<"$command"
-    [ "${command[*]: -3}" = 'target/staticlib/libengine.a -o price_list' ] || { echo "it is ${command[*]}"; return 1; }
-    "${command[@]:0:${#command[@]}-3}" "$archive" -o "$built/as_told" && "$built/as_told" | diff - examples/price_list.out
+    [ "${command[*]: -3}" = "target/staticlib/libengine.a -o $1" ] || { echo "it is ${command[*]}"; return 1; }
+    "${command[@]:0:${#command[@]}-3}" "$archive" -o "$built/as_told" && "$built/as_told" | diff - "examples/$1.out"
+}
+
+# The names for the page that the header lists are those of its kinds, in their order.
+header_names() {
+    sed -n 's/^    PI_KIND_\([A-Z]*\) = .*/\1/p' include/pi_engine.h >"$built/kinds"
+    sed -n '/^ \* The names, in the order of PiKind: /,/\.$/s/.*PiKind: \|^ \* //p' include/pi_engine.h |
+        grep -o '[A-Za-z]*' | tr '[:lower:]' '[:upper:]' | diff "$built/kinds" -
+}
+
+# The page that the header shows is the one that is stored of the same routine.
+header_page() {
+    sed -n '/^ \*     1234567890/,/^ \*$/s/^ \*     //p' include/pi_engine.h | sed 1d | diff - examples/calculator.page
 }
 
 # The command that the header's first comment has, with this archive, and with its program in the folder.
@@ -104,12 +116,12 @@ example_as_told() {
     "${command[@]:0:${#command[@]}-3}" "$archive" -o "$built/as_told" && example_says "$built/as_told"
 }
 
-# The example with a change says why it is refused, and its exit status is 1.
-example_refused() { # CHANGE LINE
-    sed "$1" examples/embed.c >"$built/refused.c"
+# An example with a change says why it is refused, and its exit status is 1.
+example_refused() { # NAME CHANGE LINE
+    sed "$2" "examples/$1.c" >"$built/refused.c"
     gcc -std=c99 "${strict[@]}" -o "$built/refused" "$built/refused.c" "$archive" || return
     "$built/refused" >"$built/refused.out"
-    [ $? -eq 1 ] && diff "$built/refused.out" - <<<"$2"
+    [ $? -eq 1 ] && diff "$built/refused.out" - <<<"$3"
 }
 
 # The help goes to standard output; bad usage and a missing archive say what to do.

@@ -47,9 +47,12 @@ int main(int count, char **arguments)
     test_choice();
     test_needs();
     test_needed_steps();
+    test_page();
+    test_page_lengths();
     test_names();
     test_chance((size_t)images, seed);
     test_needed_room((size_t)images, seed);
+    test_pages_by_chance((size_t)images, seed);
     test_bytes((size_t)images, seed);
     test_threads();
     test_stack();

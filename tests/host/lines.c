@@ -41,31 +41,42 @@ static uint32_t children_of(uint32_t kind, uint32_t operand)
     }
 }
 
+/* Of each node its parent, and the first node after its descendants. The root has no parent. */
+static size_t parents[PI_MOST_NODES], ends[PI_MOST_NODES];
+
+/* From the last node to the first: so the ends of a node's children are known, each the next child. */
+static void find_ends(const uint32_t *image)
+{
+    size_t count = image[0];
+    size_t node = count;
+
+    while (node > 0) {
+        size_t next = node;
+        uint32_t missing;
+
+        node -= 1;
+        missing = children_of(image[2 + node], image[2 + count + node]);
+        for (; missing > 0; missing -= 1) {
+            parents[next] = node;
+            next = ends[next];
+        }
+        ends[node] = next;
+    }
+}
+
 size_t page_of(const uint32_t *image, uint8_t *page)
 {
-    static size_t ends[PI_MOST_NODES], parents[PI_MOST_NODES], depths[PI_MOST_NODES];
+    static size_t depths[PI_MOST_NODES];
     size_t count = image[0];
-    const uint32_t *of_kind = image + 2;
-    const uint32_t *operands = of_kind + count;
     size_t node;
     char line[PI_PAGE_LINE_BYTES + 1];
 
-    /* From the last node to the first: the children's ends are known, and each leads to the next child. */
-    for (node = count; node > 0; node -= 1) {
-        uint32_t missing = children_of(of_kind[node - 1], operands[node - 1]);
-        size_t next = node;
-
-        for (; missing > 0; missing -= 1) {
-            parents[next] = node - 1;
-            next = ends[next];
-        }
-        ends[node - 1] = next;
-    }
+    find_ends(image);
     for (node = 0; node < count; node += 1) {
         depths[node] = node == 0 ? 1 : depths[parents[node]] + 1;
         snprintf(line, sizeof line, "%4lu %2lu %-6s %10lu %4lu\n", (unsigned long)node,
-                 (unsigned long)depths[node], kinds[of_kind[node]].name,
-                 (unsigned long)operands[node], (unsigned long)ends[node]);
+                 (unsigned long)depths[node], kinds[image[2 + node]].name,
+                 (unsigned long)image[2 + count + node], (unsigned long)ends[node]);
         memcpy(page + PI_PAGE_BYTES(node), line, PI_PAGE_LINE_BYTES);
     }
     return count;
@@ -85,7 +96,7 @@ void same_lines(const uint8_t *page, const uint8_t *expected, size_t nodes)
                (const char *)expected + place / PI_PAGE_LINE_BYTES * PI_PAGE_LINE_BYTES);
 }
 
-/* The bytes that the page must have; where the image has no n or too great a one, those of any page. */
+/* The bytes that the page needs; where the image has no n, or too great a one, what any page needs. */
 static size_t enough_bytes(const Call *call)
 {
     if (call->image_length == 0 || call->image[0] > PI_MOST_NODES)
@@ -98,10 +109,8 @@ void fits_the_pages(const Call *call)
     size_t enough = enough_bytes(call);
     Call other = *call;
 
-    if (enough != 0) {
-        call_page(call, 0, NULL);
+    if (enough != 0)
         call_page(call, enough - 1, NULL);
-    }
     call_page(call, enough, NULL);
     other.work_length += 5;
     call_page(&other, enough + 9, NULL);

@@ -1,4 +1,4 @@
-/* The lines of pages, worked out from the image's words alone; and pages of all lengths of an image. */
+/* The lines of a page, worked out from the image's words alone; and pages of an image, too short too. */
 #ifndef LINES_H
 #define LINES_H
 
@@ -14,8 +14,8 @@ size_t page_of(const uint32_t *image, uint8_t *page);
 void same_lines(const uint8_t *page, const uint8_t *expected, size_t nodes);
 
 /*
- * Has pages of the image written with the call's work words, or refused: of no byte, with a byte missing,
- * of just enough bytes; and of more, with other work words.
+ * Asks for pages of the image with the call's work words, with a byte missing and of just enough bytes;
+ * and for one of more bytes with other work words.
  */
 void fits_the_pages(const Call *call);
 

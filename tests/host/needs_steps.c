@@ -6,6 +6,7 @@
 
 #include "cases.h"
 #include "figures.h"
+#include "lines.h"
 #include "report.h"
 
 #include <inttypes.h>
@@ -184,6 +185,8 @@ static void test_doublings(void)
         add_call(functions - 1);
         call = tree_call(&tree, starts, image);
         expect_figure_or_40(&call, steps + OF_CALL + steps_of(functions - 1));
+        /* However many the steps are, the tree has a page. */
+        fits_the_pages(&call);
         /* Without the call each function is its Bind alone. */
         steps = add_functions(functions);
         add_assign(1);

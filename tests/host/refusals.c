@@ -1,7 +1,7 @@
 /*
  * Every refusal by its name with its place, which of two comes first, and the limits from both sides,
- * for a run; each check and each needs of the same image are held to it (calls.c). Refusal 40 is in
- * needs_steps.c.
+ * for a run; each check, needs and page of the same image are held to it (calls.c). Refusal 40 is in
+ * needs_steps.c, and 41 in page_lengths.c.
  * The steps and heights of the towers are those of the second interpreter.
  */
 #include "tests.h"
@@ -196,6 +196,10 @@ static void test_host_faults(void)
         test_fault("needs does not answer 22");
     if (pi_needs(NULL, 0, work, PI_WORK_WORDS).refusal != PI_REFUSAL_LENGTH)
         test_fault("needs does not answer 1");
+    if (pi_page(NULL, 0, NULL, 0, NULL, 0).refusal != PI_REFUSAL_WORK)
+        test_fault("page does not answer 22");
+    if (pi_page(NULL, 0, NULL, 0, work, PI_WORK_WORDS).refusal != PI_REFUSAL_LENGTH)
+        test_fault("page does not answer 1");
     if (pi_run(NULL, 0, NULL, 0, 0, NULL, 0).refusal != PI_REFUSAL_WORK)
         test_fault("run does not answer 22");
     test_end();

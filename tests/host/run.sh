@@ -1,5 +1,5 @@
 #!/usr/bin/env bash
-# Builds the host and the example against an archive of the engine, and runs them; --help says more.
+# Builds the host and the examples against an archive of the engine, and runs them; --help says more.
 set -u
 
 usage='usage: tests/host/run.sh ARCHIVE [COUNT [SEED]]'
@@ -15,7 +15,7 @@ $usage
             50 of them under valgrind
   SEED      what they are made from, 1 if it is left out
 
-It takes 20 seconds, and three minutes with a COUNT of 100,000. On a terminal it shows on
+It takes half a minute, and five minutes with a COUNT of 100,000. On a terminal it shows on
 standard error which part is at work.
 
 It needs gcc (by this name and as cc), g++, nm and valgrind; a part that cannot run counts
@@ -146,7 +146,7 @@ host_run() { # NAME COMMAND..
     fi
 }
 
-# The checks of header, archive and example.
+# The checks of header, archive and examples.
 . tests/host/checks.sh
 
 all_parts() {
@@ -171,12 +171,20 @@ all_parts() {
     one_check 'example builds' gcc -std=c99 "${stricter[@]}" -o "$built/embed" examples/embed.c "$archive"
     one_check 'example says 25' example_says "$built/embed"
     one_check 'example builds as the header says' example_as_told
-    one_check 'example is refused by the check' example_refused 's/PI_KIND_MUL/PI_KIND_AND/' \
+    one_check 'example is refused by the check' example_refused embed 's/PI_KIND_MUL/PI_KIND_AND/' \
         'refused 11 at 0 (type: the node takes another type)'
-    one_check 'example is refused by the run' example_refused 's/PI_MOST_BUDGET/6/' \
+    one_check 'example is refused by the run' example_refused embed 's/PI_MOST_BUDGET/6/' \
         'refused 30 at 0 (steps: the budget is used up before the routine has ended)'
     one_check 'price list builds' gcc -std=c99 "${stricter[@]}" -o "$built/price_list" examples/price_list.c "$archive"
-    one_check 'price list says what is stored' price_list_says
+    one_check 'price list says what is stored' says_as_stored price_list
+    one_check 'annex builds' gcc -std=c99 "${stricter[@]}" -o "$built/annex" examples/annex.c "$archive"
+    one_check 'annex says what is stored' says_as_stored annex
+    one_check 'annex is refused by the check' example_refused annex 's/PI_KIND_GT/PI_KIND_SUM/' \
+        'refused 11 at 0 (type: the node takes another type)'
+    one_check 'annex is refused for its page' example_refused annex 's/PI_PAGE_BYTES(PI_MOST_NODES)/PI_PAGE_BYTES(11)/' \
+        'refused 41 at 0 (short page: the page is shorter than 31 bytes a node)'
+    one_check 'page of the header' header_page
+    one_check 'names of the header' header_names
     one_check 'usage of this script' usage_says
     one_check 'host builds' gcc -std=c99 "${strict[@]}" -O2 -g -pthread -o "$built/host" tests/host/*.c "$archive"
     host_run 'host' "$built/host" "$count" "$seed"

@@ -4,6 +4,7 @@
 #include "tests.h"
 
 #include "buffers.h"
+#include "lines.h"
 #include "report.h"
 #include "trees.h"
 
@@ -35,6 +36,13 @@ static void check_words(void)
 static void needs_words(void)
 {
     pi_needs(image, image_length, work, PI_WORK_WORDS);
+}
+
+static void page_words(void)
+{
+    static uint8_t page[PAGE_ROOM];
+
+    pi_page(image, image_length, page, sizeof page, work, PI_WORK_WORDS);
 }
 
 static void run_words(void)
@@ -243,7 +251,7 @@ void test_stack(void)
         deep_expressions,
     };
     static Tree tree;
-    size_t taken[5] = {0, 0, 0, 0, 0};
+    size_t taken[6] = {0, 0, 0, 0, 0, 0};
     size_t index;
 
     /* A memory checker has stacks of its own. */
@@ -260,13 +268,15 @@ void test_stack(void)
         taken[2] = most(taken[2], used_by(check_bytes));
         taken[3] = most(taken[3], used_by(run_bytes));
         taken[4] = most(taken[4], used_by(needs_words));
+        taken[5] = most(taken[5], used_by(page_words));
     }
     fits("check", taken[0], PI_STACK_WORD_FORMS);
     fits("run", taken[1], PI_STACK_WORD_FORMS);
     fits("check of bytes", taken[2], PI_STACK_BYTE_FORMS);
     fits("run of bytes", taken[3], PI_STACK_BYTE_FORMS);
     fits("needs", taken[4], PI_STACK_WORD_FORMS);
-    test_end_with("check takes %lu bytes, run %lu, on bytes %lu and %lu, needs %lu",
+    fits("page", taken[5], PI_STACK_WORD_FORMS);
+    test_end_with("check takes %lu bytes, run %lu, on bytes %lu and %lu, needs %lu, page %lu",
                   (unsigned long)taken[0], (unsigned long)taken[1], (unsigned long)taken[2],
-                  (unsigned long)taken[3], (unsigned long)taken[4]);
+                  (unsigned long)taken[3], (unsigned long)taken[4], (unsigned long)taken[5]);
 }

@@ -30,6 +30,13 @@ void test_needed_steps(void);
 /* Needs of routines made by chance that reach just to a limit, or just beyond. */
 void test_needed_room(size_t count, uint64_t seed);
 
+/* Pages that are listed by hand, and of every length. */
+void test_page(void);
+void test_page_lengths(void);
+
+/* Pages of routines made by chance. */
+void test_pages_by_chance(size_t count, uint64_t seed);
+
 /* The header's list of refusals, all of which the calls before have met; and its version. */
 void test_names(void);
 

@@ -1,13 +1,15 @@
 /* Calls at once on different buffers, from several threads. */
 #include "tests.h"
 
+#include "lines.h"
 #include "report.h"
 #include "trees.h"
 
 #include <pthread.h>
+#include <string.h>
 
 #define THREADS 4
-/* So many runs, and as many times the needs. */
+/* So many runs, and as many times the needs and a page. */
 #define CALLS 300
 
 /* What a thread calls with, and how many of its calls went wrong. */
@@ -15,11 +17,30 @@ typedef struct Worker {
     uint64_t work[PI_WORK_WORDS];
     int64_t above; /* the factorial of this number */
     int64_t expected;
+    uint32_t image[IMAGE_ROOM]; /* a tree of its own, and the page that it must have */
+    uint8_t lines[PAGE_ROOM];
+    uint8_t page[PAGE_ROOM];
     size_t faults;
 } Worker;
 
+/* By the paper's cases, in the order of paper.c: A, G, I and L. */
+static const size_t papers[THREADS] = {0, 7, 11, 14};
+
 static uint32_t factorial[IMAGE_ROOM];
 static size_t factorial_length;
+
+/* Whether the page of the thread's own tree is as it must be. */
+static int has_its_page(Worker *worker)
+{
+    size_t nodes = worker->image[0];
+    PiPageReply reply;
+
+    memset(worker->page, 0, sizeof worker->page);
+    reply = pi_page(worker->image, PI_IMAGE_WORDS(nodes), worker->page, sizeof worker->page,
+                    worker->work, PI_WORK_WORDS);
+    return reply.refusal == PI_REFUSAL_NONE &&
+           memcmp(worker->page, worker->lines, sizeof worker->page) == 0;
+}
 
 static void *work_alone(void *argument)
 {
@@ -41,6 +62,8 @@ static void *work_alone(void *argument)
         if (needs.refusal != PI_REFUSAL_NONE || needs.control != 6 || needs.values != 3 ||
             needs.cells != 2 || needs.bindings != 2 || needs.open != 1)
             worker->faults += 1;
+        if (!has_its_page(worker))
+            worker->faults += 1;
     }
     return NULL;
 }
@@ -59,6 +82,8 @@ void test_threads(void)
         product *= (int64_t)index + 1;
         workers[index].above = (int64_t)index + 1;
         workers[index].expected = product;
+        paper_call(papers[index], workers[index].image);
+        page_of(workers[index].image, workers[index].lines);
         if (pthread_create(&threads[index], NULL, work_alone, &workers[index]) != 0) {
             test_fault("no thread");
             workers[index].above = 0;
@@ -71,5 +96,5 @@ void test_threads(void)
             test_fault("thread %lu: %lu calls went wrong", (unsigned long)index,
                        (unsigned long)workers[index].faults);
     }
-    test_end_with("%d threads of %d calls", THREADS, 2 * CALLS);
+    test_end_with("%d threads of %d calls", THREADS, 3 * CALLS);
 }

@@ -19,9 +19,13 @@ HOLDS(needs_reply_in_order,
           offsetof(PiNeedsReply, control) == 16 && offsetof(PiNeedsReply, values) == 24 &&
           offsetof(PiNeedsReply, cells) == 32 && offsetof(PiNeedsReply, bindings) == 40 &&
           offsetof(PiNeedsReply, steps) == 48 && offsetof(PiNeedsReply, open) == 56);
+HOLDS(page_reply_is_two_words, sizeof(PiPageReply) == 2 * sizeof(uint64_t));
+HOLDS(page_reply_in_order, offsetof(PiPageReply, refusal) == 0 && offsetof(PiPageReply, place) == 8);
 HOLDS(smallest_image, PI_IMAGE_WORDS(0) == 2 && PI_IMAGE_BYTES(0) == 8);
 HOLDS(largest_image_in_words, PI_IMAGE_WORDS(PI_MOST_NODES) == 4002);
 HOLDS(largest_image_in_bytes, PI_IMAGE_BYTES(PI_MOST_NODES) == 16008);
+HOLDS(smallest_page, PI_PAGE_BYTES(0) == 0 && PI_PAGE_BYTES(1) == PI_PAGE_LINE_BYTES);
+HOLDS(largest_page, PI_PAGE_BYTES(PI_MOST_NODES) == 62000);
 HOLDS(registers_are_cells, PI_MOST_REGISTERS <= PI_MOST_CELLS && PI_MOST_REGISTERS <= PI_NAMES);
 HOLDS(kinds, PI_KIND_NUM == 1 && PI_KIND_ASSIGN == 20 && PI_KIND_COND == 25 && PI_KIND_BIND == 30);
 HOLDS(limits, PI_MOST_DEPTH == 64 && PI_MOST_BUDGET == 1000000 && PI_MOST_COUNT == 8);
@@ -62,13 +66,18 @@ static const uint8_t bytes[PI_IMAGE_BYTES(1)] = {
 };
 
 static uint64_t work[PI_WORK_WORDS];
+static uint8_t page[PI_PAGE_BYTES(2)];
 
 int main(void)
 {
+    /* The call has just this type. */
+    PiPageReply (*const write_page)(const uint32_t *, size_t, uint8_t *, size_t, uint64_t *, size_t) =
+        pi_page;
     const PiKind kind = PI_KIND_CALL;
     PiCheckReply checked = pi_check(image, PI_IMAGE_WORDS(2), work, PI_WORK_WORDS);
     PiRunReply ran = pi_run(image, PI_IMAGE_WORDS(2), 0, 0, PI_MOST_BUDGET, work, PI_WORK_WORDS);
     PiNeedsReply needs = pi_needs(image, PI_IMAGE_WORDS(2), work, PI_WORK_WORDS);
+    PiPageReply paged = pi_page(image, PI_IMAGE_WORDS(2), page, PI_PAGE_BYTES(2), work, PI_WORK_WORDS);
     PiRefusal refusal = (PiRefusal)checked.refusal;
     PiCode code;
     PiOutcome outcome;
@@ -90,5 +99,14 @@ int main(void)
     if (needs.refusal != PI_REFUSAL_NONE || needs.control != 1 || needs.values != 1 ||
         needs.cells != 0 || needs.bindings != 0 || needs.steps != ran.steps || needs.open != 0)
         return 5;
+    if (paged.refusal != PI_REFUSAL_UNBOUND || paged.place != 0 || page[0] != 0)
+        return 6;
+    paged = pi_page(number, PI_IMAGE_WORDS(1), page, PI_PAGE_LINE_BYTES - 1, work, PI_WORK_WORDS);
+    if (paged.refusal != PI_REFUSAL_SHORT_PAGE || name_of(paged.refusal) == 0 || page[0] != 0)
+        return 7;
+    paged = write_page(number, PI_IMAGE_WORDS(1), page, PI_PAGE_BYTES(1), work, PI_WORK_WORDS);
+    if (paged.refusal != PI_REFUSAL_NONE || paged.place != 0 || page[24] != '7' ||
+        page[PI_PAGE_LINE_BYTES - 1] != '\n' || page[PI_PAGE_LINE_BYTES] != 0)
+        return 8;
     return 0;
 }

@@ -101,6 +101,8 @@ int of_refusal(PiRefusal refusal)
         return 4;
     case PI_REFUSAL_TOO_MANY_STEPS:
         return 5;
+    case PI_REFUSAL_SHORT_PAGE:
+        return 6;
     }
     return 0;
 }
