@@ -11,7 +11,7 @@ use Rattle.reader.specs.Pack.{packed-kind, packed-operand}
 use Rattle.reader.specs.Stored.{kind-is, operand-is}
 use Rattle.page.specs.Names.{kind-name}
 use Rattle.page.specs.Lines.{Line, line-of}
-use Rattle.page.specs.Page.{node-columns, depth-columns, name-columns, operand-columns, line-bytes, blank, to-the-right, to-the-left}
+use Rattle.page.specs.Page.{node-columns, depth-columns, name-columns, operand-columns, depth-at, name-at, operand-at, end-at, line-bytes, blank, to-the-right, to-the-left}
 use Rattle.page.specs.Writing.{SomeLine, NamePut, LinePut}
 use Rattle.page.specs.LineLaws.{operand-fits, kind-low, end-text, operand-text, name-text, depth-text, line-parts, LineFits, word-fits, node-length, depth-length, name-length, operand-length}
 
@@ -34,20 +34,20 @@ part-then i j v part rest before q =
 
 pub line-written : (words before after-node after-depth after-name after-operand after : List ℕ) (node depth kind operand end : ℕ) → SomeLine words node depth end →
     after-node ≡ put (line-bytes * node) (to-the-right node-columns (decimal node) ++ (blank ∷ [])) before →
-    after-depth ≡ put (line-bytes * node + 5) (to-the-right depth-columns (decimal depth) ++ (blank ∷ [])) after-node →
-    kind ≡ packed-kind (getD words node 0) → NamePut kind (line-bytes * node + 8) after-depth after-name →
-    operand ≡ packed-operand (getD words node 0) → after-operand ≡ put (line-bytes * node + 15) (to-the-right operand-columns (decimal operand) ++ (blank ∷ [])) after-name →
-    after ≡ put (line-bytes * node + 26) (end-text end) after-operand → LinePut words node depth end before after
+    after-depth ≡ put (line-bytes * node + depth-at) (to-the-right depth-columns (decimal depth) ++ (blank ∷ [])) after-node →
+    kind ≡ packed-kind (getD words node 0) → NamePut kind (line-bytes * node + name-at) after-depth after-name →
+    operand ≡ packed-operand (getD words node 0) → after-operand ≡ put (line-bytes * node + operand-at) (to-the-right operand-columns (decimal operand) ++ (blank ∷ [])) after-name →
+    after ≡ put (line-bytes * node + end-at) (end-text end) after-operand → LinePut words node depth end before after
 line-written words before after-node after-depth after-name after-operand after node depth kind operand end some p₁ p₂ kind-here p₃ operand-here p₄ p₅ k w h =
     p₅
-    ∙ ap (put (at + 26) (end-text end)) (p₄ ∙ ap (λ v. put (at + 15) (to-the-right operand-columns (decimal v) ++ (blank ∷ [])) after-name) (operand-here ∙ operand-is h (kind-low k)))
-    ∙ part-then (at + 15) (at + 26) blank (to-the-right operand-columns (decimal w)) (end-text end) after-name (omega (arith, operand-length line fits))
-    ∙ ap (put (at + 15) (operand-text w end)) (p₃ k (kind-here ∙ kind-is h (kind-low k)))
-    ∙ part-then (at + 8) (at + 15) blank (to-the-left name-columns (ascii (kind-name k))) (operand-text w end) after-depth (omega (arith, name-length line fits))
-    ∙ ap (put (at + 8) (name-text k w end)) p₂
-    ∙ part-then (at + 5) (at + 8) blank (to-the-right depth-columns (decimal depth)) (name-text k w end) after-node (omega (arith, depth-length line fits))
-    ∙ ap (put (at + 5) (depth-text depth k w end)) p₁
-    ∙ part-then at (at + 5) blank (to-the-right node-columns (decimal node)) (depth-text depth k w end) before (omega (arith, node-length line fits))
+    ∙ ap (put (at + end-at) (end-text end)) (p₄ ∙ ap (λ v. put (at + operand-at) (to-the-right operand-columns (decimal v) ++ (blank ∷ [])) after-name) (operand-here ∙ operand-is h (kind-low k)))
+    ∙ part-then (at + operand-at) (at + end-at) blank (to-the-right operand-columns (decimal w)) (end-text end) after-name (omega (arith, operand-length line fits))
+    ∙ ap (put (at + operand-at) (operand-text w end)) (p₃ k (kind-here ∙ kind-is h (kind-low k)))
+    ∙ part-then (at + name-at) (at + operand-at) blank (to-the-left name-columns (ascii (kind-name k))) (operand-text w end) after-depth (omega (arith, name-length line fits))
+    ∙ ap (put (at + name-at) (name-text k w end)) p₂
+    ∙ part-then (at + depth-at) (at + name-at) blank (to-the-right depth-columns (decimal depth)) (name-text k w end) after-node (omega (arith, depth-length line fits))
+    ∙ ap (put (at + depth-at) (depth-text depth k w end)) p₁
+    ∙ part-then at (at + depth-at) blank (to-the-right node-columns (decimal node)) (depth-text depth k w end) before (omega (arith, node-length line fits))
     ∙ ap (λ l. put at l before) (sym (line-parts node depth k w end))
   where
     at : ℕ

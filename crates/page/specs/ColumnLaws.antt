@@ -14,7 +14,7 @@ use Rattle.rules.specs.paper.Kinds.{Kind, every-kind}
 use Rattle.reader.proofs.TableRows.{all-of, each-kind}
 use Rattle.page.specs.Names.{kind-name}
 use Rattle.page.specs.Lines.{Line}
-use Rattle.page.specs.Page.{node-columns, depth-columns, name-columns, operand-columns, end-columns, blank, newline, blanks, to-the-right, to-the-left, line-text}
+use Rattle.page.specs.Page.{node-columns, depth-columns, name-columns, operand-columns, end-columns, depth-at, name-at, operand-at, end-at, blank, newline, blanks, to-the-right, to-the-left, line-text}
 use Rattle.page.specs.Columns.{columns, LineColumns}
 use Rattle.page.specs.LineLaws.{LineFits, end-text, operand-text, name-text, depth-text, line-parts, node-length, depth-length, name-length, operand-length, end-length, line-length}
 
@@ -151,11 +151,11 @@ module _ (l : Line) (fits : LineFits l) where
 
   pub line-columns : LineColumns l (line-text l)
   line-columns =
-      let node-part = part-at (line-text l) 0 4 (to-the-right node-columns (decimal (l .node))) blank (depth-text (l .depth) (l .kind) (l .operand) (l .end)) (line-parts (l .node) (l .depth) (l .kind) (l .operand) (l .end)) (node-length l fits) in
-      let depth-part = part-at (line-text l) 5 2 (to-the-right depth-columns (decimal (l .depth))) blank (name-text (l .kind) (l .operand) (l .end)) (node-part .rest-is) (depth-length l fits) in
-      let name-part = part-at (line-text l) 8 6 (to-the-left name-columns (ascii (kind-name (l .kind)))) blank (operand-text (l .operand) (l .end)) (depth-part .rest-is) (name-length l fits) in
-      let operand-part = part-at (line-text l) 15 10 (to-the-right operand-columns (decimal (l .operand))) blank (end-text (l .end)) (name-part .rest-is) (operand-length l fits) in
-      let end-part = part-at (line-text l) 26 4 (to-the-right end-columns (decimal (l .end))) newline [] (operand-part .rest-is) (end-length l fits) in
+      let node-part = part-at (line-text l) 0 node-columns (to-the-right node-columns (decimal (l .node))) blank (depth-text (l .depth) (l .kind) (l .operand) (l .end)) (line-parts (l .node) (l .depth) (l .kind) (l .operand) (l .end)) (node-length l fits) in
+      let depth-part = part-at (line-text l) depth-at depth-columns (to-the-right depth-columns (decimal (l .depth))) blank (name-text (l .kind) (l .operand) (l .end)) (node-part .rest-is) (depth-length l fits) in
+      let name-part = part-at (line-text l) name-at name-columns (to-the-left name-columns (ascii (kind-name (l .kind)))) blank (operand-text (l .operand) (l .end)) (depth-part .rest-is) (name-length l fits) in
+      let operand-part = part-at (line-text l) operand-at operand-columns (to-the-right operand-columns (decimal (l .operand))) blank (end-text (l .end)) (name-part .rest-is) (operand-length l fits) in
+      let end-part = part-at (line-text l) end-at end-columns (to-the-right end-columns (decimal (l .end))) newline [] (operand-part .rest-is) (end-length l fits) in
       record {
         whole = line-length l fits;
         node = node-part .part-is;

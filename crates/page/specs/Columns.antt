@@ -20,7 +20,7 @@ abbrev pub columns : (first last : ℕ) → List ℕ → List ℕ
 columns first last bytes = take (suc last - first) (drop (first - 1) bytes)
 
 pub record LineColumns (l : Line) (bytes : List ℕ) : Type 0 where
-  pub whole : length bytes ≡ line-bytes
+  pub whole : length bytes ≡ 31
   pub node : columns 1 4 bytes ≡ to-the-right 4 (decimal (l .node))
   pub before-depth : columns 5 5 bytes ≡ blank ∷ []
   pub depth : columns 6 7 bytes ≡ to-the-right 2 (decimal (l .depth))

@@ -1,5 +1,5 @@
 -- The line of a node: its parts one behind the other, each of which fits its columns, and so how long it is.
-use Prim.Native.Nat.{ℕ, suc, _+_, _-_, _<_, _≤_}
+use Prim.Native.Nat.{ℕ, _+_, _-_, _<_, _≤_}
 use mathlib.Core.Path.{_≡_, ap, _∙_}
 use mathlib.Core.List.{List, [], _∷_, _++_}
 use native.Mathlib.Omega.{arith}
@@ -101,9 +101,6 @@ pub record LineFits (l : Line) : Type 0 where
 pub word-fits : {words : List ℕ} {i w e : ℕ} (d : ℕ) (k : Kind) → HasWord words i (kind-number k) w e → d ≤ most-depth → LineFits (line-of i d k w e)
 word-fits d k h low = record { node-low = h .place-low; depth-low = low; operand-low = h .operand-low; end-low = h .end-low }
 
-one-more : (part rest : List ℕ) (columns others : ℕ) → length part ≡ columns → length rest ≡ others → length (part ++ (blank ∷ rest)) ≡ columns + suc others
-one-more part rest columns others p q = omega (arith, length-append part (blank ∷ rest), p, q)
-
 module _ (l : Line) (fits : LineFits l) where
   pub node-length : length (to-the-right node-columns (decimal (l .node))) ≡ node-columns
   node-length = right-length node-columns (decimal (l .node)) (node-fits (l .node) (fits .node-low))
@@ -122,9 +119,17 @@ module _ (l : Line) (fits : LineFits l) where
 
   pub line-length : length (line-text l) ≡ line-bytes
   line-length =
-      ap length (line-parts (l .node) (l .depth) (l .kind) (l .operand) (l .end))
-      ∙ one-more (to-the-right node-columns (decimal (l .node))) (depth-text (l .depth) (l .kind) (l .operand) (l .end)) node-columns 26 node-length
-      (one-more (to-the-right depth-columns (decimal (l .depth))) (name-text (l .kind) (l .operand) (l .end)) depth-columns 23 depth-length
-      (one-more (to-the-left name-columns (ascii (kind-name (l .kind)))) (operand-text (l .operand) (l .end)) name-columns 16 name-length
-      (one-more (to-the-right operand-columns (decimal (l .operand))) (end-text (l .end)) operand-columns 5 operand-length
-      (length-append (to-the-right end-columns (decimal (l .end))) (newline ∷ []) ∙ ap (λ n. n + 1) end-length))))
+      omega (
+        arith,
+        ap length (line-parts (l .node) (l .depth) (l .kind) (l .operand) (l .end)),
+        length-append (to-the-right node-columns (decimal (l .node))) (blank ∷ depth-text (l .depth) (l .kind) (l .operand) (l .end)),
+        length-append (to-the-right depth-columns (decimal (l .depth))) (blank ∷ name-text (l .kind) (l .operand) (l .end)),
+        length-append (to-the-left name-columns (ascii (kind-name (l .kind)))) (blank ∷ operand-text (l .operand) (l .end)),
+        length-append (to-the-right operand-columns (decimal (l .operand))) (blank ∷ end-text (l .end)),
+        length-append (to-the-right end-columns (decimal (l .end))) (newline ∷ []),
+        node-length,
+        depth-length,
+        name-length,
+        operand-length,
+        end-length,
+      )

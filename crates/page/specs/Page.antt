@@ -1,5 +1,5 @@
 -- The annex page of a tree (document 02, "Tree on the contract's annex page"): the bytes of its lines, column by column.
-use Prim.Native.Nat.{ℕ, _-_}
+use Prim.Native.Nat.{ℕ, _+_, _-_}
 use mathlib.Core.List.{List, [], _∷_, _++_}
 use lib.ListN.{length, replicate}
 use Rattle.rules.specs.paper.Tree.{Root}
@@ -7,7 +7,7 @@ use Rattle.rules.specs.paper.Decimal.{ascii, decimal}
 use Rattle.page.specs.Names.{kind-name}
 use Rattle.page.specs.Lines.{Line, root-lines}
 
--- How many columns each has, and how many bytes a line: 30 columns and a newline.
+-- How many columns each has.
 abbrev pub node-columns : ℕ
 node-columns = 4
 
@@ -23,8 +23,21 @@ operand-columns = 10
 abbrev pub end-columns : ℕ
 end-columns = 4
 
+-- Where each begins in a line: a blank stands before all but the first, and the newline behind the last.
+abbrev pub depth-at : ℕ
+depth-at = node-columns + 1
+
+abbrev pub name-at : ℕ
+name-at = depth-at + depth-columns + 1
+
+abbrev pub operand-at : ℕ
+operand-at = name-at + name-columns + 1
+
+abbrev pub end-at : ℕ
+end-at = operand-at + operand-columns + 1
+
 abbrev pub line-bytes : ℕ
-line-bytes = 31
+line-bytes = end-at + end-columns + 1
 
 abbrev pub blank : ℕ
 blank = 32
