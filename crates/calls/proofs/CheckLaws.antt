@@ -3,22 +3,23 @@ use Prim.Native.Nat.{ℕ, _<_, _≤_}
 use mathlib.Core.Path.{_≡_, refl, sym, ap, _∙_}
 use mathlib.Core.List.{List, _++_}
 use native.Mathlib.Omega.{arith}
-use lib.Dec.{T, ltb, ltb→lt, lt→ltb}
+use lib.Dec.{ltb, ltb→lt, lt→ltb}
 use lib.ListN.{length, replicate}
 use Rattle.rules.specs.proofs.Basics.{true-test, false-test}
 use Rattle.rules.specs.paper.Refusals.{refusal-number}
-use Rattle.rules.specs.paper.Limits.{work-words}
-use Rattle.rules.specs.paper.Checker.{expression-of-code, a-command}
-use Rattle.rules.specs.paper.Engine.{checker, check-answer, check-image, cleared, turned-back, passed}
+use Rattle.rules.specs.paper.Limits.{codes, work-words}
+use Rattle.rules.specs.paper.Checker.{Passed, expression-of-code, a-command}
+use Rattle.rules.specs.paper.Engine.{checker, answer-of, check-answer, check-image, cleared, turned-back, passed}
 use Rattle.rules.specs.paper.Engine as Rules
 use Rattle.reader.specs.Put.{KeptBeyond}
-use Rattle.checker.specs.Commands.{command-number}
+use Rattle.checker.specs.Commands.{command-number, root-number}
 use Rattle.loader.specs.Answers.{LoadAnswer}
 use Rattle.loader.specs.declared.Loaded.{Loaded}
 use Rattle.loader.specs.declared.Loaded.the-variants as Load
 use Rattle.calls.specs.Answers.{check-reply}
 use Rattle.calls.specs.declared.Checked.{Checked}
 use Rattle.calls.specs.declared.Checked.the-variants.{Code, Command, Refused}
+use Rattle.calls.proofs.LoadedLaws.{Passes, loaded-beyond, loaded-passes, loaded-refused}
 
 -- Under 8,192 work words: 22, and nothing is touched.
 pub little-room : (image work : List ℕ) → length work < work-words → (Refused 22 0 ≡ check-reply (checker image work .answer)) × (work ≡ checker image work .work)
@@ -44,43 +45,30 @@ room-work image work after last h b q = q ∙ cleared-same work after b ∙ sym 
 
 -- ---- What was loaded, as the checker alone answers it.
 
-loaded-twice : (e : Loaded) (number count nodes x p : ℕ) → e ≡ Load.Passed number count nodes → e ≡ Load.Refused x p → ⊥
-loaded-twice e number count nodes x p g h = let z : _≡_ {A = ℕ} 0 1 = cc in omega arith
-
-same-root : (e : Loaded) (number count nodes other-number other-count other-nodes : ℕ) → e ≡ Load.Passed number count nodes → e ≡ Load.Passed other-number other-count other-nodes → number ≡ other-number
-same-root e number count nodes other-number other-count other-nodes g h = cc
-
-same-refusal : (e : Loaded) (x p y q : ℕ) → e ≡ Load.Refused x p → e ≡ Load.Refused y q → Refused x p ≡ Refused y q
-same-refusal e x p y q g h = cc
-
 module _ (image work after last : List ℕ) (e : Loaded) (room : work-words ≤ length work) (a : LoadAnswer (check-image image) e work after) (q : last ≡ cleared after) where
-  loaded-beyond : (c : Rules.Checked) → LoadAnswer c e work after → KeptBeyond work-words work after
-  loaded-beyond (turned-back x p) t = t .beyond
-  loaded-beyond (passed r t c) f = f .beyond
-
-  answered-as : (r : Checked) → ((c : Rules.Checked) → LoadAnswer c e work after → r ≡ check-reply (check-answer c)) → (r ≡ check-reply (checker image work .answer)) × (last ≡ checker image work .work)
-  answered-as r done = (room-answer image work r room (done (check-image image) a), room-work image work after last room (loaded-beyond (check-image image) a) q)
+  answered-as : (r : Checked) (c : Rules.Checked) → check-image image ≡ c → r ≡ check-reply (check-answer c) → (r ≡ check-reply (checker image work .answer)) × (last ≡ checker image work .work)
+  answered-as r c is same =
+      (room-answer image work r room (same ∙ sym (ap (λ k. check-reply (check-answer k)) is)), room-work image work after last room (loaded-beyond image work after e a) q)
 
   module _ (number count nodes : ℕ) (g : e ≡ Load.Passed number count nodes) where
+    image-passes : Passes image after number count nodes
+    image-passes = loaded-passes image work after e a number count nodes g
+
     pub command-answered : number ≡ command-number → (Command ≡ check-reply (checker image work .answer)) × (last ≡ checker image work .work)
-    command-answered eight = answered-as Command by
+    command-answered eight = answered-as Command (passed count (image-passes .tree) (image-passes .root-is)) (image-passes .passes) (by (image-passes .root-is) (image-passes .number-is) (image-passes .code-low))
       where
-        by : (c : Rules.Checked) → LoadAnswer c e work after → Command ≡ check-reply (check-answer c)
-        by (turned-back x p) t = absurd (loaded-twice e number count nodes (refusal-number x) p g (t .answer))
-        by (passed r t (expression-of-code k)) f = absurd (omega (arith, f .code-low k refl, same-root e number count nodes k r _ g (f .answer), eight))
-        by (passed r t a-command) f = refl
+        by : (c : Passed) → number ≡ root-number c → ((k : ℕ) → c ≡ expression-of-code k → k < codes) → Command ≡ check-reply (answer-of c)
+        by (expression-of-code k) is low = absurd (omega (arith, is, eight, low k refl))
+        by a-command is low = refl
 
     pub code-answered : (number ≡ command-number → ⊥) → (Code number ≡ check-reply (checker image work .answer)) × (last ≡ checker image work .work)
-    code-answered other = answered-as (Code number) by
+    code-answered other = answered-as (Code number) (passed count (image-passes .tree) (image-passes .root-is)) (image-passes .passes) (by (image-passes .root-is) (image-passes .number-is))
       where
-        by : (c : Rules.Checked) → LoadAnswer c e work after → Code number ≡ check-reply (check-answer c)
-        by (turned-back x p) t = absurd (loaded-twice e number count nodes (refusal-number x) p g (t .answer))
-        by (passed r t (expression-of-code k)) f = ap Code (same-root e number count nodes k r _ g (f .answer))
-        by (passed r t a-command) f = absurd (other (same-root e number count nodes command-number r _ g (f .answer)))
+        by : (c : Passed) → number ≡ root-number c → Code number ≡ check-reply (answer-of c)
+        by (expression-of-code k) is = ap Code is
+        by a-command is = absurd (other is)
 
   pub refusal-answered : (x p : ℕ) → e ≡ Load.Refused x p → (Refused x p ≡ check-reply (checker image work .answer)) × (last ≡ checker image work .work)
-  refusal-answered x p g = answered-as (Refused x p) by
-    where
-      by : (c : Rules.Checked) → LoadAnswer c e work after → Refused x p ≡ check-reply (check-answer c)
-      by (turned-back y o) t = same-refusal e x p (refusal-number y) o g (t .answer)
-      by (passed r t c) f = absurd (loaded-twice e _ r _ x p (f .answer) g)
+  refusal-answered x p g =
+      let l = loaded-refused image work after e a x p g in
+      answered-as (Refused x p) (turned-back (l .refusal) p) (l .refused) (ap (λ n. Refused n p) (l .number-is))

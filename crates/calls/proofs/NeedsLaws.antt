@@ -95,7 +95,7 @@ module _ (words words′ : List ℕ) (registers nodes : ℕ) (need : Need) (rout
 
 module _ (image before after : List ℕ) (e : Loaded) (loaded : LoadAnswer (check-image image) e before after) where
   module _ (number count nodes : ℕ) (g : e ≡ Load.Passed number count nodes) where
-    image-passes : Passes image after count nodes
+    image-passes : Passes image after number count nodes
     image-passes = loaded-passes image before after e loaded number count nodes g
 
     small : SmallRoom count (image-passes .tree)

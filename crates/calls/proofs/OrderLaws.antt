@@ -2,14 +2,14 @@
 use Prim.Native.Nat.{ℕ, _<_, _≤_}
 use mathlib.Core.Path.{_≡_, refl, sym, ap, _∙_, subst}
 use mathlib.Core.Bool.{Bool, true, false, cond}
-use mathlib.Core.List.{List, [], _∷_}
+use mathlib.Core.List.{List, []}
 use native.Mathlib.Omega.{arith}
 use borrow.Author.Tests.{le-ltb, lt-ltb, le-leb, lt-leb, eq-eqb, ne-eqb}
-use lib.Dec.{T, eqb, leb, ltb}
+use lib.Dec.{eqb}
 use lib.IntN.{ℤ}
 use lib.ListN.{length, getD}
 use Rattle.rules.specs.paper.Limits.{codes, work-words, most-budget}
-use Rattle.rules.specs.paper.Refusals.{Refusal, refusal-number}
+use Rattle.rules.specs.paper.Refusals.{refusal-number}
 use Rattle.rules.specs.paper.Refusals as Refusals
 use Rattle.rules.specs.paper.Tree.{Root}
 use Rattle.rules.specs.paper.Checker.{Passed, expression-of-code, a-command}
@@ -27,6 +27,7 @@ use Rattle.loader.proofs.LoadLaws.{beyond-then}
 use Rattle.calls.specs.Runs.{run-reply, run-call, RanAs, Performed, RunOf, run-of-image}
 use Rattle.calls.specs.declared.Ran.{Ran}
 use Rattle.calls.specs.declared.Ran.the-variants.{Refused}
+use Rattle.calls.proofs.LoadedLaws.{loaded-beyond, loaded-passes, loaded-refused}
 use Rattle.calls.proofs.CheckLaws.{cleared-same}
 
 -- ---- What was loaded.
@@ -44,35 +45,17 @@ pub record FoundRoot (image : List ℕ) (number registers nodes : ℕ) (before a
   pub code-low : (k : ℕ) → root ≡ expression-of-code k → k < codes
   pub found : FoundPassed image registers nodes root before after
 
-same-root : (e : Loaded) (number n nodes other-number m other-nodes : ℕ) → e ≡ Load.Passed number n nodes → e ≡ Load.Passed other-number m other-nodes → number ≡ other-number
-same-root e number n nodes other-number m other-nodes p q = cc
-
-same-count : (e : Loaded) (number n nodes other-number m other-nodes : ℕ) → e ≡ Load.Passed number n nodes → e ≡ Load.Passed other-number m other-nodes → m ≡ n
-same-count e number n nodes other-number m other-nodes p q = cc
-
-same-nodes : (e : Loaded) (number n nodes other-number m other-nodes : ℕ) → e ≡ Load.Passed number n nodes → e ≡ Load.Passed other-number m other-nodes → other-nodes ≡ nodes
-same-nodes e number n nodes other-number m other-nodes p q = cc
-
-same-refusal : (e : Loaded) (x p y q : ℕ) → e ≡ Load.Refused x p → e ≡ Load.Refused y q → Refused x p 0 ≡ Refused y q 0
-same-refusal e x p y q g h = cc
-
-passed-refused : (e : Loaded) (number n nodes x p : ℕ) → e ≡ Load.Passed number n nodes → e ≡ Load.Refused x p → ⊥
-passed-refused e number n nodes x p g h = let z : _≡_ {A = ℕ} 0 1 = cc in omega arith
-
 module _ (image before after : List ℕ) (e : Loaded) (a : LoadAnswer (check-image image) e before after) where
   module _ (number n nodes : ℕ) (q : e ≡ Load.Passed number n nodes) where
     pub found-root : FoundRoot image number n nodes before after
-    found-root = by (check-image image) refl a
-      where
-        by : (k : Checked) → check-image image ≡ k → LoadAnswer k e before after → FoundRoot image number n nodes before after
-        by (turned-back x p) u t = absurd (passed-refused e number n nodes (refusal-number x) p q (t .answer))
-        by (passed r t c) u f =
-            record {
-              root = c;
-              number-is = same-root e number n nodes (root-number c) r _ q (f .answer);
-              code-low = f .code-low;
-              found = record { tree = t; passes = u ∙ ap (λ i. passed i t c) (same-count e number n nodes (root-number c) r _ q (f .answer)); stands = subst (λ i. RootAt after i t) (same-nodes e number n nodes (root-number c) r _ q (f .answer)) (f .stands); beyond = f .beyond };
-            }
+    found-root =
+        let l = loaded-passes image before after e a number n nodes q in
+        record {
+          root = l .root-is;
+          number-is = l .number-is;
+          code-low = l .code-low;
+          found = record { tree = l .tree; passes = l .passes; stands = l .stands; beyond = loaded-beyond image before after e a };
+        }
 
     pub found-command : number ≡ command-number → FoundPassed image n nodes a-command before after
     found-command eight = let o = found-root in by (o .root) (o .number-is) (o .code-low) (o .found)
@@ -91,11 +74,10 @@ module _ (image before after : List ℕ) (e : Loaded) (a : LoadAnswer (check-ima
   -- The image is refused: 0 steps, and the registers are kept.
   pub image-refused : (registers : List ℕ) (budget x p : ℕ) → ((i : ℕ) → i < length registers → getD registers i 0 < 18446744073709551616) → e ≡ Load.Refused x p →
       Performed (run-checked (check-image image) (integers-of registers) budget []) (Refused x p 0) registers before after
-  image-refused registers budget x p low q = by (check-image image) a
-    where
-      by : (k : Checked) → LoadAnswer k e before after → Performed (run-checked k (integers-of registers) budget []) (Refused x p 0) registers before after
-      by (turned-back y o) t = record { reply-is = same-refusal e x p (refusal-number y) o q (t .answer); registers-are = sym (words-back registers low); beyond = t .beyond }
-      by (passed r t c) f = absurd (passed-refused e _ r _ x p (f .answer) q)
+  image-refused registers budget x p low q =
+      let l = loaded-refused image before after e a x p q in
+      subst (λ k. Performed (run-checked k (integers-of registers) budget []) (Refused x p 0) registers before after) (sym (l .refused))
+      (record { reply-is = ap (λ n. Refused n p 0) (l .number-is); registers-are = sym (words-back registers low); beyond = loaded-beyond image before after e a })
 
 -- ---- 20.
 
