@@ -20,7 +20,7 @@ use Rattle.calls.specs.Runs.{ran, run-reply, run-call}
 use Rattle.calls.specs.declared.Ran.{Ran}
 
 -- The answer that a state with these steps made comes to: control is empty, and what is left is the outcome; or the step is withheld
--- for a reason that holds, the lowest.
+-- for a reason that holds, the first in the order.
 pub data AnsweredAt (a : Passed) (budget steps : ℕ) (σ : State) (h : History) : Answer → Type 0 where
   at-its-end : control-of σ ≡ [] → FinalValues a (h .made-types) (values-of σ) → AnsweredAt a budget steps σ h (outcome (outcome-of (values-of σ)))
   withheld-there : {x : Reason} (rule : Rule) (e : Effect) → Applies rule σ e → (w : StepWithheld budget steps e) → w .reason ≡ x → AnsweredAt a budget steps σ h (refused (Withheld x) 0)

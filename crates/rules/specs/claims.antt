@@ -5,6 +5,7 @@ pub mod Typing
 pub mod Image
 pub mod History
 pub mod Claim
+pub mod Order
 pub mod Ends
 pub mod NoRoutine
 pub mod FreeRun

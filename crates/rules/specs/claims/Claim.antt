@@ -9,13 +9,13 @@ use lib.Dec.{T, eqb}
 use lib.IntN.{ℤ}
 use lib.ListN.{length}
 use Rattle.rules.specs.paper.Tree.{Expression, Num, Boo, Id, DeRef, ValRef, Binary, Not, Root}
-use Rattle.rules.specs.paper.Refusals.{Reason, Steps, ZeroDivisor, OutOfRange, Cells, Bindings, ValueEntries, ControlEntries, reason-number}
+use Rattle.rules.specs.paper.Refusals.{Reason, Steps, ZeroDivisor, OutOfRange, Cells, Bindings, ValueEntries, ControlEntries}
 use Rattle.rules.specs.paper.Limits.{most-cells, most-bindings, most-value-entries, most-control-entries, most-budget}
 use Rattle.rules.specs.paper.Integers.{in-range}
 use Rattle.rules.specs.paper.Checker.{Passed}
 use Rattle.rules.specs.paper.States.{Value, integer, truth, location, Bindable, value, closure, Environment, lookup, Store, find, Entry, bindable, name, node, environment, locations, Mark, operator-mark, not-mark, assign-mark, loop-mark, conditional-mark, ref-mark, bind-mark, dseq-extend-mark, dseq-join-mark, extend-mark, leave-mark, call-mark, Item, expression, command, declaration, reference, abstraction, mark, State, state, control-of, values-of, environment-of, store-of, locations-of, bindings-of, live-cells}
 use Rattle.rules.specs.paper.Rules.{Rule, Effect, goes, fails, Applies}
-use Rattle.rules.specs.paper.Run.{judge, made, withheld}
+use Rattle.rules.specs.paper.Run.{priority, judge, made, withheld}
 use Rattle.rules.specs.paper.Engine.{check-image, passed, start}
 use Rattle.rules.specs.claims.History.{Made, made-with, type-of, History, latest, leaves, note, first-history, Reach}
 
@@ -131,6 +131,12 @@ pub data ReasonHolds (budget steps : ℕ) (e : Effect) : Reason → Type 0 where
   values-full : (τ : State) → e ≡ goes τ → most-value-entries < length (values-of τ) → ReasonHolds budget steps e ValueEntries
   control-full : (τ : State) → e ≡ goes τ → most-control-entries < length (control-of τ) → ReasonHolds budget steps e ControlEntries
 
+-- ---- "first in this order": it holds, and none that stands before it does.
+
+pub data FirstOf (Holds : Reason → Type 0) (x : Reason) : List Reason → Type 0 where
+  at-front : (later : List Reason) → Holds x → FirstOf Holds x (x ∷ later)
+  behind : (r : Reason) (later : List Reason) → (Holds r → ⊥) → FirstOf Holds x later → FirstOf Holds x (r ∷ later)
+
 -- ---- "its step is made if no reason of 30 to 36 holds and otherwise withheld for one that does"
 
 -- The step of this effect is made.
@@ -150,8 +156,8 @@ pub record StepWithheld (budget steps : ℕ) (e : Effect) : Type 0 where
   pub reason : Reason
   -- "for one that does"
   pub reason-holds : ReasonHolds budget steps e reason
-  -- the lowest of those that hold ("At a step the lowest number wins")
-  pub lowest : (r : Reason) → ReasonHolds budget steps e r → reason-number reason ≤ reason-number r
+  -- the first in the order of the reasons of those that hold
+  pub first : FirstOf (ReasonHolds budget steps e) reason priority
   pub is-withheld : judge (eqb steps budget) e ≡ withheld reason
 
 pub data StepOutcome (budget steps : ℕ) (σ : State) (h : History) (e : Effect) : Type 0 where

@@ -26,7 +26,7 @@ abbrev pub FinalValues : Passed → Made → List Entry → Type 0
 FinalValues a-command M X = X ≡ []
 FinalValues (expression-of-code c) M X = (v : Value) × (X ≡ val v ∷ []) × (type-of M v ≡ some c)
 
--- At a state that the run reaches: with control empty, or with the step withheld for a reason that holds, the lowest.
+-- At a state that the run reaches: with control empty, or with the step withheld for a reason that holds, the first in the order.
 -- There is no line for `lost`: the run is never without a rule.
 pub data EndsWell (budget : ℕ) (first : State) (r : ℕ) (a : Passed) : Ending → Type 0 where
   normally : {k : ℕ} {τ : State} (h : History) → Reach budget first r k τ h → control-of τ ≡ [] → FinalValues a (h .made-types) (values-of τ) →

@@ -11,9 +11,10 @@ use Rattle.rules.specs.paper.States.{State, state, control-of, values-of
 use Rattle.rules.specs.paper.Rules.{Effect, goes, fails}
 use Rattle.rules.specs.paper.Fire.{Firing, stuck, fires, fire}
 
--- At a step the lowest number wins: the reasons in the order in which they are asked.
+-- The order of the reasons: at a step the first of these that holds wins. It is by number, but for a full control stack, which is named before
+-- a full value stack (document 02, request 6).
 unfoldable pub priority : List Reason
-priority = Steps ∷ ZeroDivisor ∷ OutOfRange ∷ Cells ∷ Bindings ∷ ValueEntries ∷ ControlEntries ∷ []
+priority = Steps ∷ ZeroDivisor ∷ OutOfRange ∷ Cells ∷ Bindings ∷ ControlEntries ∷ ValueEntries ∷ []
 
 -- Reasons 33 to 36 are judged on the state after the step.
 abbrev pub exceeded : State → Reason → Bool
@@ -80,7 +81,7 @@ attempt stuck k σ go = lost k σ
 attempt (fires r e) k σ go = proceed (judge false e) k σ go
 
 -- The run goes on until the control stack is empty or a step is withheld. `left` is the budget less the steps made: where
--- none is left, reason 30 has the lowest number and wins, and an empty control stack is a normal end all the same.
+-- none is left, reason 30 stands first in the order and wins, and an empty control stack is a normal end all the same.
 unfoldable pub run : (left steps : ℕ) → State → Ending
 run zero k (state [] X E S L n) = ended k (state [] X E S L n)
 run zero k (state (i ∷ C) X E S L n) = stopped Steps k (state (i ∷ C) X E S L n)

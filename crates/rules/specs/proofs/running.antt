@@ -9,6 +9,7 @@ pub mod CommandSteps
 pub mod MarkSteps
 pub mod FrameSteps
 pub mod Judging
+pub mod Order
 pub mod WholeRun
 pub mod RunEnds
 pub mod NoRoutine

@@ -1,19 +1,18 @@
--- What `judge` says: the step is made exactly when no reason holds, and otherwise withheld for the lowest that does.
-use Prim.Native.Nat.{ℕ, _≤_, _<_}
+-- What `judge` says: the step is made exactly when no reason holds, and otherwise withheld for the first in the order that does.
+use Prim.Native.Nat.{ℕ}
 use mathlib.Core.Path.{_≡_, refl, sym, ap, _∙_, subst}
 use mathlib.Core.Logic.{_⊎_, inl, inr}
 use mathlib.Core.Bool.{Bool, true, false, cond}
 use mathlib.Core.List.{List, [], _∷_}
 use mathlib.Core.Option.{Option, none, some, Option·some-injective, Option·some-ne-none, Option·none-ne-some}
-use native.Mathlib.Nat.{le-refl}
-use lib.Dec.{T, eqb, ltb, eqb→eq, eqb-refl, ltb→lt, lt→ltb, lit≤}
+use lib.Dec.{T, eqb, ltb, eqb→eq, eqb-refl, ltb→lt, lt→ltb}
 use lib.ListN.{length}
 use Rattle.rules.specs.proofs.Basics.{missing, passed-test, failed-test}
 use Rattle.rules.specs.paper.Limits.{most-cells, most-bindings, most-value-entries, most-control-entries}
 use Rattle.rules.specs.paper.Refusals.{Reason, Steps, ZeroDivisor, OutOfRange, Cells, Bindings, ValueEntries, ControlEntries, reason-number}
 use Rattle.rules.specs.paper.States.{State, control-of, values-of, store-of, bindings-of}
 use Rattle.rules.specs.paper.Rules.{Effect, goes, fails}
-use Rattle.rules.specs.claims.Claim.{ReasonHolds, budget-used, divisor-zero, result-outside, cells-full, bindings-full, values-full, control-full}
+use Rattle.rules.specs.claims.Claim.{ReasonHolds, budget-used, divisor-zero, result-outside, cells-full, bindings-full, values-full, control-full, FirstOf, at-front, behind}
 use Rattle.rules.specs.paper.Run.{same-reason, priority, holds, first-holding, Verdict, made, withheld, settle, judge}
 
 abbrev InList : Reason → List Reason → Type 0
@@ -28,44 +27,8 @@ all-asked ZeroDivisor = inr (inl refl)
 all-asked OutOfRange = inr (inr (inl refl))
 all-asked Cells = inr (inr (inr (inl refl)))
 all-asked Bindings = inr (inr (inr (inr (inl refl))))
-all-asked ValueEntries = inr (inr (inr (inr (inr (inl refl)))))
-all-asked ControlEntries = inr (inr (inr (inr (inr (inr (inl refl))))))
-
--- The reasons are asked in the order of their numbers.
-abbrev AtLeast : ℕ → List Reason → Type 0
-AtLeast n [] = Unit {0}
-AtLeast n (s ∷ ss) = (n ≤ reason-number s) × AtLeast n ss
-
-abbrev Ascending : List Reason → Type 0
-Ascending [] = Unit {0}
-Ascending (s ∷ ss) = AtLeast (reason-number s) ss × Ascending ss
-
-priority-ascends : Ascending priority
-unfolding priority reason-number
-priority-ascends = (
-  (lit≤ tt, (lit≤ tt, (lit≤ tt, (lit≤ tt, (lit≤ tt, (lit≤ tt, tt)))))),
-  (
-    (lit≤ tt, (lit≤ tt, (lit≤ tt, (lit≤ tt, (lit≤ tt, tt))))),
-    (
-      (lit≤ tt, (lit≤ tt, (lit≤ tt, (lit≤ tt, tt)))),
-      (
-        (lit≤ tt, (lit≤ tt, (lit≤ tt, tt))),
-        (
-          (lit≤ tt, (lit≤ tt, tt)),
-          (
-            (lit≤ tt, tt),
-            (tt, tt),
-          ),
-        ),
-      ),
-    ),
-  ),
-)
-
-least-in : (n : ℕ) (rs : List Reason) (r : Reason) → AtLeast n rs → InList r rs → n ≤ reason-number r
-least-in n [] r h i = absurd i
-least-in n (s ∷ ss) r h (inl q) = subst (λ k. n ≤ reason-number k) q (h .0)
-least-in n (s ∷ ss) r h (inr i) = least-in n ss r (h .1) i
+all-asked ControlEntries = inr (inr (inr (inr (inr (inl refl)))))
+all-asked ValueEntries = inr (inr (inr (inr (inr (inr (inl refl))))))
 
 module _ (f : Reason → Bool) where
   none-holds : (rs : List Reason) → first-holding f rs ≡ none → (r : Reason) → InList r rs → T (f r) → ⊥
@@ -87,24 +50,25 @@ module _ (f : Reason → Bool) where
       choose true u p later = subst (λ k. T (f k)) (Option·some-injective s x p) (passed-test u)
       choose false u p later = later p
 
-  lowest-holds : (rs : List Reason) (x : Reason) → first-holding f rs ≡ some x → Ascending rs → (r : Reason) → InList r rs → T (f r) → reason-number x ≤ reason-number r
+  first-holds : (rs : List Reason) (x : Reason) → first-holding f rs ≡ some x → FirstOf (λ r. T (f r)) x rs
   unfolding first-holding
-  lowest-holds [] x q a r i t = absurd i
-  lowest-holds (s ∷ ss) x q a r i t = choose (f s) refl q i (λ p j. lowest-holds ss x p (a .1) r j t)
+  first-holds [] x q = missing q
+  first-holds (s ∷ ss) x q = choose (f s) refl q (first-holds ss x)
     where
-      at-first : InList r (s ∷ ss) → reason-number s ≤ reason-number r
-      at-first (inl e) = subst (λ k. reason-number s ≤ reason-number k) e (le-refl (reason-number s))
-      at-first (inr j) = least-in (reason-number s) ss r (a .0) j
+      choose : (b : Bool) → f s ≡ b → cond b (some s) (first-holding f ss) ≡ some x → (first-holding f ss ≡ some x → FirstOf (λ r. T (f r)) x ss) → FirstOf (λ r. T (f r)) x (s ∷ ss)
+      choose true u p later = subst (λ k. FirstOf (λ r. T (f r)) k (s ∷ ss)) (Option·some-injective s x p) (at-front ss (passed-test u))
+      choose false u p later = behind s ss (failed-test u) (later p)
 
-      choose : (b : Bool) → f s ≡ b → cond b (some s) (first-holding f ss) ≡ some x → InList r (s ∷ ss) → (first-holding f ss ≡ some x → InList r ss → reason-number x ≤ reason-number r) → reason-number x ≤ reason-number r
-      choose true u p j later = subst (λ k. reason-number k ≤ reason-number r) (Option·some-injective s x p) (at-first j)
-      choose false u p (inl e) later = absurd (failed-test u (subst (λ k. T (f k)) (sym e) t))
-      choose false u p (inr j) later = later p j
+-- The first of those that hold is the first of those that hold in other words.
+pub in-other-words : {Holds Meets : Reason → Type 0} (x : Reason) (rs : List Reason) → ((r : Reason) → Holds r → Meets r) → ((r : Reason) → Meets r → Holds r) →
+    FirstOf Holds x rs → FirstOf Meets x rs
+in-other-words x rs to from (at-front later t) = at-front later (to x t)
+in-other-words x rs to from (behind r later n f) = behind r later (λ t. n (from r t)) (in-other-words x later to from f)
 
 -- How a step is judged.
 pub data Judgement (spent : Bool) (e : Effect) : Type 0 where
   no-reason : ((r : Reason) → T (holds spent e r) → ⊥) → judge spent e ≡ settle e none → Judgement spent e
-  for-reason : (x : Reason) → T (holds spent e x) → ((r : Reason) → T (holds spent e r) → reason-number x ≤ reason-number r) → judge spent e ≡ withheld x → Judgement spent e
+  for-reason : (x : Reason) → T (holds spent e x) → FirstOf (λ r. T (holds spent e r)) x priority → judge spent e ≡ withheld x → Judgement spent e
 
 settled : (e : Effect) (x : Reason) → settle e (some x) ≡ withheld x
 settled (goes τ) x = refl
@@ -117,8 +81,7 @@ judged spent e = by-first (first-holding (holds spent e) priority) refl
     by-first : (o : Option Reason) → first-holding (holds spent e) priority ≡ o → Judgement spent e
     by-first none q = no-reason (λ r. none-holds (holds spent e) priority q r (all-asked r)) (ap (settle e) q)
     by-first (some x) q =
-        for-reason x (some-holds (holds spent e) priority x q) (λ r. lowest-holds (holds spent e) priority x q priority-ascends r (all-asked r))
-        (ap (settle e) q ∙ settled e x)
+        for-reason x (some-holds (holds spent e) priority x q) (first-holds (holds spent e) priority x q) (ap (settle e) q ∙ settled e x)
 
 -- ---- The test of a reason and its condition are the same.
 

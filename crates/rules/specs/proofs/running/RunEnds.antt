@@ -18,13 +18,13 @@ use Rattle.rules.specs.paper.Checker.{code, Passed, expression-of-code, 
 use Rattle.rules.specs.paper.States.{Value, integer, Bindable, Environment, Store, find, Entry, bindable, val, State, state, control-of, values-of, environment-of, store-of, bindings-of}
 use Rattle.rules.specs.paper.Rules.{Rule, Effect, goes, Applies}
 use Rattle.rules.specs.paper.Fire.{fire, fires}
-use Rattle.rules.specs.paper.Run.{Ending, ended, stopped, Verdict, made, withheld, proceed, judge, attempt, run}
+use Rattle.rules.specs.paper.Run.{priority, Ending, ended, stopped, Verdict, made, withheld, proceed, judge, attempt, run}
 use Rattle.rules.specs.paper.Engine.{check-image, passed, root-control, register-store, start}
 use Rattle.rules.specs.proofs.running.FireExact.{applies→fires}
 use Rattle.rules.specs.proofs.checking.ImageExact.{check-exact}
 use Rattle.rules.specs.claims.Image.{IsImage}
 use Rattle.rules.specs.claims.History.{Made, type-of, History, note, first-history, Reach, at-start, step-made}
-use Rattle.rules.specs.claims.Claim.{ReasonHolds, budget-used, cells-full, bindings-full, values-full, control-full, StepOutcome, step-is-made, step-is-withheld, StepMade, StepWithheld, StateClaim, AllInRange}
+use Rattle.rules.specs.claims.Claim.{ReasonHolds, budget-used, cells-full, bindings-full, values-full, control-full, FirstOf, at-front, behind, StepOutcome, step-is-made, step-is-withheld, StepMade, StepWithheld, StateClaim, AllInRange}
 use Rattle.rules.specs.claims.Ends.{FinalValues, EndsWell, normally, withheld-for, RangedValue, RangedBindable, RangedEnvironment, RangedEntry, RangedValues, RangedStore, RegisterHolds, StateFacts, RunEndsWell, EveryStateFacts}
 use Rattle.rules.specs.proofs.running.World.{World, code-at, code-older, code-newest, ValueTyped, integer-typed, truth-typed, location-typed, EnvironmentTyped, no-names, one-name, BindableTyped, value-typed, closure-typed}
 use Rattle.rules.specs.proofs.running.Stores.{StoreTyped, no-cells, one-cell, store-length, Held, find-typed, grown-keeps, world-made, type-is}
@@ -174,19 +174,11 @@ final-values : {a : Passed} {r : ℕ} {E : Environment} {W : World} {L : List �
 final-values M m final-command (nothing-left q l) = refl
 final-values M m final-value (value-on (value-typed {v = v} t) (nothing-left q l)) = (v, refl, ap (λ N. type-of N v) m ∙ type-is t)
 
-above : (n : ℕ) → 30 < n → n ≤ 30 → ⊥
-above n h g = omega arith
-
--- 30 is the lowest number.
-steps-only : (x : Reason) → reason-number x ≤ reason-number Steps → x ≡ Steps
-unfolding reason-number
-steps-only Steps h = refl
-steps-only ZeroDivisor h = absurd (above 31 (lit< tt) h)
-steps-only OutOfRange h = absurd (above 32 (lit< tt) h)
-steps-only Cells h = absurd (above 33 (lit< tt) h)
-steps-only Bindings h = absurd (above 34 (lit< tt) h)
-steps-only ValueEntries h = absurd (above 35 (lit< tt) h)
-steps-only ControlEntries h = absurd (above 36 (lit< tt) h)
+-- 30 stands first in the order.
+steps-first : {Holds : Reason → Type 0} (x : Reason) → FirstOf Holds x priority → Holds Steps → x ≡ Steps
+unfolding priority
+steps-first x (at-front later t) h = refl
+steps-first x (behind r later n f) h = absurd (n h)
 
 module _ (budget : ℕ) (first : State) (r : ℕ) (a : Passed) (inv₀ : Invariant a r first (first-history r)) where
   abbrev Ends : Ending → Type 0
@@ -234,7 +226,7 @@ module _ (budget : ℕ) (first : State) (r : ℕ) (a : Passed) (inv₀ : Invaria
     where
       by-outcome : StepOutcome budget k σ h (c .effect) → Ends (stopped Steps k σ)
       by-outcome (step-is-made m) = absurd (m .no-reason Steps (budget-used q))
-      by-outcome (step-is-withheld w) = withheld-for h (c .rule) (c .effect) reached (c .applies) w (steps-only (w .reason) (w .lowest Steps (budget-used q)))
+      by-outcome (step-is-withheld w) = withheld-for h (c .rule) (c .effect) reached (c .applies) w (steps-first (w .reason) (w .first) (budget-used q))
 
   ends : (left k : ℕ) (σ : State) (h : History) → k + left ≡ budget → Reach budget first r k σ h → Ends (run left k σ)
   unfolding run

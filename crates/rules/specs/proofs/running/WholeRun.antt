@@ -18,7 +18,7 @@ use Rattle.rules.specs.claims.Shape.{ShapedExpression, ShapedFormal, Man
 use Rattle.rules.specs.claims.Shape as Shape
 use Rattle.rules.specs.paper.States.{Environment, Store, Entry, Item, State, state, control-of}
 use Rattle.rules.specs.paper.Rules.{Rule, Effect, goes, fails, Applies}
-use Rattle.rules.specs.paper.Run.{holds, settle, made, judge}
+use Rattle.rules.specs.paper.Run.{priority, holds, settle, made, judge}
 use Rattle.rules.specs.paper.Engine.{check-image, passed, root-control, register-environment, register-store, start}
 use Rattle.rules.specs.proofs.Basics.{cons-not-empty}
 use Rattle.rules.specs.proofs.running.FireExact.{one-rule}
@@ -34,7 +34,7 @@ use Rattle.rules.specs.proofs.running.ExpressionSteps.{expression-step}
 use Rattle.rules.specs.proofs.running.CommandSteps.{command-step, declaration-step, reference-step, abstraction-step}
 use Rattle.rules.specs.proofs.running.MarkSteps.{operator-step, not-step, assign-step, loop-step, conditional-step, ref-step, bind-step, dseq-extend-step, dseq-join-step}
 use Rattle.rules.specs.proofs.running.FrameSteps.{extend-mark-step, leave-mark-step, call-step}
-use Rattle.rules.specs.proofs.running.Judging.{Judgement, no-reason, for-reason, judged, holds→reason, reason→holds}
+use Rattle.rules.specs.proofs.running.Judging.{in-other-words, Judgement, no-reason, for-reason, judged, holds→reason, reason→holds}
 
 -- ---- Where the invariant holds and control is not empty, a rule applies and its step keeps the invariant.
 
@@ -184,9 +184,9 @@ outcome-of a r budget steps σ h (goes τ) n (no-reason f q) =
     step-is-made
     (record { after = τ; goes-there = refl; no-reason = λ x t. f x (reason→holds budget steps (goes τ) x t); is-made = q; cells-after = n .cells-after; restored = n .restored })
 outcome-of a r budget steps σ h (fails x) n (no-reason f q) = absurd (f x (fault-holds (eqb steps budget) x n))
-outcome-of a r budget steps σ h e n (for-reason x t l q) =
+outcome-of a r budget steps σ h e n (for-reason x t f q) =
     step-is-withheld
-    (record { reason = x; reason-holds = holds→reason budget steps e x t; lowest = λ y s. l y (reason→holds budget steps e y s); is-withheld = q })
+    (record { reason = x; reason-holds = holds→reason budget steps e x t; first = in-other-words x priority (holds→reason budget steps e) (reason→holds budget steps e) f; is-withheld = q })
 
 pub claim : (a : Passed) (r budget steps : ℕ) (σ : State) (h : History) → Invariant a r σ h → (control-of σ ≡ [] → ⊥) → StateClaim budget steps σ h
 claim a r budget steps σ h inv left =
