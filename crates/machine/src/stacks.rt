@@ -17,11 +17,11 @@ use crate::reasons;
 pub fn full_stack(values: usize, control: usize) -> u64
     ensures { λ r. ⌜ r ≡ full-stack values control ⌝ }
 {
-    if MOST_VALUE_ENTRIES < values {
-        return reasons::VALUE_ENTRIES;
-    }
     if MOST_CONTROL_ENTRIES < control {
         return reasons::CONTROL_ENTRIES;
+    }
+    if MOST_VALUE_ENTRIES < values {
+        return reasons::VALUE_ENTRIES;
     }
     0
 }

@@ -76,7 +76,7 @@ module _ (words : List ℕ) (m : Machine) (i word : ℕ) (known : word ≡ packe
       let all = put-actuals es (mark (call-mark i x (length es)) ∷ C) in
       subst (λ g. StepAnswer (judge false g) (Withheld 36) words words) (call-effect (ready .applies))
       (step-withheld words ControlEntries _ _
-      (judged-control all X E S L n (omega (arith, z .cells-height, fits .few-cells)) (omega (arith, z .bindings-height, fits .few-bindings)) (omega (arith, z .values-height, fits .few-values)) (omega (arith, z .control-height, q, counted a, actuals-length es (mark (call-mark i x (length es)) ∷ C))))
+      (judged-control all X E S L n (omega (arith, z .cells-height, fits .few-cells)) (omega (arith, z .bindings-height, fits .few-bindings)) (omega (arith, z .control-height, q, counted a, actuals-length es (mark (call-mark i x (length es)) ∷ C))))
       refl)
 
 -- ---- One actual after the other.

@@ -15,7 +15,7 @@ use Rattle.machine.specs.Steps.{Ready, Steps}
 use Rattle.machine.specs.declared.Machine.{Machine}
 use Rattle.machine.specs.declared.Stepped.the-variants.{Made, Withheld}
 use Rattle.machine.proofs.state_laws.JudgeLaws.{judged-values}
-use Rattle.machine.proofs.state_laws.ModelLaws.{beside-sizes, step-made, step-withheld, fits-still}
+use Rattle.machine.proofs.state_laws.ModelLaws.{control-size, beside-sizes, control-height, step-made, step-withheld, fits-still}
 use Rattle.machine.proofs.state_laws.ItemLaws.{rest-of}
 use Rattle.machine.proofs.state_laws.TopLaws.{at-height, OneOnTop, one-on-top, TwoOnTop, two-on-top}
 use Rattle.machine.proofs.memory_laws.EnvironmentLaws.{segment-join}
@@ -79,7 +79,9 @@ module _ (words : List ℕ) (m : Machine) where
       let z = beside-sizes words m (top .found) in
       answered (Withheld 35) words words (top .effect-is)
       (step-withheld words ValueEntries _ _
-      (judged-values _ _ _ _ _ _ (omega (arith, z .cells-height, ready .fits .few-cells)) (omega (arith, z .bindings-height, ready .fits .few-bindings)) (omega (arith, z .values-height, full))) refl)
+      (judged-values _ _ _ _ _ _ (omega (arith, z .cells-height, ready .fits .few-cells)) (omega (arith, z .bindings-height, ready .fits .few-bindings))
+      (omega (arith, control-size (top .control-as), control-height words m, ready .fits .few-control)) (omega (arith, z .values-height, full)))
+      refl)
 
   pub extend-made : (w : ℕ) (kept after : List ℕ) (t u : Machine) → m .values < most-value-entries → t ≡ raised-values (joined m) →
       regions kept (raised-values (joined m)) ≡ with-values (slot 0 (m .environment) ∷ regions words (joined m) .values) (regions words (joined m)) →

@@ -39,7 +39,8 @@ module _ (words : List ℕ) (m : Machine) (f : Fits words m) where
   push-withheld label payload q C X E S L n b μ h =
       let z = sizes words m μ in
       step-withheld words ValueEntries _ _
-      (judged-values C (bindable b ∷ X) E S L n (omega (arith, z .cells-height, f .few-cells)) (omega (arith, z .bindings-height, f .few-bindings)) (omega (arith, z .values-height, q)))
+      (judged-values C (bindable b ∷ X) E S L n (omega (arith, z .cells-height, f .few-cells)) (omega (arith, z .bindings-height, f .few-bindings)) (omega (arith, z .control-height, f .few-control))
+      (omega (arith, z .values-height, q)))
       refl
 
   pub push-made : (label payload : ℕ) (after : List ℕ) (r : Machine) → m .values < most-value-entries → r ≡ raised-values m →
@@ -65,7 +66,7 @@ module _ (words : List ℕ) (m : Machine) (f : Fits words m) where
   puts-withheld new q C X E S L n mode b h =
       let z = beside-sizes words m b in
       step-withheld words ControlEntries _ _
-      (judged-control C X E S L n (omega (arith, z .cells-height, f .few-cells)) (omega (arith, z .bindings-height, f .few-bindings)) (omega (arith, z .values-height, f .few-values))
+      (judged-control C X E S L n (omega (arith, z .cells-height, f .few-cells)) (omega (arith, z .bindings-height, f .few-bindings))
       (omega (arith, control-size h, length-append new (regions words m .control), control-height words m, q)))
       refl
 
