@@ -21,8 +21,8 @@ use machine::memory::put_control;
 use machine::memory::put_value;
 use machine::reasons;
 use machine::stacks::enter;
-use machine::stacks::full_stack;
 use machine::stacks::put_two;
+use machine::stacks::reason_of_room;
 use reader::NAMES;
 use reader::end;
 use reader::kinds;
@@ -59,9 +59,9 @@ fn enter_block(work: &mut [u64], m: Machine, node: usize) -> Stepped
     requires { ⌜ ((d : Declaration) × (c : Command) × Applicable (now work) m node (command (block (Blk node d c)))) ⌝ }
     ensures { λ r. ⌜ ((d : Declaration) (c : Command) → Steps (now (work .entry)) m node (command (block (Blk node d c))) r (now (work .exit))) ⌝ }
 {
-    let full = full_stack(m.values + 1, m.control + 4);
-    if full != 0 {
-        return Stepped::Withheld(full);
+    let reason = reason_of_room(m.bindings, m.values + 1, m.control + 4);
+    if reason != 0 {
+        return Stepped::Withheld(reason);
     }
     let body = end(work, node + 1);
     let mut opened = put_value(work, m, 0, m.base as u64);

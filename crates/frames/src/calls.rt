@@ -13,7 +13,6 @@ use machine::layout::CLOSURE_UNIT;
 use machine::layout::COUNT_UNIT;
 use machine::layout::LABEL_UNIT;
 use machine::layout::LEAVE_MARK;
-use machine::layout::MOST_BINDINGS;
 use machine::layout::NAME_UNIT;
 use machine::layout::POINTER_UNIT;
 use machine::layout::ROW_PAYLOADS;
@@ -23,8 +22,7 @@ use machine::lookup::row_of;
 use machine::memory::put_control;
 use machine::memory::put_row;
 use machine::memory::put_value;
-use machine::reasons;
-use machine::stacks::full_stack;
+use machine::stacks::reason_of_room;
 use reader::NAMES;
 use reader::operand;
 
@@ -82,12 +80,9 @@ pub fn call_mark(work: &mut [u64], mut m: Machine, word: u64) -> Stepped
     ensures { λ r. ⌜ ((p x k : ℕ) → Steps (now (work .entry)) m word (mark (call-mark p x k)) r (now (work .exit))) ⌝ }
 {
     let count = (word / COUNT_UNIT) as usize;
-    if MOST_BINDINGS < m.bindings + count {
-        return Stepped::Withheld(reasons::BINDINGS);
-    }
-    let full = full_stack(m.values - count + 2, m.control + 2);
-    if full != 0 {
-        return Stepped::Withheld(full);
+    let reason = reason_of_room(m.bindings + count, m.values - count + 2, m.control + 2);
+    if reason != 0 {
+        return Stepped::Withheld(reason);
     }
     let row = row_of(work, m, word / CARRIED_UNIT % NAME_UNIT);
     let closure = work[ROW_PAYLOADS + row];

@@ -1,22 +1,26 @@
 // What several rules do alike: a value more, or two to four entries more on control, each with the limits that it can reach.
 ghost use mathlib.Core.Path.{_≡_};
 ghost use mathlib.Core.List.{[], _∷_};
-ghost use Rattle.machine.specs.Room.{full-stack};
+ghost use Rattle.machine.specs.Room.{reason-of-room};
 ghost use Rattle.machine.specs.Regions.{Fits};
 ghost use Rattle.machine.specs.Steps.{Puts, Pushes, Enters};
 use crate::Machine;
 use crate::Stepped;
+use crate::layout::MOST_BINDINGS;
 use crate::layout::MOST_CONTROL_ENTRIES;
 use crate::layout::MOST_VALUE_ENTRIES;
 use crate::memory::put_control;
 use crate::memory::put_value;
 use crate::reasons;
 
-// The number of the reason for which a step that leaves so many entries on the stacks is withheld; 0 where there is room for them. Which of
-// two full stacks is named stands here alone.
-pub fn full_stack(values: usize, control: usize) -> u64
-    ensures { λ r. ⌜ r ≡ full-stack values control ⌝ }
+// The number of the reason for which a step that leaves so many live bindings and so many entries on the stacks is withheld; 0 where there is
+// room for them. Which of several reasons is named stands here alone.
+pub fn reason_of_room(bindings: usize, values: usize, control: usize) -> u64
+    ensures { λ r. ⌜ r ≡ reason-of-room bindings values control ⌝ }
 {
+    if MOST_BINDINGS < bindings {
+        return reasons::BINDINGS;
+    }
     if MOST_CONTROL_ENTRIES < control {
         return reasons::CONTROL_ENTRIES;
     }
@@ -88,9 +92,9 @@ pub fn enter(work: &mut [u64], m: Machine, payload: u64, below: u64, top: u64) -
     requires { ⌜ Fits (now work) m ⌝ }
     ensures { λ r. ⌜ Enters (now (work .entry)) m payload (top ∷ below ∷ []) r (now (work .exit)) ⌝ }
 {
-    let full = full_stack(m.values + 1, m.control + 2);
-    if full != 0 {
-        return Stepped::Withheld(full);
+    let reason = reason_of_room(m.bindings, m.values + 1, m.control + 2);
+    if reason != 0 {
+        return Stepped::Withheld(reason);
     }
     let under = put_value(work, m, 0, payload);
     let first = put_control(work, under, below);

@@ -21,7 +21,7 @@ use Rattle.machine.specs.Steps.{StepAnswer, Applicable, Steps}
 use Rattle.machine.specs.declared.Machine.{Machine}
 use Rattle.machine.specs.declared.Stepped.the-variants.{Made, Withheld}
 use Rattle.machine.proofs.memory_laws.RegionLaws.{slots-length}
-use Rattle.machine.specs.Room.{full-stack}
+use Rattle.machine.specs.Room.{reason-of-room}
 use Rattle.machine.proofs.state_laws.ModelLaws.{with-items, beside-sizes, sizes, step-made, step-withheld-for-room}
 use Rattle.machine.proofs.stack_laws.SharedLaws.{Put, put-regions, value-fits}
 use Rattle.machine.proofs.stack_laws.RoomLaws.{Room, room-after}
@@ -96,15 +96,15 @@ opened-fits f = record { room = f .room; few-control = f .few-control; few-value
 
 -- ---- The answers.
 
-pub block-withheld : (words : List ℕ) (m : Machine) (i full : ℕ) → full ≡ full-stack (m .values + 1) (m .control + 4) → (full ≡ 0 → ⊥) →
-    (d : Declaration) (c : Command) → Steps words m i (command (block (Blk i d c))) (Withheld full) words
-block-withheld words m i full is full-there d c C X E S L n rule f ready =
+pub block-withheld : (words : List ℕ) (m : Machine) (i reason : ℕ) → reason ≡ reason-of-room (m .bindings) (m .values + 1) (m .control + 4) → (reason ≡ 0 → ⊥) →
+    (d : Declaration) (c : Command) → Steps words m i (command (block (Blk i d c))) (Withheld reason) words
+block-withheld words m i reason is some-reason d c C X E S L n rule f ready =
     let t = command-top (regions words m) i (block (Blk i d c)) (ready .models) in
     let z = sizes words m (with-items (t .control-as) (t .rest)) in
     let fits = ready .fits in
-    subst (λ g. StepAnswer (judge false g) (Withheld full) words words) (block-effect (ready .applies))
-    (step-withheld-for-room words (declaration d ∷ mark extend-mark ∷ command c ∷ mark (leave-mark i n) ∷ C) (locations L ∷ X) E S [] n (m .values + 1) (m .control + 4) full
-    (omega (arith, z .values-height)) (omega (arith, z .control-height)) (omega (arith, z .cells-height, fits .few-cells)) (omega (arith, z .bindings-height, fits .few-bindings)) is full-there)
+    subst (λ g. StepAnswer (judge false g) (Withheld reason) words words) (block-effect (ready .applies))
+    (step-withheld-for-room words (declaration d ∷ mark extend-mark ∷ command c ∷ mark (leave-mark i n) ∷ C) (locations L ∷ X) E S [] n (m .bindings) (m .values + 1) (m .control + 4) reason
+    (omega (arith, z .bindings-height)) (omega (arith, z .values-height)) (omega (arith, z .control-height)) (omega (arith, z .cells-height, fits .few-cells)) is some-reason)
 
 -- What `enter_block` does.
 module _ (words : List ℕ) (m : Machine) (fits : Fits words m) (few : m .values + 1 ≤ most-value-entries) (low : m .control + 4 ≤ most-control-entries) (saved : List ℕ) (u : Machine) (q : u ≡ raised-values m)

@@ -1,30 +1,28 @@
 -- Call's mark: what it finds on the stacks and in the closure, and when its step is withheld.
-use Prim.Native.Nat.{ℕ, zero, suc, _+_, _-_, _*_, _/_, _%_, _<_, _≤_}
+use Prim.Native.Nat.{ℕ, suc, _+_, _-_, _*_, _/_, _%_, _<_, _≤_}
 use mathlib.Core.Path.{_≡_, refl, sym, ap, _∙_, subst}
 use mathlib.Core.List.{List, [], _∷_}
 use mathlib.Core.Option.{some}
 use native.Mathlib.Omega.{arith}
-use lib.ListN.{length, getD}
+use lib.ListN.{getD}
 use Rattle.rules.specs.paper.Tree.{Formal, Block, block, Abs}
-use Rattle.rules.specs.paper.Limits.{names, most-parameters, most-nodes, most-bindings}
-use Rattle.rules.specs.paper.Refusals.{Bindings, reason-number}
-use Rattle.rules.specs.paper.States.{Bindable, closure, Environment, lookup, Store, Entry, environment, locations, call-mark, leave-mark, Item, command, mark, State, state}
+use Rattle.rules.specs.paper.Limits.{names, most-parameters, most-nodes}
+use Rattle.rules.specs.paper.States.{Bindable, closure, Environment, lookup, Store, Entry, environment, locations, call-mark, leave-mark, Item, command, mark, state}
 use Rattle.rules.specs.paper.Rules.{Rule, Effect, goes, Table, call-at, Matched, match-formals}
 use Rattle.machine.specs.Layout.{row-labels, row-payloads, closure-unit, carried-unit, count-unit, call-word}
 use Rattle.reader.specs.Stored.{StoredFormals, StoredBlock, StoredBound, abs}
 use Rattle.machine.specs.Regions.{Slot, Regions, regions, Fits, with-control}
-use Rattle.machine.specs.Represents.{SegmentAs, BindableAs, closure-as, Extends, no-more, Mode, running, ControlAs, call-on, ValuesAs, Models}
+use Rattle.machine.specs.Represents.{SegmentAs, BindableAs, closure-as, no-more, Mode, running, ControlAs, call-on, ValuesAs, Models}
 use Rattle.machine.specs.Lookup.{RowOf}
-use Rattle.machine.specs.Steps.{Ready, Applicable, Steps}
+use Rattle.machine.specs.Steps.{Ready, Steps}
 use Rattle.frames.specs.Formals.{Binding, CanBind}
 use Rattle.machine.specs.declared.Machine.{Machine}
 use Rattle.machine.specs.declared.Stepped.the-variants.{Withheld}
-use Rattle.machine.specs.Room.{full-stack}
-use Rattle.machine.proofs.state_laws.JudgeLaws.{judged-bindings}
-use Rattle.machine.proofs.state_laws.ModelLaws.{with-items, Sizes, sizes, step-withheld, step-withheld-for-room}
+use Rattle.machine.specs.Room.{reason-of-room}
+use Rattle.machine.proofs.state_laws.ModelLaws.{with-items, sizes, step-withheld-for-room}
 use Rattle.machine.proofs.state_laws.ItemLaws.{rest-of}
 use Rattle.frames.proofs.frame_laws.FrameLaws.{pointed, with-pointers, answered, environment-is, rows-height}
-use Rattle.frames.proofs.call_laws.FormalsLaws.{formals-end, Counted, counted}
+use Rattle.frames.proofs.call_laws.FormalsLaws.{formals-end, counted}
 
 -- ---- A closure.
 
@@ -120,14 +118,6 @@ module _ (words : List ℕ) (m : Machine) where
   -- ---- Limits.
 
   module _ (w : ℕ) where
-    pub call-bindings-withheld : most-bindings < m .bindings + w / count-unit → (p x k : ℕ) → Steps words m w (mark (call-mark p x k)) (Withheld 34) words
-    unfolding reason-number
-    call-bindings-withheld over p x k C X E S L n r e ready =
-        let top = call-top w p x k ready in
-        let z = sizes words m (top .models) in
-        answered (Withheld 34) words words (top .effect-is)
-        (step-withheld words Bindings _ _ (judged-bindings _ _ _ _ _ _ (omega (arith, z .cells-height, ready .fits .few-cells)) (omega (arith, z .bindings-height, call-numbers w p x k ready .count-is, over))) refl)
-
     -- The actuals are on the value stack.
     pub call-actuals : (p x k : ℕ) {C : List Item} {X : List Entry} {E : Environment} {S : Store} {L : List ℕ} {n : ℕ} {r : Rule} {e : Effect} → Ready words m w (mark (call-mark p x k)) C X E S L n r e → w / count-unit ≤ m .values
     call-actuals p x k {X = X} ready =
@@ -136,16 +126,17 @@ module _ (words : List ℕ) (m : Machine) where
         let count = counted k (top .formals) X (top .definition) (top .matched) (top .matches) in
         omega (arith, z .values-height, count .entries-count, call-numbers w p x k ready .count-is)
 
-    pub call-withheld-for-room : (full : ℕ) → m .bindings + w / count-unit ≤ most-bindings → full ≡ full-stack (m .values - w / count-unit + 2) (m .control + 2) → (full ≡ 0 → ⊥) →
-        (p x k : ℕ) → Steps words m w (mark (call-mark p x k)) (Withheld full) words
-    call-withheld-for-room full free is full-there p x k C X E S L n r e ready =
+    pub call-withheld : (reason : ℕ) → reason ≡ reason-of-room (m .bindings + w / count-unit) (m .values - w / count-unit + 2) (m .control + 2) → (reason ≡ 0 → ⊥) →
+        (p x k : ℕ) → Steps words m w (mark (call-mark p x k)) (Withheld reason) words
+    call-withheld reason is some-reason p x k C X E S L n r e ready =
         let top = call-top w p x k ready in
         let z = sizes words m (top .models) in
         let count = counted k (top .formals) X (top .definition) (top .matched) (top .matches) in
-        answered (Withheld full) words words (top .effect-is)
-        (step-withheld-for-room words _ _ _ _ _ _ (m .values - w / count-unit + 2) (m .control + 2) full
-        (omega (arith, z .values-height, count .entries-count, call-numbers w p x k ready .count-is)) (omega (arith, z .control-height))
-        (omega (arith, z .cells-height, ready .fits .few-cells)) (omega (arith, z .bindings-height, call-numbers w p x k ready .count-is, free)) is full-there)
+        let numbers = call-numbers w p x k ready in
+        answered (Withheld reason) words words (top .effect-is)
+        (step-withheld-for-room words _ _ _ _ _ _ (m .bindings + w / count-unit) (m .values - w / count-unit + 2) (m .control + 2) reason
+        (omega (arith, z .bindings-height, numbers .count-is)) (omega (arith, z .values-height, count .entries-count, numbers .count-is)) (omega (arith, z .control-height))
+        (omega (arith, z .cells-height, ready .fits .few-cells)) is some-reason)
 
   -- ---- The closure in its row, and its Formals.
 

@@ -9,7 +9,7 @@ use Rattle.rules.specs.paper.Refusals.{ValueEntries, ControlEntries, reason-num
 use Rattle.rules.specs.paper.States.{Environment, Store, Entry, bindable, Item, state}
 use Rattle.rules.specs.paper.Rules.{goes}
 use Rattle.rules.specs.paper.Run.{judge}
-use Rattle.machine.specs.Room.{full-stack}
+use Rattle.machine.specs.Room.{reason-of-room}
 use Rattle.rules.specs.paper.Limits.{most-value-entries, most-control-entries}
 use Rattle.machine.specs.Regions.{Slot, slot, regions, Fits, with-control, with-controls, with-values, raised-control, raised-values}
 use Rattle.machine.specs.Represents.{Mode, ControlAs, bindable-on, Beside, Models}
@@ -82,13 +82,12 @@ module _ (words : List ℕ) (m : Machine) (f : Fits words m) where
   pub puts-made : (new : List ℕ) (after : List ℕ) (t : Machine) → Fits after t → regions after t ≡ with-controls (new ++ regions words m .control) (regions words m) → Puts words m new (Made t) after
   puts-made new after t fits e C X E S L n mode b h = grown-control after t (new ++ regions words m .control) C X E S L n mode b h fits e
 
-  -- An entry of each stack more than there is room for.
-  pub enter-withheld : (payload : ℕ) (new : List ℕ) (full : ℕ) → full ≡ full-stack (m .values + 1) (m .control + length new) → (full ≡ 0 → ⊥) → Enters words m payload new (Withheld full) words
-  enter-withheld payload new full is full-there C X E S L n x mode b h g =
+  -- More than there is room for.
+  pub enter-withheld : (payload : ℕ) (new : List ℕ) (reason : ℕ) → reason ≡ reason-of-room (m .bindings) (m .values + 1) (m .control + length new) → (reason ≡ 0 → ⊥) → Enters words m payload new (Withheld reason) words
+  enter-withheld payload new reason is some-reason C X E S L n x mode b h g =
       let z = beside-sizes words m b in
-      step-withheld-for-room words C (x ∷ X) E S L n (m .values + 1) (m .control + length new) full (omega (arith, z .values-height))
-      (omega (arith, control-size h, length-append new (regions words m .control), control-height words m))
-      (omega (arith, z .cells-height, f .few-cells)) (omega (arith, z .bindings-height, f .few-bindings)) is full-there
+      step-withheld-for-room words C (x ∷ X) E S L n (m .bindings) (m .values + 1) (m .control + length new) reason (omega (arith, z .bindings-height)) (omega (arith, z .values-height))
+      (omega (arith, control-size h, length-append new (regions words m .control), control-height words m)) (omega (arith, z .cells-height, f .few-cells)) is some-reason
 
   pub enter-made : (payload : ℕ) (new : List ℕ) (after : List ℕ) (t : Machine) → Fits after t →
       regions after t ≡ with-controls (new ++ regions words m .control) (with-values (slot 0 payload ∷ regions words m .values) (regions words m)) → Enters words m payload new (Made t) after

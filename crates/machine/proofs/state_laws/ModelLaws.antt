@@ -11,7 +11,7 @@ use Rattle.rules.specs.paper.Rules.{goes}
 use Rattle.rules.specs.paper.Run.{Verdict, made, withheld, judge}
 use Rattle.rules.specs.paper.Limits.{most-cells, most-bindings, most-value-entries, most-control-entries}
 use Rattle.machine.specs.Layout.{control-from, value-payloads, value-labels, row-labels, row-payloads, cell-payloads, cell-labels}
-use Rattle.machine.specs.Room.{full-stack}
+use Rattle.machine.specs.Room.{reason-of-room}
 use Rattle.machine.specs.Regions.{stack, Slot, slots, Regions, regions, Fits}
 use Rattle.machine.specs.Represents.{StoreAs, no-cell, one-cell, Mode, ControlAs, nothing-left, expression-on, command-on, declaration-on, reference-on, abstraction-on, operator-on, not-on, assign-on, loop-on, conditional-on, ref-on, bind-on, dseq-extend-on, dseq-join-on, extend-on, leave-on, call-on, ValuesAs, nothing-on, bindable-on, name-on, node-on, declared-on, saved-on, opened-on, frame-on, Beside, Models}
 use Rattle.machine.specs.Steps.{Stands, Untouched, IsMade, IsWithheld, StepAnswer}
@@ -19,7 +19,7 @@ use Rattle.machine.specs.declared.Machine.{Machine}
 use Rattle.machine.specs.declared.Stepped.{Stepped}
 use Rattle.machine.specs.declared.Stepped.the-variants.{Made, Withheld}
 use Rattle.machine.proofs.memory_laws.RegionLaws.{stack-length, slots-length}
-use Rattle.machine.proofs.state_laws.JudgeLaws.{judged-made, judged-full}
+use Rattle.machine.proofs.state_laws.JudgeLaws.{judged-made, judged-over}
 
 -- ---- Sizes.
 
@@ -125,13 +125,16 @@ step-made before after m m′ r C X E S L n q f μ a b c =
 pub step-withheld : (words : List ℕ) (x : Reason) (v : Verdict) (r : Stepped) → v ≡ withheld x → r ≡ Withheld (reason-number x) → StepAnswer v r words words
 step-withheld words x v r q a = subst (λ w. StepAnswer w r words words) (sym q) (record { answer = a; unchanged = refl })
 
--- The step leaves no room on a stack: it is withheld for the number that the code has for it.
-pub step-withheld-for-room : (words : List ℕ) (C : List Item) (X : List Entry) (E : Environment) (S : Store) (L : List ℕ) (n values control full : ℕ) →
-    values ≡ length X → control ≡ length C → length S ≤ most-cells → n ≤ most-bindings → full ≡ full-stack values control → (full ≡ 0 → ⊥) →
-    StepAnswer (judge false (goes (state C X E S L n))) (Withheld full) words words
-step-withheld-for-room words C X E S L n values control full p q cells bindings is full-there =
-    let j = judged-full C X E S L n values control p q cells bindings (λ z. full-there (is ∙ z)) in
-    step-withheld words (j .0) _ _ (j .1) (ap Withheld (is ∙ j .2))
+-- The step leaves more bindings or entries than there is room for: it is withheld for the number that the code has for it.
+pub step-withheld-for-room : (words : List ℕ) (C : List Item) (X : List Entry) (E : Environment) (S : Store) (L : List ℕ) (n bindings values control reason : ℕ) →
+    bindings ≡ n → values ≡ length X → control ≡ length C → length S ≤ most-cells → reason ≡ reason-of-room bindings values control → (reason ≡ 0 → ⊥) →
+    StepAnswer (judge false (goes (state C X E S L n))) (Withheld reason) words words
+step-withheld-for-room words C X E S L n bindings values control reason b v c cells is some-reason =
+    let j = judged-over C X E S L n cells (λ z. some-reason (is ∙ sizes-are ∙ z)) in
+    step-withheld words (j .0) _ _ (j .1) (ap Withheld (is ∙ sizes-are ∙ j .2))
+  where
+    sizes-are : reason-of-room bindings values control ≡ reason-of-room n (length X) (length C)
+    sizes-are = rw (b, v, c) refl
 
 -- The words have room as long as none is added or lost.
 pub fits-still : (before after : List ℕ) (m m′ : Machine) → Fits before m → regions after m′ .size ≡ regions before m .size →

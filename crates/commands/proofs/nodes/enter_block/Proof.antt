@@ -2,7 +2,7 @@
 use Prim.Native.Nat.{_+_, _≤_}
 use mathlib.Core.Path.{sym, _∙_}
 use native.Mathlib.Omega.{arith}
-use Rattle.rules.specs.paper.Limits.{most-value-entries, most-control-entries}
+use Rattle.rules.specs.paper.Limits.{most-bindings, most-value-entries, most-control-entries}
 use Rattle.machine.proofs.state_laws.JudgeLaws.{room-left}
 use Rattle.machine.proofs.stack_laws.RoomLaws.{Room, room-for, room-after, was-put}
 use Rattle.commands.proofs.command_laws.CommandLaws.{command-low}
@@ -14,17 +14,17 @@ use Rattle.commands.proofs.nodes.enter_block.Reads as reads
 use Rattle.commands.proofs.nodes.enter_block.Lts as lts
 use Rattle.machine.proofs.memory.put_control.Reads as put-control-reads
 use Rattle.machine.proofs.memory.put_value.Reads as put-value-reads
-use Rattle.machine.proofs.stacks.full_stack.Reads as full-stack-reads
+use Rattle.machine.proofs.stacks.reason_of_room.Reads as reason-of-room-reads
 use Rattle.reader.proofs.end.Reads as end-reads
 
 abbrev claims : lts.Claims
-claims = (full-stack-reads.Asked, full-stack-reads.Learnt, end-reads.Asked, end-reads.Learnt, put-value-reads.Asked, put-value-reads.Learnt, put-control-reads.Asked, put-control-reads.Learnt)
+claims = (reason-of-room-reads.Asked, reason-of-room-reads.Learnt, end-reads.Asked, end-reads.Learnt, put-value-reads.Asked, put-value-reads.Learnt, put-control-reads.Asked, put-control-reads.Learnt)
 
 -- Both stacks have room for what is put on them.
 left : (c : lts.Else1 claims reads.Pre reads.Post) →
     let m = c .before .before .before .before .before .args .m in
-    (m .values + 1 ≤ most-value-entries) × (m .control + 4 ≤ most-control-entries)
-left c = room-left _ _ (sym (c .before .full-stack .ensures) ∙ c .if1 .left)
+    (m .values + 1 ≤ most-value-entries) × (m .control + 4 ≤ most-control-entries) × (m .bindings ≤ most-bindings)
+left c = room-left _ _ _ (sym (c .before .reason-of-room .ensures) ∙ c .if1 .left)
 
 -- The room on control, which the four entries take up one by one.
 room : (c : lts.After-put-value claims reads.Pre reads.Post) → Room 4 (c .put-value .last .0) (opened (c .put-value .result))
@@ -43,17 +43,17 @@ second-room c = room-after 2 (first-room (c .before .before .before .before)) (w
 third-room : (c : lts.After-put-control3 claims reads.Pre reads.Post) → Room 1 (c .put-control3 .last .0) (c .put-control3 .result)
 third-room c = room-after 1 (second-room (c .before .before .before .before)) (was-put (c .put-control3 .ensures))
 
-add-full-stack : tie.Need-add-full-stack
-add-full-stack c = search needs
+add-reason-of-room : tie.Need-add-reason-of-room
+add-reason-of-room c = search needs
 
-add-full-stack-2 : tie.Need-add-full-stack-2
-add-full-stack-2 c = search needs
+add-reason-of-room-2 : tie.Need-add-reason-of-room-2
+add-reason-of-room-2 c = search needs
 
-full-stack-requires : tie.Need-full-stack-requires
-full-stack-requires c κs = search needs
+reason-of-room-requires : tie.Need-reason-of-room-requires
+reason-of-room-requires c κs = search needs
 
 returns : tie.Need-returns
-returns c = block-withheld _ _ _ _ (c .before .full-stack .ensures) (c .if1 .taken)
+returns c = block-withheld _ _ _ _ (c .before .reason-of-room .ensures) (c .if1 .taken)
 
 add-end : tie.Need-add-end
 add-end c = record { fits = omega (arith, command-low _ _ _ _ (c .before .before .before .before .before .before .pre .2)) }
@@ -113,9 +113,9 @@ pub enter-block-spec : {M : Type 1} → statement M
 enter-block-spec =
     tie.close
     (tie.spec
-    add-full-stack
-    add-full-stack-2
-    full-stack-requires
+    add-reason-of-room
+    add-reason-of-room-2
+    reason-of-room-requires
     returns
     add-end
     end-requires

@@ -1,11 +1,10 @@
--- enter: an entry of the value stack and two of control, or the full stack's reason.
-use Prim.Native.Nat.{_+_, _<_, _≤_}
-use mathlib.Core.Path.{_≡_, sym, ap, _∙_}
+-- enter: an entry of the value stack and two of control, or the reason of room.
+use Prim.Native.Nat.{_+_, _≤_}
+use mathlib.Core.Path.{sym, ap, _∙_}
 use mathlib.Core.List.{[], _∷_}
 use native.Mathlib.Omega.{arith}
-use denote.Ref.{now}
 use Rattle.machine.specs.Regions.{with-control}
-use Rattle.rules.specs.paper.Limits.{most-value-entries, most-control-entries}
+use Rattle.rules.specs.paper.Limits.{most-bindings, most-value-entries, most-control-entries}
 use Rattle.machine.proofs.state_laws.JudgeLaws.{room-left}
 use Rattle.machine.proofs.stack_laws.SharedLaws.{put-regions, value-fits, value-regions, enter-withheld, enter-made}
 use Rattle.machine.proofs.stack_laws.RoomLaws.{Room, room-for, room-after, was-put}
@@ -16,16 +15,16 @@ use Rattle.machine.proofs.stacks.enter.Reads as reads
 use Rattle.machine.proofs.stacks.enter.Lts as lts
 use Rattle.machine.proofs.memory.put_control.Reads as put-control-reads
 use Rattle.machine.proofs.memory.put_value.Reads as put-value-reads
-use Rattle.machine.proofs.stacks.full_stack.Reads as full-stack-reads
+use Rattle.machine.proofs.stacks.reason_of_room.Reads as reason-of-room-reads
 
 abbrev claims : lts.Claims
-claims = (full-stack-reads.Asked, full-stack-reads.Learnt, put-value-reads.Asked, put-value-reads.Learnt, put-control-reads.Asked, put-control-reads.Learnt)
+claims = (reason-of-room-reads.Asked, reason-of-room-reads.Learnt, put-value-reads.Asked, put-value-reads.Learnt, put-control-reads.Asked, put-control-reads.Learnt)
 
 -- Both stacks have room for what is put on them.
 left : (c : lts.Else1 claims reads.Pre reads.Post) →
     let m = c .before .before .before .before .before .args .m in
-    (m .values + 1 ≤ most-value-entries) × (m .control + 2 ≤ most-control-entries)
-left c = room-left _ _ (sym (c .before .full-stack .ensures) ∙ c .if1 .left)
+    (m .values + 1 ≤ most-value-entries) × (m .control + 2 ≤ most-control-entries) × (m .bindings ≤ most-bindings)
+left c = room-left _ _ _ (sym (c .before .reason-of-room .ensures) ∙ c .if1 .left)
 
 -- The room on control, which the two entries take up one by one.
 room : (c : lts.After-put-value claims reads.Pre reads.Post) → Room 2 (c .put-value .last .0) (c .put-value .result)
@@ -38,19 +37,19 @@ room c =
 first-room : (c : lts.After-put-control claims reads.Pre reads.Post) → Room 1 (c .put-control .last .0) (c .put-control .result)
 first-room c = room-after 1 (room (c .before .before .before .before)) (was-put (c .put-control .ensures))
 
-add-full-stack : tie.Need-add-full-stack
-add-full-stack c = search needs
+add-reason-of-room : tie.Need-add-reason-of-room
+add-reason-of-room c = search needs
 
-add-full-stack-2 : tie.Need-add-full-stack-2
-add-full-stack-2 c = search needs
+add-reason-of-room-2 : tie.Need-add-reason-of-room-2
+add-reason-of-room-2 c = search needs
 
-full-stack-requires : tie.Need-full-stack-requires
-full-stack-requires c κs = search needs
+reason-of-room-requires : tie.Need-reason-of-room-requires
+reason-of-room-requires c κs = search needs
 
 returns : tie.Need-returns
 returns c =
     let start = c .before .before .before .before .before in
-    enter-withheld _ _ (start .pre) _ (start .args .top ∷ start .args .below ∷ []) _ (c .before .full-stack .ensures) (c .if1 .taken)
+    enter-withheld _ _ (start .pre) _ (start .args .top ∷ start .args .below ∷ []) _ (c .before .reason-of-room .ensures) (c .if1 .taken)
 
 put-value-requires : tie.Need-put-value-requires
 put-value-requires c κs = (c .before .before .before .before .before .before .pre, omega (arith, left (c .before) .0))
@@ -80,9 +79,9 @@ pub enter-spec : {M : Type 1} → statement M
 enter-spec =
     tie.close
     (tie.spec
-    add-full-stack
-    add-full-stack-2
-    full-stack-requires
+    add-reason-of-room
+    add-reason-of-room-2
+    reason-of-room-requires
     returns
     put-value-requires
     put-control-requires

@@ -4,16 +4,16 @@ use mathlib.Core.Path.{_≡_, refl, sym, ap, _∙_, subst}
 use mathlib.Core.Logic.{_⊎_, inl, inr}
 use mathlib.Core.Bool.{Bool, true, false, cond}
 use mathlib.Core.List.{List, [], _∷_}
-use mathlib.Core.Option.{Option, none, some, Option·some-injective, Option·some-ne-none, Option·none-ne-some}
-use lib.Dec.{T, eqb, ltb, eqb→eq, eqb-refl, ltb→lt, lt→ltb}
+use mathlib.Core.Option.{Option, none, some, Option·some-injective, Option·some-ne-none}
+use lib.Dec.{T, eqb, eqb→eq, eqb-refl, ltb→lt, lt→ltb}
 use lib.ListN.{length}
 use Rattle.rules.specs.proofs.Basics.{missing, passed-test, failed-test}
 use Rattle.rules.specs.paper.Limits.{most-cells, most-bindings, most-value-entries, most-control-entries}
 use Rattle.rules.specs.paper.Refusals.{Reason, Steps, ZeroDivisor, OutOfRange, Cells, Bindings, ValueEntries, ControlEntries, reason-number}
-use Rattle.rules.specs.paper.States.{State, control-of, values-of, store-of, bindings-of}
+use Rattle.rules.specs.paper.States.{control-of, values-of, store-of, bindings-of}
 use Rattle.rules.specs.paper.Rules.{Effect, goes, fails}
 use Rattle.rules.specs.claims.Claim.{ReasonHolds, budget-used, divisor-zero, result-outside, cells-full, bindings-full, values-full, control-full, FirstOf, at-front, behind}
-use Rattle.rules.specs.paper.Run.{same-reason, priority, holds, first-holding, Verdict, made, withheld, settle, judge}
+use Rattle.rules.specs.paper.Run.{same-reason, priority, holds, first-holding, withheld, settle, judge}
 
 abbrev InList : Reason → List Reason → Type 0
 InList r [] = ⊥

@@ -1,8 +1,8 @@
 -- The order of the reasons and the order before it withhold exactly the same steps (claims/Order.antt).
 use Prim.Native.Nat.{ℕ, zero, suc}
 use mathlib.Core.Path.{_≡_, refl, _∙_, subst}
-use mathlib.Core.Bool.{Bool, true, false, not, cond}
-use mathlib.Core.List.{List, [], _∷_}
+use mathlib.Core.Bool.{Bool, true, false, not}
+use mathlib.Core.List.{[], _∷_}
 use mathlib.Core.Option.{Option, none, some, Option·some-injective}
 use lib.Dec.{T}
 use Rattle.rules.specs.proofs.Basics.{passed-test, failed-test}
@@ -10,7 +10,7 @@ use Rattle.rules.specs.paper.Refusals.{Reason, Steps, ZeroDivisor, OutOf
 use Rattle.rules.specs.paper.States.{State, state}
 use Rattle.rules.specs.paper.Rules.{Rule, Effect, goes, fails, Applies}
 use Rattle.rules.specs.paper.Fire.{Firing, stuck, fires, fire}
-use Rattle.rules.specs.paper.Run.{same-reason, priority, holds, first-holding, Verdict, made, withheld, settle, judge, Ending, proceed, attempt, run}
+use Rattle.rules.specs.paper.Run.{same-reason, priority, holds, first-holding, Verdict, settle, judge, Ending, proceed, attempt, run}
 use Rattle.rules.specs.claims.Order.{by-number, judge-by-number, attempt-by-number, run-by-number, BothStacksFull, SameStep, both-make, both-withhold, control-named, SameStepsWithheld, SameEnding, both-end, both-stop, stopped-for-control, both-lost, SameRuns}
 use Rattle.rules.specs.proofs.running.FireExact.{fires→applies}
 
@@ -19,6 +19,16 @@ use Rattle.rules.specs.proofs.running.FireExact.{fires→applies}
 other-than-values : (x : Reason) → T (not (same-reason x ValueEntries)) → x ≡ ValueEntries → ⊥
 unfolding reason-number
 other-than-values x t q = subst (λ y. T (not (same-reason y ValueEntries))) q t
+
+-- The reasons that hold, by the answer to each test.
+abbrev answers : (steps divisor range cells bindings control values : Bool) → Reason → Bool
+answers steps divisor range cells bindings control values Steps = steps
+answers steps divisor range cells bindings control values ZeroDivisor = divisor
+answers steps divisor range cells bindings control values OutOfRange = range
+answers steps divisor range cells bindings control values Cells = cells
+answers steps divisor range cells bindings control values Bindings = bindings
+answers steps divisor range cells bindings control values ControlEntries = control
+answers steps divisor range cells bindings control values ValueEntries = values
 
 module _ (spent : Bool) where
   -- where the two orders find one reason, or none
@@ -37,12 +47,11 @@ module _ (spent : Bool) where
     for : (x : Reason) → T (not (same-reason x ValueEntries)) → SameStep spent e (settle e (some x)) (settle e (some x))
     for x t = alike e (some x) (λ y full q same. other-than-values x t (Option·some-injective x y q ∙ same))
 
-    -- the tests one by one, in both orders
+    -- the tests one by one, with either order's answer
     asked : (steps divisor range cells bindings control values : Bool) → holds spent e ControlEntries ≡ control → holds spent e ValueEntries ≡ values →
-        SameStep spent e
-        (settle e (cond steps (some Steps) (cond divisor (some ZeroDivisor) (cond range (some OutOfRange) (cond cells (some Cells) (cond bindings (some Bindings) (cond control (some ControlEntries) (cond values (some ValueEntries) none))))))))
-        (settle e (cond steps (some Steps) (cond divisor (some ZeroDivisor) (cond range (some OutOfRange) (cond cells (some Cells) (cond bindings (some Bindings) (cond values (some ValueEntries) (cond control (some ControlEntries) none))))))))
-    unfolding reason-number
+        SameStep spent e (settle e (first-holding (answers steps divisor range cells bindings control values) priority))
+        (settle e (first-holding (answers steps divisor range cells bindings control values) by-number))
+    unfolding priority by-number first-holding reason-number
     asked true _ _ _ _ _ _ p q = for Steps tt
     asked false true _ _ _ _ _ p q = for ZeroDivisor tt
     asked false false true _ _ _ _ p q = for OutOfRange tt

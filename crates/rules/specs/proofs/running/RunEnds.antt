@@ -6,13 +6,13 @@ use mathlib.Core.List.{List, [], _∷_}
 use mathlib.Core.Option.{Option, none, some}
 use native.Mathlib.Omega.{arith}
 use native.Mathlib.Nat.{add-zero, zero-add}
-use lib.Dec.{T, eqb, eqb→eq, eqb-refl, lit≤, lit<}
+use lib.Dec.{T, eqb, eqb→eq, eqb-refl, lit≤}
 use lib.IntN.{ℤ}
 use lib.ListN.{length}
 use Rattle.rules.specs.proofs.Basics.{passed-test, failed-test, false-test, cons-not-empty}
 use Rattle.rules.specs.paper.Tree.{Root}
 use Rattle.rules.specs.paper.Tree as Tree
-use Rattle.rules.specs.paper.Refusals.{Reason, Steps, ZeroDivisor, OutOfRange, Cells, Bindings, ValueEntries, ControlEntries, reason-number}
+use Rattle.rules.specs.paper.Refusals.{Reason, Steps, Cells, Bindings, ValueEntries, ControlEntries}
 use Rattle.rules.specs.paper.Limits.{most-cells, most-bindings, most-value-entries, most-control-entries, most-registers}
 use Rattle.rules.specs.paper.Checker.{code, Passed, expression-of-code, a-command}
 use Rattle.rules.specs.paper.States.{Value, integer, Bindable, Environment, Store, find, Entry, bindable, val, State, state, control-of, values-of, environment-of, store-of, bindings-of}
