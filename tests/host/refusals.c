@@ -278,6 +278,9 @@ static void test_limits(void)
         {"a 513th value entry", {16, 14, 1, 0, 0, 0}, PI_REFUSAL_VALUES, 1229},
         {"512 control entries", {10, 1, 1, 0, 48, 0}, PI_REFUSAL_NONE, 2073},
         {"a 513th control entry", {11, 1, 1, 0, 44, 0}, PI_REFUSAL_CONTROL, 610},
+        /* A call has filled the value stack; its function's Blk would put 4 entries on control. */
+        {"a 513th value entry at a function's Blk", {13, 21, 1, 0, 22, 0}, PI_REFUSAL_VALUES, 1486},
+        {"a 513th entry on both stacks", {13, 21, 1, 0, 23, 0}, PI_REFUSAL_CONTROL, 1497},
         /* With two names a Blk has a DSeq. */
         {"a 513th value entry in a second declaration", {15, 15, 2, 0, 0, 0}, PI_REFUSAL_VALUES, 2576},
         {"a 513th control entry at a DSeq", {13, 1, 2, 0, 39, 0}, PI_REFUSAL_CONTROL, 692},
@@ -290,6 +293,11 @@ static void test_limits(void)
         tree_of_tower(&tree, &towers[index].tower);
         call = call_of_tree();
         expect(&call, towers[index].refusal, 0, towers[index].steps);
+        /* Where no step is left either, that is said first. */
+        if (towers[index].refusal != PI_REFUSAL_NONE) {
+            call.budget = towers[index].steps;
+            expect(&call, PI_REFUSAL_STEPS, 0, towers[index].steps);
+        }
         test_end();
     }
 }

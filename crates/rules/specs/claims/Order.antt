@@ -1,14 +1,15 @@
 -- The order of the reasons and the order before it, which was by number, so 35 before 36 (document 02, request 6): exactly the same steps
 -- are withheld, a run ends in the same state after the same steps, and what differs is that 36 is named where 35 was and both hold. This
 -- file names the automaton's definitions and nothing of the proof. proofs/running/Order.antt proves it.
-use Prim.Native.Nat.{ℕ, zero, suc}
+use Prim.Native.Nat.{ℕ, zero, suc, _<_}
 use mathlib.Core.Path.{_≡_}
 use mathlib.Core.Bool.{Bool, false}
 use mathlib.Core.List.{List, [], _∷_}
-use lib.Dec.{T}
+use lib.ListN.{length}
 use Rattle.rules.specs.paper.Refusals.{Reason, Steps, ZeroDivisor, OutOfRange, Cells, Bindings, ValueEntries, ControlEntries}
-use Rattle.rules.specs.paper.States.{State, state}
-use Rattle.rules.specs.paper.Rules.{Rule, Effect, Applies}
+use Rattle.rules.specs.paper.Limits.{most-value-entries, most-control-entries}
+use Rattle.rules.specs.paper.States.{State, state, control-of, values-of}
+use Rattle.rules.specs.paper.Rules.{Rule, Effect, goes, fails, Applies}
 use Rattle.rules.specs.paper.Fire.{Firing, stuck, fires, fire}
 use Rattle.rules.specs.paper.Run.{holds, first-holding, Verdict, made, withheld, settle, judge, Ending, ended, stopped, lost, proceed, run}
 
@@ -33,28 +34,30 @@ run-by-number (suc left) k (state (i ∷ C) X E S L n) =
 
 -- ---- One step.
 
-abbrev pub BothStacksFull : (spent : Bool) → Effect → Type 0
-BothStacksFull spent e = T (holds spent e ValueEntries) × T (holds spent e ControlEntries)
+-- Both 35 and 36 hold: the state after the step has a 513th value entry and a 513th control entry.
+abbrev pub BothStacksFull : Effect → Type 0
+BothStacksFull (goes τ) = (most-value-entries < length (values-of τ)) × (most-control-entries < length (control-of τ))
+BothStacksFull (fails r) = ⊥
 
 -- What the two orders come to for one effect, this one's verdict first: made by both, with the same state after it; withheld by both for one
 -- reason, which is not 35 where both stacks are full; or withheld for 36, where the order before names 35 and both stacks are full.
-pub data SameStep (spent : Bool) (e : Effect) : (now before : Verdict) → Type 0 where
-  both-make : (τ : State) → SameStep spent e (made τ) (made τ)
-  both-withhold : (x : Reason) → (BothStacksFull spent e → x ≡ ValueEntries → ⊥) → SameStep spent e (withheld x) (withheld x)
-  control-named : BothStacksFull spent e → SameStep spent e (withheld ControlEntries) (withheld ValueEntries)
+pub data SameStep (e : Effect) : (now before : Verdict) → Type 0 where
+  both-make : (τ : State) → SameStep e (made τ) (made τ)
+  both-withhold : (x : Reason) → (BothStacksFull e → x ≡ ValueEntries → ⊥) → SameStep e (withheld x) (withheld x)
+  control-named : BothStacksFull e → SameStep e (withheld ControlEntries) (withheld ValueEntries)
 
 -- Exactly the same steps are withheld as by the order before: for every effect of a rule, with budget left or not.
 abbrev pub SameStepsWithheld : Type 0
-SameStepsWithheld = (spent : Bool) (e : Effect) → SameStep spent e (judge spent e) (judge-by-number spent e)
+SameStepsWithheld = (spent : Bool) (e : Effect) → SameStep e (judge spent e) (judge-by-number spent e)
 
 -- ---- A run.
 
--- How the two runs end: both normally, both for one reason or both without a rule, in the same state after the same steps; or there with 36,
--- where the order before names 35, with a rule whose step would fill both stacks.
+-- How the two runs end, in the same state after the same steps: both normally, or both for one reason, which is not 35 where the step there
+-- would fill both stacks; or there for 36, where the order before names 35; or both without a rule.
 pub data SameEnding : (now before : Ending) → Type 0 where
   both-end : (k : ℕ) (σ : State) → SameEnding (ended k σ) (ended k σ)
-  both-stop : (x : Reason) (k : ℕ) (σ : State) → SameEnding (stopped x k σ) (stopped x k σ)
-  stopped-for-control : (k : ℕ) (σ : State) (rule : Rule) (e : Effect) → Applies rule σ e → BothStacksFull false e → SameEnding (stopped ControlEntries k σ) (stopped ValueEntries k σ)
+  both-stop : (x : Reason) (k : ℕ) (σ : State) → ((rule : Rule) (e : Effect) → Applies rule σ e → BothStacksFull e → x ≡ ValueEntries → ⊥) → SameEnding (stopped x k σ) (stopped x k σ)
+  stopped-for-control : (k : ℕ) (σ : State) (rule : Rule) (e : Effect) → Applies rule σ e → BothStacksFull e → SameEnding (stopped ControlEntries k σ) (stopped ValueEntries k σ)
   both-lost : (k : ℕ) (σ : State) → SameEnding (lost k σ) (lost k σ)
 
 -- From any state, with any budget left.
