@@ -83,20 +83,21 @@ impl<'t> Execution<'t> {
     }
 }
 
-/// The reasons of room, judged on the state after the step; the lowest number
-/// wins. `None` if the step leaves all four within their limits.
+/// The reason of room that a step is withheld for, judged on the state after it: the
+/// first that holds. `None` if the step leaves all four within their limits.
 pub fn room(after: Heights) -> Option<u32> {
     reasons_of_room(after).into_iter().flatten().next()
 }
 
-/// Each reason of room that holds, in the order in which they are judged.
+/// Each reason of room that holds; the first in this order is the answer, so a full
+/// control stack is named before a full V.
 pub fn reasons_of_room(after: Heights) -> [Option<u32>; 4] {
     let over = |height, most, reason| if height > most { Some(reason) } else { None };
     [
         over(after.cells, MOST_CELLS, refusal::CELLS),
         over(after.bindings, MOST_BINDINGS, refusal::BINDINGS),
-        over(after.values, MOST_VALUES, refusal::VALUES),
         over(after.control, MOST_CONTROL, refusal::CONTROL),
+        over(after.values, MOST_VALUES, refusal::VALUES),
     ]
 }
 

@@ -10,8 +10,10 @@ use compare::sample::{Sample, SHORT_RUN};
 use compare::tally::Tally;
 use compare::{check, run};
 use second::build::*;
+use second::encode;
 use second::engine::{Answer, Outcome, MOST_BUDGET, WORK_WORDS};
 use second::generate::random::Random;
+use second::generate::tower::{Tower, HELPER};
 use second::generate::{Case, Family};
 use second::tree::{Command, Name, Place, Root};
 use second::Refusal;
@@ -136,6 +138,23 @@ pub fn without_nodes(registers: u32, count: usize, behind: u32) -> Vec<u32> {
 /// A call with the greatest budget and work words enough.
 pub fn with_starts(image: Vec<u32>, starts: &[i64]) -> Case {
     Case { image, registers: starts.to_vec(), budget: MOST_BUDGET, work_length: WORK_WORDS }
+}
+
+/// The image of a routine that sets register 0 to 77 and then calls a function where V has
+/// 510 entries and control so many, the Call among them; behind the call it sets the register
+/// to 99. At the function's Blk V is full, and from 509 entries on so is control.
+pub fn call_with_full_values(control: usize) -> Vec<u32> {
+    let called = cseq(call(HELPER, vec![]), assign(0, num(99)));
+    let inner = cseq(assign(0, num(77)), called);
+    encode(&Tower::reaching(510, control - 1, 11, inner).routine())
+}
+
+/// The steps that it makes before the function's Blk. Each Blk with a Bind takes five until
+/// its command starts, and there are 244: the helper's, those that define 11 functions, their
+/// bodies, and 221 around; a Call and its mark take two, a CSeq one, and the Assign three.
+pub fn steps_before_the_blk(control: usize) -> u64 {
+    let around = control - 2 - 255;
+    (5 * 244 + 2 * 11 + around + 1 + 3 + 1 + 2) as u64
 }
 
 pub fn refused(number: u32, place: Place) -> Answer {

@@ -120,16 +120,17 @@ fn near_stacks(random: &mut Random) -> Routine {
     let control = random.between(500, 513);
     let inner = inner_command(random, 0);
     let functions = random.between(10, 12);
-    let mut tower = match random.below(4) {
+    let mut tower = match random.below(5) {
         // V alone near its limit, control alone, both.
         0 => Tower::reaching(values, values / 2 + 1 + random.below(200), functions, inner),
         1 => Tower::reaching(2 * random.between(40, 200), control, functions, inner),
         2 => Tower::reaching(values, control, functions, inner),
-        // Both at once passed by a called function's Blk.
-        _ => {
+        // Both near it at a called function's Blk, and both at once passed by that.
+        3 => {
             let (values, control) = (2 * random.between(253, 255), random.between(506, 512));
             Tower::reaching(values, control, functions, call(HELPER, vec![]))
         }
+        _ => both_passed(random, functions),
     };
     if random.chance(1, 4) {
         // Some CSeqs become endless Loops, which hold as much of control.
@@ -151,6 +152,25 @@ fn near_stacks(random: &mut Random) -> Routine {
         tower.layers.swap(one, other);
     }
     tower.routine()
+}
+
+/// A call whose mark leaves 512 entries on V, and so many on control that the Blk of the
+/// function that is called has room on neither.
+fn both_passed(random: &mut Random, functions: usize) -> Tower {
+    let helper_formals = random.below(3);
+    // Two actuals and the Call's mark are two entries more than the Call.
+    let control = random.between(509, if helper_formals == 2 { 510 } else { 511 });
+    let help = call(HELPER, vec![id(0); helper_formals]);
+    let mut tower = match random.chance(1, 2) {
+        true => Tower::reaching(510, control, functions, help),
+        // Register 0 is set before the call, and behind it, which is one entry.
+        false => {
+            let inner = cseq(assign(0, num(77)), cseq(help, assign(0, num(99))));
+            Tower::reaching(510, control - 1, functions, inner)
+        }
+    };
+    tower.helper_formals = helper_formals;
+    tower
 }
 
 /// What runs at the top of a tower: each rule that makes a stack, the cells or

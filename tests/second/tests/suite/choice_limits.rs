@@ -70,7 +70,7 @@ fn values_of_a_choices_test() {
 
 /// The Cond's own entry would be the 513th from 512 entries. No routine comes there: a
 /// command starts with an even number on V, and with 512 only before a function's Blk.
-/// So the state is made by hand. Where both stacks are full the lower number is told.
+/// So the state is made by hand. Where both stacks are full control is named.
 #[test]
 fn values_at_the_choices_own_step() {
     let routine = read(&image(1, cond(boo(true), set(), set()))).unwrap();
@@ -80,7 +80,7 @@ fn values_at_the_choices_own_step() {
     assert_eq!(judged(512, 400), Some(refusal::VALUES));
     assert_eq!(judged(400, 512), Some(refusal::CONTROL));
     assert_eq!(judged(511, 511), None);
-    assert_eq!(judged(512, 512), Some(refusal::VALUES));
+    assert_eq!(judged(512, 512), Some(refusal::CONTROL));
     let both = after(&at_a_choice(&routine, 512, 512));
     assert_eq!((both.values, both.control), (513, 513));
 }

@@ -1,11 +1,14 @@
 //! The generators: what they must reach, so that comparisons mean something.
 
 use crate::helpers::*;
+use crate::towers::after;
 use second::engine::{pass, run, Answer, Outcome, MOST_BUDGET};
+use second::execution::Execution;
 use second::generate::Family;
 use second::kinds::TABLE;
 use second::node::Node;
 use second::reader::read;
+use second::state::{ControlEntry, Heights, Mark};
 use second::tree::Form;
 use std::collections::{BTreeMap, BTreeSet};
 
@@ -81,8 +84,6 @@ fn well_typed_cases_have_everything() {
 /// Functions with Formals of every code are called, not only declared.
 #[test]
 fn calls_are_made_with_every_code() {
-    use second::execution::Execution;
-    use second::state::{ControlEntry, Mark};
     let mut called = BTreeSet::new();
     for seed in 0..600 {
         let case = Family::Medium.case(seed);
@@ -152,6 +153,39 @@ fn limits_reach_33_to_36_and_both_sides_of_2_and_6() {
         let refusal = checked(&case.image).refusal();
         assert!(refusal.is_none_or(|refusal| [2, 6].contains(&refusal.number)), "{refusal:?}");
     }
+}
+
+/// The Blk of a function that is called has room on neither stack: from every height of
+/// control and with every count of actuals that comes there, and with a register set before.
+#[test]
+fn limits_have_calls_that_both_stacks_withhold() {
+    let mut met: BTreeMap<(usize, usize), u32> = BTreeMap::new();
+    let mut set_before = 0;
+    for seed in 0..1_500 {
+        let case = Family::Limits.case(seed);
+        let Ok((routine, _)) = pass(&case.image) else { continue };
+        let mut execution = Execution::start(&routine, &case.registers, case.budget.min(8_000));
+        let Some(35 | 36) = execution.finish(|_| {}) else { continue };
+        let state = execution.state();
+        let Heights { values, control, .. } = after(state);
+        if values <= 512 || control <= 512 {
+            continue;
+        }
+        let [.., ControlEntry::Mark(Mark::BlkSecond { place, .. }), top] = state.control[..] else {
+            panic!("no mark is below the top");
+        };
+        assert!(matches!(top, ControlEntry::Node(Node::Blk(_))), "{top:?}");
+        let called = routine.root.preorder().into_iter().find(|(node, _)| node.place() == place);
+        let Some((Node::Call(node), _)) = called else { panic!("no Call is at {place}") };
+        // The Call's height: its mark has left the Blk and the mark behind it.
+        *met.entry((node.actuals.len(), state.control.len() - 1)).or_default() += 1;
+        set_before += u32::from(state.registers(case.registers.len()) != case.registers);
+    }
+    let everywhere = [0, 1, 2].into_iter().flat_map(|count| [(count, 509), (count, 510)]);
+    for sort in everywhere.chain([(0, 511), (1, 511)]) {
+        assert!(met.get(&sort).is_some_and(|times| *times >= 5), "{sort:?} in {met:?}");
+    }
+    assert!(set_before >= 30, "a register was set before {set_before} of {met:?}");
 }
 
 #[test]

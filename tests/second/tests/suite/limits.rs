@@ -165,20 +165,45 @@ fn a_call_takes_its_actuals_off_first() {
     assert_eq!(stops(&with_formals(506, 8), 35, "Num").values, 512);
 }
 
-/// When 35 and 36 both hold, 35 is the answer. It comes about only where a Blk
+/// A tower is stopped at this entry of control for all these reasons of room, of which the
+/// first is told.
+fn stops_for(tower: &Tower, all: &[u32], at: &str) {
+    stops(tower, all[0], at);
+    assert_eq!(reasons(tower), (Some(all[0]), all.to_vec(), at.to_string()));
+}
+
+/// When 35 and 36 both hold, 36 is the answer. It comes about only where a Blk
 /// follows a Call's mark: nothing else that pushes on V with 512 there puts more
 /// on control than it takes off. A DSeq puts nothing on V, and its marks nothing on
 /// control.
 #[test]
-fn the_lowest_reason_wins() {
-    let reasons = |values, control| reasons(&tower(values, control, call(HELPER, vec![])));
-    let blk = || "Blk".to_string();
+fn the_control_stack_is_named_first() {
+    let calls = |values, control| tower(values, control, call(HELPER, vec![]));
     for control in [509, 510, 511] {
-        assert_eq!(reasons(510, control), (Some(35), vec![35, 36], blk()));
-        assert_eq!(reasons(506, control), (Some(36), vec![36], blk()));
+        stops_for(&calls(510, control), &[36, 35], "Blk");
+        stops_for(&calls(506, control), &[36], "Blk");
     }
-    assert_eq!(reasons(510, 508), (Some(35), vec![35], blk()));
-    assert_eq!(reasons(510, 512), (Some(36), vec![36], "mark of Call".to_string()));
+    stops_for(&calls(510, 508), &[35], "Blk");
+    stops_for(&calls(510, 512), &[36], "mark of Call");
+}
+
+/// One actual and two are taken off V again before the Blk of their function; a third has
+/// no room on V. With two the Call itself has none on control from 511 on.
+#[test]
+fn the_control_stack_is_named_first_with_actuals() {
+    let calls = |count, control| {
+        let mut tower = tower(510, control, call(HELPER, vec![num(0); count]));
+        tower.helper_formals = count;
+        tower
+    };
+    for count in [1, 2] {
+        stops_for(&calls(count, 508), &[35], "Blk");
+        for control in 509..=512 - count {
+            stops_for(&calls(count, control), &[36, 35], "Blk");
+        }
+        stops_for(&calls(count, 513 - count), &[36], "Call");
+    }
+    stops_for(&calls(3, 509), &[35], "Num");
 }
 
 /// Blocks with so many cells beyond the registers, then one more in a block.
@@ -297,4 +322,21 @@ fn registers_are_as_before_the_withheld_step() {
     let (reply, registers) = run_at(&encode(&tower.routine()), &[0], MOST_BUDGET);
     assert_eq!(reply.refusal().map(|refusal| refusal.number), Some(35));
     assert_eq!(registers, [77]);
+}
+
+/// The same at a call that both stacks have no room for. What comes behind it is an entry
+/// of control, so the call stands one higher than the tower says.
+#[test]
+fn registers_are_as_before_the_step_that_both_stacks_withhold() {
+    let inner = || cseq(assign(0, num(77)), cseq(call(HELPER, vec![]), assign(0, num(99))));
+    for (control, reason) in [(507, 35), (508, 36), (509, 36), (510, 36)] {
+        let image = encode(&tower(510, control, inner()).routine());
+        let (reply, registers) = run_at(&image, &[5], MOST_BUDGET);
+        assert_eq!((reply, registers), (withheld(reason, reply.steps), vec![77]));
+        // The budget comes before both: it is used up after the call's mark.
+        let cut = run_at(&image, &[5], reply.steps);
+        assert_eq!(cut, (withheld(30, reply.steps), vec![77]));
+        let just = run_at(&image, &[5], reply.steps + 1);
+        assert_eq!(just, (withheld(reason, reply.steps), vec![77]));
+    }
 }

@@ -36,6 +36,7 @@ mod page_limits;
 mod page_refusals;
 mod pages;
 mod program;
+mod reasons;
 mod refused_images;
 mod sequence_generators;
 mod sequence_limits;

@@ -98,7 +98,7 @@ pub fn after(state: &State) -> Heights {
 }
 
 /// The reason that the run of a tower with one register ends for, if it is one of room,
-/// all that hold there, and what was on top of control.
+/// all that hold there in their order, and what was on top of control.
 pub fn reasons(tower: &Tower) -> (Option<u32>, Vec<u32>, String) {
     let routine = read(&encode(&tower.routine())).unwrap();
     let mut execution = Execution::start(&routine, &[0], MOST_BUDGET);

@@ -5,6 +5,7 @@ use compare::byte_calls::ByteCall;
 use second::build::*;
 use second::encode::register_bytes;
 use second::generate::random::Random;
+use second::generate::Case;
 
 /// Every length up to 18 registers and some beyond, for every r.
 #[test]
@@ -65,6 +66,23 @@ fn a_withheld_step_leaves_them() {
             call.budget = budget;
             let ran = agreed_run_bytes(&call, random);
             assert_eq!((ran.refused(), ran.reply.steps), (30, budget));
+        }
+    }
+}
+
+/// Where a function's Blk has room on neither stack, or on control alone: the register was
+/// set before its call. A budget of all steps that are made is told first.
+#[test]
+fn a_step_that_both_stacks_withhold_leaves_them() {
+    let random = &mut Random::new(6);
+    for (control, number) in [(508, 35), (509, 36), (510, 36), (511, 36)] {
+        let image = call_with_full_values(control);
+        let steps = steps_before_the_blk(control);
+        for (budget, number) in [(steps, 30), (steps + 1, number), (steps + 2, number)] {
+            let call = ByteCall::of(&Case { budget, ..with_starts(image.clone(), &[-5]) });
+            let ran = agreed_run_bytes(&call, random);
+            assert_eq!((ran.refused(), ran.reply.steps), (number, steps), "{control}");
+            assert_eq!(ran.registers, register_bytes(&[77]), "{control}");
         }
     }
 }

@@ -157,9 +157,24 @@ fn refusals_35_and_36() {
         (508, 400, "refused 35 at 0\n"),
         (100, 507, "none\n"),
         (100, 508, "refused 36 at 0\n"),
-        (510, 509, "refused 35 at 0\n"),
+        (510, 508, "refused 35 at 0\n"),
+        (510, 509, "refused 36 at 0\n"),
+        (510, 511, "refused 36 at 0\n"),
+        (510, 512, "refused 36 at 0\n"),
     ];
     at_heights(&call(HELPER, vec![]), &rows);
+}
+
+/// Both stacks full at the Blk of a function that is called, and V alone: all that is
+/// printed, with the register that was set before.
+#[test]
+fn refusal_36_where_both_stacks_are_full() {
+    for (control, number) in [(507, 35), (508, 35), (509, 36), (510, 36), (511, 36)] {
+        let output = agreed_output(&program_input(&call_with_full_values(control), &[5]));
+        let steps = steps_before_the_blk(control);
+        let expected = format!("refused {number} at 0\nsteps {steps}\nregister 0 77\n");
+        assert_eq!(output, expected, "{control}");
+    }
 }
 
 /// At a DSeq: its own four entries of control, and the kept E while its second

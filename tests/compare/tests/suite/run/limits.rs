@@ -83,20 +83,6 @@ fn both_stacks_at_every_height_near_512() {
     ends.both_sides(&[35, 36]);
 }
 
-/// Where both stacks pass 512 in one step, 35 is the answer: at the Blk of a
-/// function, whose call has filled V.
-#[test]
-fn the_lowest_reason_wins() {
-    let random = &mut Random::new(2);
-    let mut refused = |values, control| {
-        run(&Tower::reaching(values, control, 11, call(HELPER, vec![])), random).refused()
-    };
-    for control in [509, 510, 511] {
-        assert_eq!((refused(510, control), refused(506, control)), (35, 36));
-    }
-    assert_eq!((refused(510, 508), refused(510, 512)), (35, 36));
-}
-
 /// A tower with so many more names than its functions bind, cells or plain.
 fn with_names(registers: usize, count: usize, cells: bool, inner: Command) -> Tower {
     let mut layers = Vec::new();

@@ -1,5 +1,6 @@
 //! Runs: `pi_run` held against the second interpreter.
 
+mod both_stacks;
 mod choice_limits;
 mod choices;
 mod declarations;

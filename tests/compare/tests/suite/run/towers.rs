@@ -13,9 +13,12 @@ use second::tree::Command;
 /// What comes of the run of a tower whose inner command starts at these heights,
 /// compared at the greatest budget and at the last ones.
 pub fn run(values: usize, control: usize, inner: Command) -> Ran {
-    let random = &mut Random::new(values as u64);
-    let routine = Tower::reaching(values, control, 11, inner).routine();
-    let case = with_starts(encode(&routine), &[0]);
+    run_tower(&Tower::reaching(values, control, 11, inner))
+}
+
+fn run_tower(tower: &Tower) -> Ran {
+    let random = &mut Random::new(tower.heights().values as u64);
+    let case = with_starts(encode(&tower.routine()), &[0]);
     let whole = agreed_run(&case, random);
     for budget in whole.reply.steps.saturating_sub(20)..=whole.reply.steps + 1 {
         agreed_run(&Case { budget, ..case.clone() }, random);
@@ -23,20 +26,19 @@ pub fn run(values: usize, control: usize, inner: Command) -> Ran {
     whole
 }
 
-/// The steps that a tower makes before its inner command, told by a command in its place
-/// that is withheld after some steps of its own.
+/// The steps that a tower makes before its inner command, told by a division by zero in its
+/// place, which is withheld after some steps of its own.
 fn steps_before(values: usize, control: usize) -> u64 {
-    let zero_divisor = || assign(0, div(num(1), num(0)));
-    let (inner, refused, own) = match (values, control) {
+    let (refused, own) = match (values, control) {
         // No room on control for the Assign's own step.
-        (_, 512) => (zero_divisor(), 36, 0),
-        // No room on V for the Blk of a function that is called.
-        (510, _) => (call(HELPER, vec![]), 35, 2),
+        (_, 512) => (36, 0),
         // No room on control for the Div's step behind the Assign's.
-        (_, 510 | 511) => (zero_divisor(), 36, 1),
-        _ => (zero_divisor(), 31, 4),
+        (_, 510 | 511) => (36, 1),
+        // No room on V for the Div's second operand.
+        (510, _) => (35, 3),
+        _ => (31, 4),
     };
-    let ran = run(values, control, inner);
+    let ran = run(values, control, assign(0, div(num(1), num(0))));
     assert_eq!(ran.refused(), refused);
     ran.reply.steps - own
 }
@@ -44,6 +46,14 @@ fn steps_before(values: usize, control: usize) -> u64 {
 /// The refusal, or 0, and the steps made since the inner command started.
 pub fn end(values: usize, control: usize, inner: Command) -> (u32, u64) {
     let ran = run(values, control, inner);
+    (ran.refused(), ran.reply.steps - steps_before(values, control))
+}
+
+/// The same for a call of the helper with so many actuals.
+pub fn end_of_call(values: usize, control: usize, count: usize) -> (u32, u64) {
+    let inner = call(HELPER, vec![id(0); count]);
+    let tower = Tower { helper_formals: count, ..Tower::reaching(values, control, 11, inner) };
+    let ran = run_tower(&tower);
     (ran.refused(), ran.reply.steps - steps_before(values, control))
 }
 

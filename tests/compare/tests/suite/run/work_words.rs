@@ -83,6 +83,8 @@ fn every_answer() -> Vec<(u32, Case)> {
         (36, sequence_reaching(100, 507)),
         (35, choice_reaching(510, 400)),
         (36, choice_reaching(100, 511)),
+        (35, call_with_full_values(508)),
+        (36, call_with_full_values(509)),
     ];
     let call = |(number, image): (u32, Vec<u32>)| {
         let count = image[1] as usize;
