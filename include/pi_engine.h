@@ -213,11 +213,10 @@ typedef enum PiCode {
  * More exactly: 1 is fewer than 2 words, or a length other than 2 + 2n (in bytes: see below); 6 is
  * depth 65; 14 is no function, or one with another count of Formals; 21 and 22 touch nothing. With
  * 30 to 36 a step is withheld, and the reply has the steps that were made before it; with 30 they
- * equal the budget and the routine has not ended. Where several of them hold of a step, the first in
- * the order 30, 31, 32, 33, 34, 36, 35 is answered: of two full stacks the control stack is named. 40
- * comes from pi_needs alone: no Loop is in the tree, and the most steps of its runs come out above
- * 1,000,000. 41 comes from pi_page alone: the image passes, and the lent page has fewer than
- * PI_PAGE_BYTES(n) bytes.
+ * equal the budget and the routine has not ended. If several of 30 to 36 hold of a step, the first in
+ * the order 30, 31, 32, 33, 34, 36, 35 is told: of two full stacks control is named. 40 comes from
+ * pi_needs alone: no Loop is in the tree, and the most steps of its runs come out above 1,000,000. 41
+ * comes from pi_page alone: the image passes, and the lent page is shorter than PI_PAGE_BYTES(n).
  */
 #define PI_REFUSAL_LIST(ROW) \
     /* Caused by the maker of the image. */ \

@@ -12,6 +12,7 @@ use Rattle.rules.specs.paper.States.{State, state, control-of, values-of
 use Rattle.rules.specs.paper.Rules.{Rule, Effect, goes, fails, Applies}
 use Rattle.rules.specs.paper.Fire.{Firing, stuck, fires, fire}
 use Rattle.rules.specs.paper.Run.{holds, first-holding, Verdict, made, withheld, settle, judge, Ending, ended, stopped, lost, proceed, run}
+use Rattle.rules.specs.paper.Engine.{Called, finish}
 
 -- ---- The order before, and the run by it.
 
@@ -63,3 +64,16 @@ pub data SameEnding : (now before : Ending) → Type 0 where
 -- From any state, with any budget left.
 abbrev pub SameRuns : Type 0
 SameRuns = (left steps : ℕ) (σ : State) → SameEnding (run left steps σ) (run-by-number left steps σ)
+
+-- ---- What a run leaves.
+
+-- The steps that are reported, the registers and the work words are the same: what a routine is priced by.
+pub record SamePrice (now before : Called) : Type 0 where
+  pub same-steps : now .reply .steps ≡ before .reply .steps
+  pub same-registers : now .registers ≡ before .registers
+  pub same-work : now .work ≡ before .work
+
+abbrev pub SamePrices : Type 0
+SamePrices =
+    (registers : ℕ) (work : List ℕ) (left steps : ℕ) (σ : State) →
+    SamePrice (finish registers work (run left steps σ)) (finish registers work (run-by-number left steps σ))

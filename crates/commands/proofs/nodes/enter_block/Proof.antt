@@ -23,7 +23,7 @@ claims = (reason-of-room-reads.Asked, reason-of-room-reads.Learnt, end-reads.Ask
 -- Both stacks have room for what is put on them.
 left : (c : lts.Else1 claims reads.Pre reads.Post) →
     let m = c .before .before .before .before .before .args .m in
-    (m .values + 1 ≤ most-value-entries) × (m .control + 4 ≤ most-control-entries) × (m .bindings ≤ most-bindings)
+    (m .bindings ≤ most-bindings) × (m .values + 1 ≤ most-value-entries) × (m .control + 4 ≤ most-control-entries)
 left c = room-left _ _ _ (sym (c .before .reason-of-room .ensures) ∙ c .if1 .left)
 
 -- The room on control, which the four entries take up one by one.
@@ -32,7 +32,7 @@ room c =
     let start = c .before .before .before .before .before .before .before .before .before in
     let put = c .put-value .ensures in
     let some = left (c .before .before .before .before) in
-    block-room _ _ (start .pre .2 .ready .fits) (some .0) (some .1) _ _ (put .0) (put .1)
+    block-room _ _ (start .pre .2 .ready .fits) (some .1) (some .2) _ _ (put .0) (put .1)
 
 first-room : (c : lts.After-put-control claims reads.Pre reads.Post) → Room 3 (c .put-control .last .0) (c .put-control .result)
 first-room c = room-after 3 (room (c .before .before .before .before)) (was-put (c .put-control .ensures))
@@ -62,7 +62,7 @@ end-requires : tie.Need-end-requires
 end-requires c κs = let start = c .before .before .before .before .before .before in omega (arith, block-low _ _ _ _ _ (start .pre .2), start .pre .2 .ready .fits .room)
 
 put-value-requires : tie.Need-put-value-requires
-put-value-requires c κs = (c .before .before .before .before .before .before .before .before .pre .2 .ready .fits, omega (arith, left (c .before .before .before) .0))
+put-value-requires c κs = (c .before .before .before .before .before .before .before .before .pre .2 .ready .fits, omega (arith, left (c .before .before .before) .1))
 
 mul-put-control : tie.Need-mul-put-control
 mul-put-control c = record { fits = omega (arith, room (c .before .before .before) .fits .few-bindings) }
@@ -106,7 +106,7 @@ returns-2 c =
     let start = saved .before .before .before .before .before .before .before .before .before in
     let put = saved .put-value .ensures in
     let some = left (saved .before .before .before .before) in
-    block-made _ _ (start .pre .2 .ready .fits) (some .0) (some .1) _ _ (put .0) (put .1) _ _ _ _ _ _ _ _ _ _
+    block-made _ _ (start .pre .2 .ready .fits) (some .1) (some .2) _ _ (put .0) (put .1) _ _ _ _ _ _ _ _ _ _
     (was-put (first .put-control .ensures)) (was-put (second .put-control2 .ensures)) (was-put (third .put-control3 .ensures)) (was-put (fourth .put-control4 .ensures)) (saved .before .before .end .ensures)
 
 pub enter-block-spec : {M : Type 1} → statement M

@@ -25,7 +25,7 @@ left : (c : lts.Else1 claims reads.Pre reads.Post) →
     let start = c .before .before .before .before .before .before in
     let m = start .args .m in
     let count = start .args .word / count-unit in
-    (m .values - count + 2 ≤ most-value-entries) × (m .control + 2 ≤ most-control-entries) × (m .bindings + count ≤ most-bindings)
+    (m .bindings + count ≤ most-bindings) × (m .values - count + 2 ≤ most-value-entries) × (m .control + 2 ≤ most-control-entries)
 left c = room-left _ _ _ (sym (c .before .reason-of-room .ensures) ∙ c .if1 .left)
 
 add-reason-of-room : tie.Need-add-reason-of-room
@@ -73,14 +73,14 @@ add-below c = search needs
 bind-formals-requires : tie.Need-bind-formals-requires
 bind-formals-requires c κs =
     let given = c .before .before .before .before .before .before .before .before .before .before .pre in
-    (called-fits _ _ _ (given .3 .ready .fits), (omega (arith, left (c .before .before .before .before) .2), call-can-bind _ _ _ _ _ _ (given .3 .ready) _ (c .before .before .row-of .ensures)))
+    (called-fits _ _ _ (given .3 .ready .fits), (omega (arith, left (c .before .before .before .before) .0), call-can-bind _ _ _ _ _ _ (given .3 .ready) _ (c .before .before .row-of .ensures)))
 
 put-frame-requires : tie.Need-put-frame-requires
 put-frame-requires c κs =
     let given = c .before .before .before .before .before .before .before .before .before .before .before .before .before .before .pre in
     let bound = c .before .before .before .bind-formals in
     let some = left (c .before .before .before .before .before .before .before .before) in
-    let formed = call-formed _ _ _ _ (c .before .before .before .before .before .before .row-of .ensures) _ _ (bound .ensures .0) (bound .ensures .1) (some .2) (some .0) (some .1) _ _ _ (given .3 .ready) in
+    let formed = call-formed _ _ _ _ (c .before .before .before .before .before .before .row-of .ensures) _ _ (bound .ensures .0) (bound .ensures .1) (some .0) (some .1) (some .2) _ _ _ (given .3 .ready) in
     (formed .fits, (formed .few-values, formed .few-control))
 
 same-length : tie.Need-same-length
@@ -91,7 +91,7 @@ returns-2 c p x k C X E S L n r e ready =
     let bound = c .before .before .before .before .before .before .bind-formals in
     let put = c .before .before .put-frame in
     let some = left (c .before .before .before .before .before .before .before .before .before .before .before) in
-    call-made _ _ _ _ (c .before .before .before .before .before .before .before .before .before .row-of .ensures) _ _ (bound .ensures .0) (bound .ensures .1) (some .2) (some .0) (some .1) p x k ready _ _ (put .ensures .0) (put .ensures .1)
+    call-made _ _ _ _ (c .before .before .before .before .before .before .before .before .before .row-of .ensures) _ _ (bound .ensures .0) (bound .ensures .1) (some .0) (some .1) (some .2) p x k ready _ _ (put .ensures .0) (put .ensures .1)
 
 pub call-mark-spec : {M : Type 1} → statement M
 call-mark-spec =

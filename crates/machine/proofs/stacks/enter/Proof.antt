@@ -23,7 +23,7 @@ claims = (reason-of-room-reads.Asked, reason-of-room-reads.Learnt, put-value-rea
 -- Both stacks have room for what is put on them.
 left : (c : lts.Else1 claims reads.Pre reads.Post) →
     let m = c .before .before .before .before .before .args .m in
-    (m .values + 1 ≤ most-value-entries) × (m .control + 2 ≤ most-control-entries) × (m .bindings ≤ most-bindings)
+    (m .bindings ≤ most-bindings) × (m .values + 1 ≤ most-value-entries) × (m .control + 2 ≤ most-control-entries)
 left c = room-left _ _ _ (sym (c .before .reason-of-room .ensures) ∙ c .if1 .left)
 
 -- The room on control, which the two entries take up one by one.
@@ -32,7 +32,7 @@ room c =
     let start = c .before .before .before .before .before .before .before in
     let put = c .put-value .ensures in
     let some = left (c .before .before) in
-    record { fits = value-fits _ _ (start .pre) _ _ (some .0) (put .0) (put .1); left = omega (arith, ap (λ k. k .control) (put .0), some .1) }
+    record { fits = value-fits _ _ (start .pre) _ _ (some .1) (put .0) (put .1); left = omega (arith, ap (λ k. k .control) (put .0), some .2) }
 
 first-room : (c : lts.After-put-control claims reads.Pre reads.Post) → Room 1 (c .put-control .last .0) (c .put-control .result)
 first-room c = room-after 1 (room (c .before .before .before .before)) (was-put (c .put-control .ensures))
@@ -52,7 +52,7 @@ returns c =
     enter-withheld _ _ (start .pre) _ (start .args .top ∷ start .args .below ∷ []) _ (c .before .reason-of-room .ensures) (c .if1 .taken)
 
 put-value-requires : tie.Need-put-value-requires
-put-value-requires c κs = (c .before .before .before .before .before .before .pre, omega (arith, left (c .before) .0))
+put-value-requires c κs = (c .before .before .before .before .before .before .pre, omega (arith, left (c .before) .1))
 
 put-control-requires : tie.Need-put-control-requires
 put-control-requires c κs = room-for 1 (room (c .before .before .before))

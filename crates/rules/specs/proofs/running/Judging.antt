@@ -59,6 +59,12 @@ module _ (f : Reason → Bool) where
       choose true u p later = subst (λ k. FirstOf (λ r. T (f r)) k (s ∷ ss)) (Option·some-injective s x p) (at-front ss (passed-test u))
       choose false u p later = behind s ss (failed-test u) (later p)
 
+-- Where the same reasons hold, the first is the same.
+pub first-same : (f g : Reason → Bool) → ((r : Reason) → f r ≡ g r) → (rs : List Reason) → first-holding f rs ≡ first-holding g rs
+unfolding first-holding
+first-same f g same [] = refl
+first-same f g same (r ∷ rs) = rw (same r, first-same f g same rs) refl
+
 -- The first of those that hold is the first of those that hold in other words.
 pub in-other-words : {Holds Meets : Reason → Type 0} (x : Reason) (rs : List Reason) → ((r : Reason) → Holds r → Meets r) → ((r : Reason) → Meets r → Holds r) →
     FirstOf Holds x rs → FirstOf Meets x rs

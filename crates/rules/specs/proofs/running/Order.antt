@@ -1,8 +1,8 @@
--- The order of the reasons and the order before it withhold exactly the same steps (claims/Order.antt).
+-- The order of the reasons and the order before it withhold exactly the same steps, and no price changes (claims/Order.antt).
 use Prim.Native.Nat.{ℕ, zero, suc}
 use mathlib.Core.Path.{_≡_, refl, _∙_, subst}
 use mathlib.Core.Bool.{Bool, true, false, not}
-use mathlib.Core.List.{[], _∷_}
+use mathlib.Core.List.{List, [], _∷_}
 use mathlib.Core.Option.{Option, none, some, Option·some-injective}
 use lib.Dec.{T, ltb→lt, lt→ltb}
 use lib.ListN.{length}
@@ -13,7 +13,8 @@ use Rattle.rules.specs.paper.States.{State, state, control-of, values-of
 use Rattle.rules.specs.paper.Rules.{Rule, Effect, goes, fails, Applies}
 use Rattle.rules.specs.paper.Fire.{Firing, stuck, fires, fire}
 use Rattle.rules.specs.paper.Run.{same-reason, priority, holds, first-holding, Verdict, settle, judge, Ending, proceed, attempt, run}
-use Rattle.rules.specs.claims.Order.{by-number, judge-by-number, attempt-by-number, run-by-number, BothStacksFull, SameStep, both-make, both-withhold, control-named, SameStepsWithheld, SameEnding, both-end, both-stop, stopped-for-control, both-lost, SameRuns}
+use Rattle.rules.specs.paper.Engine.{finish}
+use Rattle.rules.specs.claims.Order.{by-number, judge-by-number, attempt-by-number, run-by-number, BothStacksFull, SameStep, both-make, both-withhold, control-named, SameStepsWithheld, SameEnding, both-end, both-stop, stopped-for-control, both-lost, SameRuns, SamePrice, SamePrices}
 use Rattle.rules.specs.proofs.running.FireExact.{fires→applies, one-rule}
 
 -- ---- One step.
@@ -33,14 +34,14 @@ answers steps divisor range cells bindings control values ControlEntries = contr
 answers steps divisor range cells bindings control values ValueEntries = values
 
 -- Where the two orders find one reason, or none ..
-alike : (e : Effect) (o : Option Reason) → ((x : Reason) → BothStacksFull e → o ≡ some x → x ≡ ValueEntries → ⊥) → SameStep e (settle e o) (settle e o)
-alike (goes τ) none other = both-make τ
-alike (goes τ) (some x) other = both-withhold x (λ full. other x full refl)
-alike (fails r) none other = both-withhold r (λ full q. full)
-alike (fails r) (some x) other = both-withhold x (λ full. other x full refl)
+found-alike : (e : Effect) (o : Option Reason) → ((x : Reason) → BothStacksFull e → o ≡ some x → x ≡ ValueEntries → ⊥) → SameStep e (settle e o) (settle e o)
+found-alike (goes τ) none other = both-make τ
+found-alike (goes τ) (some x) other = both-withhold x (λ full. other x full refl)
+found-alike (fails r) none other = both-withhold r (λ full q. full)
+found-alike (fails r) (some x) other = both-withhold x (λ full. other x full refl)
 
-for : (e : Effect) (x : Reason) → T (not (same-reason x ValueEntries)) → SameStep e (settle e (some x)) (settle e (some x))
-for e x t = alike e (some x) (λ y full q same. other-than-values x t (Option·some-injective x y q ∙ same))
+named-alike : (e : Effect) (x : Reason) → T (not (same-reason x ValueEntries)) → SameStep e (settle e (some x)) (settle e (some x))
+named-alike e x t = found-alike e (some x) (λ y full q same. other-than-values x t (Option·some-injective x y q ∙ same))
 
 -- .. and where each finds another.
 both-full : (e : Effect) → BothStacksFull e → SameStep e (settle e (some ControlEntries)) (settle e (some ValueEntries))
@@ -60,24 +61,24 @@ module _ (spent : Bool) where
   both-over (fails r) values control = values
 
   -- The tests one by one, with either order's answer.
-  asked : (e : Effect) (steps divisor range cells bindings control values : Bool) → holds spent e ControlEntries ≡ control → holds spent e ValueEntries ≡ values →
+  in-both-orders : (e : Effect) (steps divisor range cells bindings control values : Bool) → holds spent e ControlEntries ≡ control → holds spent e ValueEntries ≡ values →
       SameStep e (settle e (first-holding (answers steps divisor range cells bindings control values) priority))
       (settle e (first-holding (answers steps divisor range cells bindings control values) by-number))
   unfolding priority by-number first-holding reason-number
-  asked e true _ _ _ _ _ _ p q = for e Steps tt
-  asked e false true _ _ _ _ _ p q = for e ZeroDivisor tt
-  asked e false false true _ _ _ _ p q = for e OutOfRange tt
-  asked e false false false true _ _ _ p q = for e Cells tt
-  asked e false false false false true _ _ p q = for e Bindings tt
-  asked e false false false false false true true p q = both-full e (both-over e (passed-test q) (passed-test p))
-  asked e false false false false false true false p q = for e ControlEntries tt
-  asked e false false false false false false true p q = alike e (some ValueEntries) (λ x full r same. failed-test p (control-over e full))
-  asked e false false false false false false false p q = alike e none (λ x full r same. failed-test p (control-over e full))
+  in-both-orders e true _ _ _ _ _ _ p q = named-alike e Steps tt
+  in-both-orders e false true _ _ _ _ _ p q = named-alike e ZeroDivisor tt
+  in-both-orders e false false true _ _ _ _ p q = named-alike e OutOfRange tt
+  in-both-orders e false false false true _ _ _ p q = named-alike e Cells tt
+  in-both-orders e false false false false true _ _ p q = named-alike e Bindings tt
+  in-both-orders e false false false false false true true p q = both-full e (both-over e (passed-test q) (passed-test p))
+  in-both-orders e false false false false false true false p q = named-alike e ControlEntries tt
+  in-both-orders e false false false false false false true p q = found-alike e (some ValueEntries) (λ x full r same. failed-test p (control-over e full))
+  in-both-orders e false false false false false false false p q = found-alike e none (λ x full r same. failed-test p (control-over e full))
 
 pub same-steps-withheld : SameStepsWithheld
 unfolding judge judge-by-number priority by-number first-holding
 same-steps-withheld spent e =
-    asked spent e (holds spent e Steps) (holds spent e ZeroDivisor) (holds spent e OutOfRange) (holds spent e Cells) (holds spent e Bindings) (holds spent e ControlEntries) (holds spent e ValueEntries) refl refl
+    in-both-orders spent e (holds spent e Steps) (holds spent e ZeroDivisor) (holds spent e OutOfRange) (holds spent e Cells) (holds spent e Bindings) (holds spent e ControlEntries) (holds spent e ValueEntries) refl refl
 
 -- ---- A run.
 
@@ -101,3 +102,14 @@ same-runs zero k (state (i ∷ C) X E S L n) = both-stop Steps k (state (i ∷ C
 same-runs (suc left) k (state [] X E S L n) = both-end k (state [] X E S L n)
 same-runs (suc left) k (state (i ∷ C) X E S L n) =
     tries (fire (state (i ∷ C) X E S L n)) k (state (i ∷ C) X E S L n) refl (λ τ. run left (suc k) τ) (λ τ. run-by-number left (suc k) τ) (λ τ. same-runs left (suc k) τ)
+
+-- ---- What a run leaves.
+
+same-price : (registers : ℕ) (work : List ℕ) (now before : Ending) → SameEnding now before → SamePrice (finish registers work now) (finish registers work before)
+same-price r work now before (both-end k σ) = record { same-steps = refl; same-registers = refl; same-work = refl }
+same-price r work now before (both-stop x k σ other) = record { same-steps = refl; same-registers = refl; same-work = refl }
+same-price r work now before (stopped-for-control k σ rule e applies full) = record { same-steps = refl; same-registers = refl; same-work = refl }
+same-price r work now before (both-lost k σ) = record { same-steps = refl; same-registers = refl; same-work = refl }
+
+pub same-prices : SamePrices
+same-prices r work left k σ = same-price r work (run left k σ) (run-by-number left k σ) (same-runs left k σ)

@@ -16,6 +16,7 @@ pub fn run(values: usize, control: usize, inner: Command) -> Ran {
     run_tower(&Tower::reaching(values, control, 11, inner))
 }
 
+/// The same of any tower.
 fn run_tower(tower: &Tower) -> Ran {
     let random = &mut Random::new(tower.heights().values as u64);
     let case = with_starts(encode(&tower.routine()), &[0]);
@@ -45,15 +46,22 @@ fn steps_before(values: usize, control: usize) -> u64 {
 
 /// The refusal, or 0, and the steps made since the inner command started.
 pub fn end(values: usize, control: usize, inner: Command) -> (u32, u64) {
-    let ran = run(values, control, inner);
-    (ran.refused(), ran.reply.steps - steps_before(values, control))
+    end_with_formals(values, control, inner, 0)
 }
 
 /// The same for a call of the helper with so many actuals.
 pub fn end_of_call(values: usize, control: usize, count: usize) -> (u32, u64) {
-    let inner = call(HELPER, vec![id(0); count]);
-    let tower = Tower { helper_formals: count, ..Tower::reaching(values, control, 11, inner) };
-    let ran = run_tower(&tower);
+    end_with_formals(values, control, call(HELPER, vec![id(0); count]), count)
+}
+
+/// The same where the helper has so many Formals.
+fn end_with_formals(
+    values: usize,
+    control: usize,
+    inner: Command,
+    helper_formals: usize,
+) -> (u32, u64) {
+    let ran = run_tower(&Tower { helper_formals, ..Tower::reaching(values, control, 11, inner) });
     (ran.refused(), ran.reply.steps - steps_before(values, control))
 }
 
