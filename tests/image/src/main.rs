@@ -49,7 +49,8 @@ Numbers are 0 to 4294967295, truths are true and false; tests/image/README.md ha
 form of list.
 
 In `refused N at P` the refusal's number is N, as `image refusals` lists them. For 3 to 6
-and 10 to 14, P is the number of a node, which show marks and find finds.
+and 10 to 14, P is the number of a node, which show marks and find finds. If several of
+30 to 36 hold of a step, the first in the order 30, 31, 32, 33, 34, 36, 35 is told.
 
 Exit status: 0 where the command is done, a refusal shown too; 2 where the text or the
 command line is wrong or a stream fails.

@@ -1,7 +1,11 @@
 //! The tables of refusals agree: the second interpreter's, its constants, the
-//! header's and the one in the README.
+//! header's and the one in the README. So does the order in which the reasons of a step
+//! are told.
 
-use second::refusal::{Row, TABLE};
+use crate::binary::text_said;
+use second::execution::reasons_of_room;
+use second::refusal::{Row, OUT_OF_RANGE, STEPS, TABLE, ZERO_DIVISOR};
+use second::state::Heights;
 use std::path::PathBuf;
 
 /// A file of the repository.
@@ -144,5 +148,24 @@ fn the_readme_has_the_table() {
         assert_eq!(cells.len(), 4, "{cells:?}");
         let right = if row.place_is_node { place.starts_with("the node") } else { place == "–" };
         assert!(right, "{cells:?}");
+    }
+}
+
+/// The order of the reasons of a step, which stands in each text for users, is the second
+/// interpreter's: the budget, the two of arithmetic, and those of room.
+#[test]
+fn the_order_of_the_reasons_is_told() {
+    let over = Heights { cells: 257, bindings: 513, values: 513, control: 513 };
+    let of_room = reasons_of_room(over).into_iter().flatten();
+    let order: Vec<String> = [STEPS, ZERO_DIVISOR, OUT_OF_RANGE]
+        .into_iter()
+        .chain(of_room)
+        .map(|number| number.to_string())
+        .collect();
+    let told = format!("the order {} is", order.join(", "));
+    let texts = ["README.md", "include/pi_engine.h", "tests/image/README.md"].map(file);
+    for text in texts.into_iter().chain([text_said(&["help"], &[])]) {
+        let words: Vec<&str> = text.split_whitespace().filter(|word| *word != "*").collect();
+        assert!(words.join(" ").contains(&told), "no `{told}`");
     }
 }
