@@ -38,7 +38,7 @@ quotient = words (3 ∷ 1 ∷ 7 ∷ 3 ∷ 1 ∷ 0 ∷ 0 ∷ 2 ∷ []) ++ minus-s
 
 pub record CasesHold : Type 0 where
   pub a-number : program product ≡ ascii "number 25\nsteps 7\n"
-  pub a-register : program quotient ≡ ascii "number -3\nsteps 4\nregister 0 -7\n"
+  pub a-register : program quotient ≡ ascii "number -4\nsteps 4\nregister 0 -7\n"
   pub no-bytes : program [] ≡ ascii "refused 1 at 0\nsteps 0\n"
   pub one-byte-more : program (product ++ 0 ∷ []) ≡ ascii "refused 1 at 0\nsteps 0\n"
   pub no-routine : program (words (0 ∷ 0 ∷ [])) ≡ ascii "none\nsteps 0\n"

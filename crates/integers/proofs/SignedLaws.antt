@@ -33,6 +33,12 @@ magnitude-positive w nonzero =
     (λ low. rw (integer-low w low) (omega arith))
     (λ high. rw (integer-high w high) (omega arith))
 
+pub magnitude-within : (w : ℕ) → w < 2 ^ 64 → natAbs (integer-of w) ≤ 2 ^ 63
+magnitude-within w fits =
+    by-sign w
+    (λ low. rw (integer-low w low) (omega arith))
+    (λ high. rw (integer-high w high) (omega arith))
+
 pub opposite-words : (a b : ℕ) → not (Bool·beq (ltb a (2 ^ 63)) (ltb b (2 ^ 63))) ≡ opposite (integer-of a) (integer-of b)
 unfolding opposite
 opposite-words a b = rw (sign-of-word a, sign-of-word b)

@@ -7,14 +7,14 @@ use mathlib.Core.List.{List, [], _∷_}
 use Prim.Native.Nat.{ℕ, zero, suc, _-_, _^_, _≤_, _<_}
 use native.Mathlib.Omega.{arith}
 use lib.Dec.{T, ltb, leb, eqb, ltb→lt, lt→ltb}
-use lib.IntN.{ℤ, pos, negsuc, _+ℤ_, _-ℤ_, _*ℤ_}
+use lib.IntN.{ℤ, pos, negsuc, negℤ, _+ℤ_, _-ℤ_, _*ℤ_}
 use lib.ListN.{length, getD}
-use lib.Signed.{ltZ, leZ, quotZ}
+use lib.Signed.{ltZ, leZ}
 use borrow.Author.Tests.{lt-ltb, le-ltb, le-leb, lt-leb, eqb-true, eq-eqb}
 use Rattle.rules.specs.proofs.Basics.{by-order}
 use Rattle.rules.specs.paper.Refusals.{Reason, OutOfRange, reason-number}
 use Rattle.rules.specs.paper.Tree.{Arithmetic, Sum, Sub, Mul, Div, Lt, Le, Gt, Ge}
-use Rattle.rules.specs.paper.Integers.{Result, in-range, ranged, divide, compute, number, failed, equal-integers, compare}
+use Rattle.rules.specs.paper.Integers.{Result, in-range, ranged, floor, divide, compute, number, failed, equal-integers, compare}
 use Rattle.integers.specs.Words.{integer-of, word-of, computed, integers-of, words-of}
 use Rattle.integers.specs.declared.Computed.the-variants.{Number, Failed}
 
@@ -96,8 +96,8 @@ ranged-in-range z y = kept z y (in-range z) refl
 
 divided-in-range : (a b y : ℤ) → divide a b ≡ number y → T (in-range y)
 divided-in-range a (pos zero) y same = let clash : _≡_ {A = ℕ} 0 1 = cc in absurd (omega arith)
-divided-in-range a (pos (suc b)) y same = ranged-in-range (quotZ a (pos (suc b))) y same
-divided-in-range a (negsuc b) y same = ranged-in-range (quotZ a (negsuc b)) y same
+divided-in-range a (pos (suc b)) y same = ranged-in-range (floor a (suc b)) y same
+divided-in-range a (negsuc b) y same = ranged-in-range (floor (negℤ a) (suc b)) y same
 
 pub computed-in-range : (o : Arithmetic) (a b y : ℤ) → compute o a b ≡ number y → T (in-range y)
 unfolding compute

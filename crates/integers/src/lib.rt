@@ -3,8 +3,8 @@ ghost use mathlib.Core.Path.{_≡_};
 ghost use lib.IntN.{natAbs};
 ghost use lib.Signed.{ltZ};
 ghost use Rattle.rules.specs.paper.Tree.{Sum, Sub, Mul, Div};
-ghost use Rattle.rules.specs.paper.Integers.{compute, ranged};
-ghost use Rattle.integers.specs.Words.{integer-of, computed, opposite, signed};
+ghost use Rattle.rules.specs.paper.Integers.{compute, floor, ranged};
+ghost use Rattle.integers.specs.Words.{integer-of, computed, opposite, signed, Divisible};
 
 // 2^63: the words from here on hold the negative integers, and it is the magnitude of the least of them.
 const LEAST: u64 = 9223372036854775808;
@@ -106,7 +106,19 @@ pub fn product(first: u64, second: u64) -> Computed
     with_sign(negative, multiplicand * multiplier)
 }
 
-// The first by the second, the fraction dropped toward zero, by their magnitudes.
+// The magnitude of a quotient rounded down, from its sign and the magnitudes of dividend and divisor. Where it is negative, down is away from
+// zero: with the divisor less one added before, any fraction counts as one more.
+fn floored(negative: bool, dividend: u64, divisor: u64) -> u64
+    requires { ⌜ Divisible dividend divisor ⌝ }
+    ensures { λ r. ⌜ signed negative r ≡ floor (signed negative dividend) divisor ⌝ }
+{
+    if negative {
+        return (dividend + (divisor - 1)) / divisor;
+    }
+    dividend / divisor
+}
+
+// The first by the second: the largest integer not above the quotient, by their magnitudes.
 pub fn quotient(first: u64, second: u64) -> Computed
     ensures { λ r. ⌜ r ≡ computed (compute Div (integer-of first) (integer-of second)) ⌝ }
 {
@@ -116,5 +128,5 @@ pub fn quotient(first: u64, second: u64) -> Computed
     let dividend = magnitude(first);
     let divisor = magnitude(second);
     let negative = opposite(first, second);
-    with_sign(negative, dividend / divisor)
+    with_sign(negative, floored(negative, dividend, divisor))
 }

@@ -6,6 +6,7 @@ pub mod Image
 pub mod History
 pub mod Claim
 pub mod Order
+pub mod Division
 pub mod Ends
 pub mod NoRoutine
 pub mod FreeRun

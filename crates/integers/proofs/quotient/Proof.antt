@@ -1,6 +1,5 @@
 -- `quotient` answers what the rules compute.
-use Rattle.integers.proofs.SignedLaws.{magnitude-positive}
-use Rattle.integers.proofs.QuotientLaws.{quotient-answered, quotient-by-zero}
+use Rattle.integers.proofs.QuotientLaws.{quotient-answered, quotient-by-zero, magnitudes-divisible}
 use borrow.Author.Needs.{needs}
 use Rattle.integers.proofs.quotient.Statement.{statement}
 use Rattle.integers.proofs.quotient.Tie as tie
@@ -17,21 +16,24 @@ magnitude-requires-2 c κs = search needs
 opposite-requires : tie.Need-opposite-requires
 opposite-requires c κs = search needs
 
-div-with-sign : tie.Need-div-with-sign
-div-with-sign c =
-    let tested = c .before .before .before in
-    rw (c .before .magnitude2 .ensures) (magnitude-positive (tested .before .args .second) (tested .if1 .left))
+floored-requires : tie.Need-floored-requires
+floored-requires c κs =
+    let second = c .before in
+    let first = second .before in
+    let start = first .before .before in
+    magnitudes-divisible (start .args .first) (start .args .second) (first .magnitude .result) (second .magnitude2 .result) (start .fits .first .fits) (start .fits .second .fits) (first .before .if1 .left) (first .magnitude .ensures) (second .magnitude2 .ensures)
 
 with-sign-requires : tie.Need-with-sign-requires
 with-sign-requires c κs = search needs
 
 returns-2 : tie.Need-returns-2
 returns-2 c =
-    let signs = c .before in
+    let rounded = c .before in
+    let signs = rounded .before in
     let second = signs .before in
     let first = second .before in
     let tested = first .before in
-    quotient-answered (tested .before .args .first) (tested .before .args .second) (first .magnitude .result) (second .magnitude2 .result) (signs .opposite .result) (c .with-sign .result) (tested .if1 .left) (first .magnitude .ensures) (second .magnitude2 .ensures) (signs .opposite .ensures) (c .with-sign .ensures)
+    quotient-answered (tested .before .args .first) (tested .before .args .second) (first .magnitude .result) (second .magnitude2 .result) (rounded .floored .result) (signs .opposite .result) (c .with-sign .result) (tested .if1 .left) (first .magnitude .ensures) (second .magnitude2 .ensures) (signs .opposite .ensures) (rounded .floored .ensures) (c .with-sign .ensures)
 
 pub quotient-spec : {M : Type 1} → statement M
 quotient-spec =
@@ -41,6 +43,6 @@ quotient-spec =
     magnitude-requires
     magnitude-requires-2
     opposite-requires
-    div-with-sign
+    floored-requires
     with-sign-requires
     returns-2)

@@ -53,8 +53,8 @@ cases =
     case (3 ∷ 0 ∷ 5 ∷ 1 ∷ 1 ∷ 0 ∷ 3 ∷ 5 ∷ []) [] most-budget (outcome (number (negsuc 1))) 4 [] ∷
     -- E: Div(1, 0)
     case (3 ∷ 0 ∷ 7 ∷ 1 ∷ 1 ∷ 0 ∷ 1 ∷ 0 ∷ []) [] most-budget (refused (Withheld ZeroDivisor) 0) 3 [] ∷
-    -- F: register 0 = −7, Div(Id 0, 2)
-    case (3 ∷ 1 ∷ 7 ∷ 3 ∷ 1 ∷ 0 ∷ 0 ∷ 2 ∷ []) (negsuc 6 ∷ []) most-budget (outcome (number (negsuc 2))) 4 (negsuc 6 ∷ []) ∷
+    -- F: register 0 = −7, Div(Id 0, 2): −4
+    case (3 ∷ 1 ∷ 7 ∷ 3 ∷ 1 ∷ 0 ∷ 0 ∷ 2 ∷ []) (negsuc 6 ∷ []) most-budget (outcome (number (negsuc 3))) 4 (negsuc 6 ∷ []) ∷
     -- G: the factorial, with y 3, 20 and 21
     case factorial (pos 1 ∷ pos 3 ∷ []) most-budget (outcome nothing) 71 (pos 6 ∷ pos 0 ∷ []) ∷
     case factorial (pos 1 ∷ pos 20 ∷ []) most-budget (outcome nothing) 428 (pos 2432902008176640000 ∷ pos 0 ∷ []) ∷

@@ -6,13 +6,12 @@ use mathlib.Core.List.{List, [], _∷_, _++_}
 use mathlib.Core.Option.{Option, none, some}
 use native.Mathlib.Nat.{le-of-suc-le-suc, not-suc-le-zero}
 use lib.Dec.{T}
-use lib.IntN.{ℤ, pos, negsuc, _+ℤ_, _-ℤ_, _*ℤ_}
+use lib.IntN.{ℤ, pos, negsuc, negℤ, _+ℤ_, _-ℤ_, _*ℤ_}
 use lib.ListN.{length}
-use lib.Signed.{quotZ}
 use Rattle.rules.specs.proofs.Basics.{passed-test}
 use Rattle.rules.specs.paper.Tree.{Arithmetic, Sum, Sub, Mul, Div, Operator, arithmetic, Eq, order, logic, Expression, Command, Loop, Cond}
 use Rattle.rules.specs.paper.Refusals.{OutOfRange}
-use Rattle.rules.specs.paper.Integers.{in-range, Result, number, failed, ranged, divide, compute, compare, equal-integers, equal-truths, combine}
+use Rattle.rules.specs.paper.Integers.{in-range, Result, number, failed, ranged, floor, divide, compute, compare, equal-integers, equal-truths, combine}
 use Rattle.rules.specs.paper.Checker.{Meaning, code, Scope, meaning-of, Passed}
 use Rattle.rules.specs.claims.Typing.{HasCode, CommandOk}
 use Rattle.rules.specs.paper.States.{Value, integer, truth, location, Bindable, value, Environment, lookup, Store, store-at, find, Entry, val, name, Item, mark, operator-mark, not-mark, assign-mark, loop-mark, conditional-mark, ref-mark, bind-mark, dseq-extend-mark, dseq-join-mark, State, state}
@@ -41,8 +40,8 @@ ranged-ok z = choose (in-range z) refl
 
 divide-ok : (y z : ℤ) → ResultOk (divide y z)
 divide-ok y (pos zero) = zero-divisor
-divide-ok y (pos (suc b)) = ranged-ok (quotZ y (pos (suc b)))
-divide-ok y (negsuc b) = ranged-ok (quotZ y (negsuc b))
+divide-ok y (pos (suc b)) = ranged-ok (floor y (suc b))
+divide-ok y (negsuc b) = ranged-ok (floor (negℤ y) (suc b))
 
 compute-ok : (o : Arithmetic) (y z : ℤ) → ResultOk (compute o y z)
 unfolding compute

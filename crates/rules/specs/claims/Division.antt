@@ -1,0 +1,47 @@
+-- What Div gives (document 02, request 7), stated by order, sum and product alone: the largest integer not above the quotient, for both signs of
+-- the divisor; for every two integers of the range which answer there is, 31 and 32 among them; and that moving the dividend by a multiple of
+-- the divisor moves the quotient by that multiple, across 0 too. proofs/running/Division.antt proves it.
+use Prim.Native.Nat.{_-_}
+use mathlib.Core.Path.{_≡_}
+use lib.Dec.{T}
+use lib.IntN.{ℤ, pos, negsuc, _+ℤ_, _*ℤ_}
+use lib.Signed.{_≤ℤ_, _<ℤ_}
+use Rattle.rules.specs.paper.Refusals.{ZeroDivisor, OutOfRange}
+use Rattle.rules.specs.paper.Integers.{range-bound, in-range, Result, number, failed, ranged, divide}
+
+-- The integer q is not above the quotient of a by b: q × b is not above a. A divisor below 0 turns the order: a is not above q × b.
+abbrev pub NotAbove : (q a b : ℤ) → Type 0
+NotAbove q a (pos b) = (q *ℤ pos b) ≤ℤ a
+NotAbove q a (negsuc b) = a ≤ℤ (q *ℤ negsuc b)
+
+pub record LargestNotAbove (q a b : ℤ) : Type 0 where
+  pub not-above : NotAbove q a b
+  pub largest : (p : ℤ) → NotAbove p a b → p ≤ℤ q
+
+-- The same by the next integer: q × b ≤ a < (q + 1) × b where b is above 0, and q × b ≥ a > (q + 1) × b where it is below.
+abbrev pub Between : (q a b : ℤ) → Type 0
+Between q a (pos b) = ((q *ℤ pos b) ≤ℤ a) × (a <ℤ ((q +ℤ pos 1) *ℤ pos b))
+Between q a (negsuc b) = (a ≤ℤ (q *ℤ negsuc b)) × (((q +ℤ pos 1) *ℤ negsuc b) <ℤ a)
+
+-- For any integers: one integer is the largest not above the quotient, and `divide` gives it where it is in range.
+pub record Divided (a b : ℤ) : Type 0 where
+  pub quotient : ℤ
+  pub is-largest : LargestNotAbove quotient a b
+  pub only : (q : ℤ) → LargestNotAbove q a b → q ≡ quotient
+  pub between : Between quotient a b
+  pub answered : divide a b ≡ ranged quotient
+
+abbrev pub lowest-integer : ℤ
+lowest-integer = negsuc (range-bound - 1)
+
+-- For integers of the range: a zero divisor is 31, the lowest integer by −1 is 32, and everything else has a quotient, in range.
+pub data Division (a b : ℤ) : Result → Type 0 where
+  by-zero : b ≡ pos 0 → Division a b (failed ZeroDivisor)
+  lowest-by-minus-one : a ≡ lowest-integer → b ≡ negsuc 0 → Division a b (failed OutOfRange)
+  gives : (q : ℤ) → (b ≡ pos 0 → ⊥) → LargestNotAbove q a b → T (in-range q) → Division a b (number q)
+
+pub record DivisionClaim : Type 0 where
+  pub divides : (a b : ℤ) → (b ≡ pos 0 → ⊥) → Divided a b
+  pub answers : (a b : ℤ) → T (in-range a) → T (in-range b) → Division a b (divide a b)
+  -- One grid on both sides of 0: k divisors further on, the quotient is k more.
+  pub moves : (k q a b : ℤ) → LargestNotAbove q a b → LargestNotAbove (q +ℤ k) (a +ℤ k *ℤ b) b
