@@ -41,20 +41,21 @@ pub struct Sample {
 }
 
 /// How many of each hundred samples are of which family.
-pub type Mixture = [(usize, Family); 14];
+pub type Mixture = [(usize, Family); 15];
 
 /// For checks, and for calls on bytes. Large cases take the second interpreter
 /// longest and are seldom.
 pub const CHECKED: Mixture = [
-    (12, Family::Small),
+    (11, Family::Small),
     (6, Family::Medium),
     (2, Family::Large),
     (6, Family::Faulty),
     (8, Family::Sequences),
     (8, Family::Choices),
     (6, Family::Functions),
+    (2, Family::Divisions),
     (6, Family::Limits),
-    (18, Family::Damaged),
+    (17, Family::Damaged),
     (4, Family::Empty),
     (8, Family::Shaped),
     (7, Family::Plausible),
@@ -64,13 +65,14 @@ pub const CHECKED: Mixture = [
 
 /// For runs, the program's too, and for pages: more of what passes the checker.
 pub const RUN: Mixture = [
-    (20, Family::Small),
+    (16, Family::Small),
     (9, Family::Medium),
     (4, Family::Large),
-    (10, Family::Faulty),
+    (8, Family::Faulty),
     (9, Family::Sequences),
     (10, Family::Choices),
     (7, Family::Functions),
+    (6, Family::Divisions),
     (8, Family::Limits),
     (6, Family::Damaged),
     (3, Family::Empty),
@@ -82,13 +84,14 @@ pub const RUN: Mixture = [
 
 /// For needs: more functions and Conds, and more near the limits.
 pub const NEEDED: Mixture = [
-    (14, Family::Small),
+    (13, Family::Small),
     (8, Family::Medium),
     (3, Family::Large),
     (4, Family::Faulty),
     (10, Family::Sequences),
     (13, Family::Choices),
     (20, Family::Functions),
+    (1, Family::Divisions),
     (9, Family::Limits),
     (9, Family::Damaged),
     (2, Family::Empty),

@@ -24,14 +24,25 @@ fn integers(operator: Operator, left: i128, right: i128) -> Option<Result<Value,
         Operator::Sub => Some(fit(left - right)),
         Operator::Mul => Some(fit(left * right)),
         Operator::Div if right == 0 => Some(Err(refusal::ZERO_DIVISOR)),
-        // Division of i128 drops the fraction toward zero.
-        Operator::Div => Some(fit(left / right)),
+        Operator::Div => Some(fit(quotient(left, right))),
         Operator::Eq => truth(left == right),
         Operator::Lt => truth(left < right),
         Operator::Le => truth(left <= right),
         Operator::Gt => truth(left > right),
         Operator::Ge => truth(left >= right),
         Operator::And | Operator::Or => None,
+    }
+}
+
+/// The largest integer not above the quotient: the one that leaves a remainder of the
+/// divisor's sign, or none. Division of i128 drops the fraction toward zero, and leaves a
+/// remainder of the dividend's sign.
+fn quotient(left: i128, right: i128) -> i128 {
+    let (toward_zero, remainder) = (left / right, left % right);
+    if remainder != 0 && remainder.signum() != right.signum() {
+        toward_zero - 1
+    } else {
+        toward_zero
     }
 }
 

@@ -43,8 +43,8 @@ usage: second COMMAND [--hex]
 With --hex, program, run, check, needs, page and show read words in hexadecimal,
 as generate prints them, in place of little-endian bytes.
 
-families: small medium large faulty sequences choices functions limits damaged
-          empty shaped plausible words host
+families: small medium large faulty sequences choices functions divisions limits
+          damaged empty shaped plausible words host
 
 Exit status: 0 where the command is done, a refusal printed too; 2 where the
 command line or the input is wrong or a stream fails.

@@ -23,6 +23,8 @@ mod choice_states;
 mod choice_types;
 #[path = "../../../second/tests/suite/choices.rs"]
 mod choices;
+#[path = "../../../second/tests/suite/division.rs"]
+mod division;
 #[path = "../../../second/tests/suite/limits.rs"]
 mod limits;
 #[path = "../../../second/tests/suite/need_functions.rs"]

@@ -3,6 +3,7 @@
 pub mod choices;
 pub mod damage;
 pub mod declarations;
+pub mod divisions;
 pub mod empty;
 pub mod functions;
 pub mod limits;
@@ -50,6 +51,9 @@ pub enum Family {
     /// Functions that call functions, some with Loops and some of very many steps, up to
     /// 300 nodes; one in three has a change at a Call, which may be a fault.
     Functions,
+    /// Quotients of every sign, of each other, in Assigns, Conds, loops and functions, up to
+    /// some 200 nodes, with starting values of every sign and size.
+    Divisions,
     /// Near a limit of nodes, depth, cells, bindings or stack entries.
     Limits,
     /// A well-typed image with one fault.
@@ -67,7 +71,7 @@ pub enum Family {
 }
 
 impl Family {
-    pub const ALL: [(&'static str, Family); 14] = [
+    pub const ALL: [(&'static str, Family); 15] = [
         ("small", Family::Small),
         ("medium", Family::Medium),
         ("large", Family::Large),
@@ -75,6 +79,7 @@ impl Family {
         ("sequences", Family::Sequences),
         ("choices", Family::Choices),
         ("functions", Family::Functions),
+        ("divisions", Family::Divisions),
         ("limits", Family::Limits),
         ("damaged", Family::Damaged),
         ("empty", Family::Empty),
@@ -114,6 +119,7 @@ impl Family {
                 |generator, scope| generator.functions(scope),
                 damage::change_a_function_of,
             ),
+            Family::Divisions => divisions_case(random),
             Family::Limits => {
                 let image = encode(&limits::near_a_limit(random));
                 case_of(random, image, false)
@@ -180,6 +186,18 @@ fn changed_case(
         image = changed(random, &image);
     }
     case_of(random, image, true)
+}
+
+/// A case that divides; the starting values are of either sign, and of every size.
+fn divisions_case(random: &mut Random) -> Case {
+    let registers = random.between(1, 4) as u32;
+    let scope = Scope::of_registers(registers);
+    let root = Generator { random, temper: Temper::Wild }.divisions(&scope);
+    let mut case = case_of(random, encode(&Routine { registers, root }), false);
+    for start in &mut case.registers {
+        *start = divisions::position(random);
+    }
+    case
 }
 
 fn damaged_case(random: &mut Random) -> Case {

@@ -103,12 +103,22 @@ impl Generator<'_> {
         let first = self.expression(scope, operands, left);
         let second = match operator {
             Operator::Div if self.temper == Temper::Calm || self.random.chance(1, 2) => {
-                num(self.random.between(1, 9) as u32)
+                self.divisor(right)
             }
             Operator::Mul if self.temper == Temper::Calm => num(self.random.below(3) as u32),
             _ => self.expression(scope, operands, right),
         };
         binary(operator, first, second)
+    }
+
+    /// A divisor that is not 0: 1 to 9, or where the room holds a difference as often -1 to -9.
+    fn divisor(&mut self, room: Room) -> Expression {
+        let number = num(self.random.between(1, 9) as u32);
+        if room.nodes >= 3 && room.levels >= 2 && self.random.chance(1, 2) {
+            sub(num(0), number)
+        } else {
+            number
+        }
     }
 
     /// An operator with this result, and the code of both operands.

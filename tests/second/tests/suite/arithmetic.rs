@@ -18,21 +18,6 @@ fn of_truths(operator: Operator, left: bool, right: bool) -> Outcome {
 }
 
 #[test]
-fn division_drops_the_fraction_toward_zero_for_all_signs() {
-    assert_eq!(of(Div, 7, 2), Outcome::Number(3));
-    assert_eq!(of(Div, -7, 2), Outcome::Number(-3));
-    assert_eq!(of(Div, 7, -2), Outcome::Number(-3));
-    assert_eq!(of(Div, -7, -2), Outcome::Number(3));
-    assert_eq!(of(Div, 6, -2), Outcome::Number(-3));
-    assert_eq!(of(Div, 1, -2), Outcome::Number(0));
-    assert_eq!(of(Div, LEAST, 2), Outcome::Number(LEAST / 2));
-    assert_eq!(of(Div, LEAST, LEAST), Outcome::Number(1));
-    assert_eq!(of(Div, MOST, LEAST), Outcome::Number(0));
-    assert_eq!(of(Div, LEAST, MOST), Outcome::Number(-1));
-    assert_eq!(of(Div, MOST, -1), Outcome::Number(-MOST));
-}
-
-#[test]
 fn a_zero_divisor_is_31_whatever_is_divided() {
     for left in [0, 1, -1, LEAST, MOST] {
         assert_eq!(of(Div, left, 0), refused(31, 0));

@@ -40,8 +40,8 @@ fn e_zero_divisor() {
 }
 
 #[test]
-fn f_division_drops_the_fraction_toward_zero() {
-    assert_eq!(outcome(div(id(0), num(2)), &[-7]), (Outcome::Number(-3), 4));
+fn f_division_gives_the_largest_integer_not_above_the_quotient() {
+    assert_eq!(outcome(div(id(0), num(2)), &[-7]), (Outcome::Number(-4), 4));
 }
 
 #[test]

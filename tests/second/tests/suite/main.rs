@@ -17,6 +17,8 @@ mod choice_types;
 mod choices;
 mod claims;
 mod command_line;
+mod division;
+mod division_generators;
 mod free_runs;
 mod function_generators;
 mod generators;

@@ -54,6 +54,12 @@ fn functions() {
 }
 
 #[test]
+fn divisions() {
+    let tally = family(Family::Divisions, 300);
+    reaches(&tally, &[0, 1, 2, 20, 21, 22, 30, 31, 32], 5);
+}
+
+#[test]
 fn limits() {
     let tally = family(Family::Limits, 300);
     reaches(&tally, &[0, 1, 2, 6, 20, 30, 33, 34, 35, 36], 10);

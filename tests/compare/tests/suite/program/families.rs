@@ -47,6 +47,11 @@ fn functions() {
 }
 
 #[test]
+fn divisions() {
+    reaches(&family(Family::Divisions, 300), &[0, 1, 2, 31, 32], 5);
+}
+
+#[test]
 fn limits() {
     reaches(&family(Family::Limits, 200), &[0, 1, 2, 6, 33, 34, 35, 36], 3);
 }

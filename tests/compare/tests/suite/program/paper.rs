@@ -16,7 +16,7 @@ fn cases_a_to_l() {
         ("A", &[], "number 25\nsteps 7\n"),
         ("D", &[], "number -2\nsteps 4\n"),
         ("E", &[], "refused 31 at 0\nsteps 3\n"),
-        ("F", &[-7], "number -3\nsteps 4\nregister 0 -7\n"),
+        ("F", &[-7], "number -4\nsteps 4\nregister 0 -7\n"),
         ("G", &[1, 3], "none\nsteps 71\nregister 0 6\nregister 1 0\n"),
         ("G", &[1, 20], "none\nsteps 428\nregister 0 2432902008176640000\nregister 1 0\n"),
         (

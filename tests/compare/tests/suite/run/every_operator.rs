@@ -11,7 +11,7 @@ const OF_INTEGERS: [Operator; 9] = [Sum, Sub, Mul, Div, Eq, Lt, Le, Gt, Ge];
 /// Both ends of the integers, of 32 bits and of their square roots, small ones,
 /// and each with its neighbours and with the other sign.
 fn notable() -> Vec<i64> {
-    let middles = [0, 2, 10, 1 << 31, 1 << 32, 3_037_000_500, 1 << 62, i64::MIN, i64::MAX];
+    let middles = [0, 2, 7, 10, 1 << 31, 1 << 32, 3_037_000_500, 1 << 62, i64::MIN, i64::MAX];
     let near = middles.into_iter().flat_map(|middle: i64| {
         [-1, 0, 1].into_iter().filter_map(move |by| middle.checked_add(by))
     });
@@ -29,7 +29,7 @@ fn result(operator: Operator, left: i64, right: i64) -> Result<Outcome, u32> {
         Sub => number(left.checked_sub(right)),
         Mul => number(left.checked_mul(right)),
         Div if right == 0 => Err(31),
-        Div => number(left.checked_div(right)),
+        Div => number(rounded_down(left, right)),
         Eq => Ok(Outcome::Truth(left == right)),
         Lt => Ok(Outcome::Truth(left < right)),
         Le => Ok(Outcome::Truth(left <= right)),
@@ -37,6 +37,13 @@ fn result(operator: Operator, left: i64, right: i64) -> Result<Outcome, u32> {
         Ge => Ok(Outcome::Truth(left >= right)),
         And | Or => unreachable!("they take truths"),
     }
+}
+
+/// A quotient with both signs turned where the divisor is below 0: by a divisor above 0 the
+/// Euclidean quotient, whose remainder is never below 0, is the largest integer not above.
+fn rounded_down(left: i64, right: i64) -> Option<i64> {
+    let turned = |value| i128::from(value) * i128::from(right.signum());
+    turned(left).div_euclid(turned(right)).try_into().ok()
 }
 
 #[test]

@@ -13,7 +13,7 @@ fn family(family: Family, count: u64) -> Tally {
 
 #[test]
 fn small() {
-    let tally = family(Family::Small, 3_000);
+    let tally = family(Family::Small, 4_000);
     reaches(&tally, &[0, 20, 21, 22, 30, 31, 32], 50);
 }
 
@@ -49,8 +49,14 @@ fn choices() {
 
 #[test]
 fn functions() {
-    let tally = family(Family::Functions, 400);
+    let tally = family(Family::Functions, 1_000);
     reaches(&tally, &[0, 5, 10, 11, 14, 30], 5);
+}
+
+#[test]
+fn divisions() {
+    let tally = family(Family::Divisions, 3_000);
+    reaches(&tally, &[0, 20, 21, 22, 30, 31, 32], 50);
 }
 
 #[test]
