@@ -95,10 +95,10 @@ extern "C" {
  * The version of this header and of the library it was delivered with. What the three numbers mean,
  * and what changed in which version, is in CHANGELOG.md. PI_VERSION_NUMBER is for #if.
  */
-#define PI_VERSION_MAJOR 6
+#define PI_VERSION_MAJOR 7
 #define PI_VERSION_MINOR 0
 #define PI_VERSION_PATCH 0
-#define PI_VERSION "6.0.0"
+#define PI_VERSION "7.0.0"
 #define PI_VERSION_NUMBER (PI_VERSION_MAJOR * 10000 + PI_VERSION_MINOR * 100 + PI_VERSION_PATCH)
 
 /* The work words of 64 bits that a call needs. */
@@ -148,7 +148,11 @@ extern "C" {
  *     switch ((PiRefusal)reply.refusal)
  */
 
-/* The kinds of nodes: children; operand. Where no operand is named it is 0. */
+/*
+ * The kinds of nodes: children; operand. Where no operand is named it is 0. A Div gives the largest
+ * integer not above the quotient: -7 by 2 and 7 by -2 are -4, -7 by -2 is 3. C's own division drops
+ * the fraction, so its quotients are one more where they are below 0 and not exact.
+ */
 typedef enum PiKind {
     /* Expressions. */
     PI_KIND_NUM = 1,     /* none; the number, any 32-bit word */
@@ -157,7 +161,7 @@ typedef enum PiKind {
     PI_KIND_SUM = 4,     /* two expressions; 4 to 14 alike */
     PI_KIND_SUB = 5,     /* first minus second */
     PI_KIND_MUL = 6,
-    PI_KIND_DIV = 7,     /* first by second, the fraction dropped toward zero */
+    PI_KIND_DIV = 7,     /* first by second, rounded down */
     PI_KIND_EQ = 8,
     PI_KIND_LT = 9,
     PI_KIND_LE = 10,

@@ -34,6 +34,11 @@ pub fn timed() -> Vec<Routine> {
         Routine::new("arithmetic: the factorial loop", image(2, factorial()), &[0, 2_400]),
         Routine::new("nested loops", image(4, nested_loops()), &[0, 14, 0, 0]),
         Routine::new("choices: a Cond in a loop", image(3, choices()), &[0, 2_000, 0]),
+        Routine::new(
+            "divisions: quotients of both signs",
+            image(3, divisions()),
+            &[0, 2_000, 1_000],
+        ),
         Routine::new("nested blocks and names", image(2, blocks()), &[0, 40]),
         Routine::new("calls with 8 Formals", image(2, calls()), &[0, 900]),
         Routine::new("locations: ValRef", image(2, locations()), &[0, 1_500]),
@@ -64,6 +69,13 @@ fn nested_loops() -> Command {
 fn choices() -> Command {
     let count = |register| assign(register, sum(id(register), num(1)));
     rounds(1, cond(lt(id(0), id(2)), count(0), count(2)))
+}
+
+/// In each round a position, from one on the left of the datum to one on its right, is divided
+/// by 7 and the quotient by −3: two quotients, the first of either sign.
+fn divisions() -> Command {
+    let position = sub(id(2), id(1));
+    rounds(1, assign(0, div(div(position, num(7)), sub(num(0), num(3)))))
 }
 
 /// In each round blocks within blocks, twenty names each, some of them read from

@@ -45,6 +45,7 @@ int main(int count, char **arguments)
     test_refusals();
     test_no_routine();
     test_choice();
+    test_division();
     test_needs();
     test_needed_steps();
     test_page();

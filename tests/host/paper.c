@@ -72,7 +72,7 @@ static const Case cases[] = {
     {"C budget 0", TREE(calculator), 0, {0}, 0, 0, REFUSED(30, 0, 0), {0}},
     {"D 3 - 5", TREE(subtraction), 0, {0}, MOST, 0, NUMBER(-2, 4), {0}},
     {"E 1 by 0", TREE(zero_divisor), 0, {0}, MOST, 0, REFUSED(31, 0, 3), {0}},
-    {"F -7 by 2", TREE(division), 1, {-7}, MOST, 0, NUMBER(-3, 4), {-7}},
+    {"F -7 by 2", TREE(division), 1, {-7}, MOST, 0, NUMBER(-4, 4), {-7}},
     {"G factorial of 3", TREE(factorial), 2, {1, 3}, MOST, COMMAND, NONE(71), {6, 0}},
     {"G factorial of 20", TREE(factorial), 2, {1, 20}, MOST, COMMAND, NONE(428),
      {INT64_C(2432902008176640000), 0}},

@@ -23,6 +23,11 @@ void test_choice(void);
 size_t choice_calls(void);
 Call choice_call(size_t index, uint32_t *image);
 
+/* Quotients of all signs; and their calls, for other tests. */
+void test_division(void);
+size_t division_calls(void);
+Call division_call(size_t index, uint32_t *image);
+
 /* Needs of routines that are listed by hand, and of a given number of steps. */
 void test_needs(void);
 void test_needed_steps(void);

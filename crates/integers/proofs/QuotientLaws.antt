@@ -9,33 +9,36 @@ use lib.IntN.{ℤ, pos, negsuc, natAbs}
 use Rattle.rules.specs.paper.Refusals.{reason-number}
 use Rattle.rules.specs.paper.Tree.{Div}
 use Rattle.rules.specs.paper.Integers.{ranged, floor, divide, compute}
-use Rattle.integers.specs.Words.{integer-of, computed, opposite, signed, Divisible}
+use Rattle.integers.specs.Words.{integer-of, computed, opposite, signed, rounding}
 use Rattle.integers.specs.declared.Computed.{Computed}
 use Rattle.integers.specs.declared.Computed.the-variants.{Failed}
 use Rattle.integers.proofs.SignedLaws.{magnitude-positive, magnitude-within}
 
 -- ---- The magnitude of a quotient that is rounded down.
 
--- With the divisor less one added, a number above 0 has one more than the quotient of the number before it.
-rounded-up : (a b : ℕ) → (suc a + (suc b - 1)) / suc b ≡ suc (a / suc b)
-rounded-up a b = rw (moved a b) (add-div-right a (omega arith) ∙ add-one (a / suc b))
-  where
-    moved : (a b : ℕ) → suc a + (suc b - 1) ≡ a + suc b
-    moved a b = omega arith
+-- The sum that is divided: for a negative quotient a whole divisor is added to the number before the dividend.
+added-negative : (a b : ℕ) → suc a + rounding true (suc b) ≡ a + suc b
+unfolding rounding
+added-negative a b = omega arith
 
-pub negative-floored : (t : Bool) (m n : ℕ) → t ≡ true → 0 < n → signed t ((m + (n - 1)) / n) ≡ floor (signed t m) n
-unfolding signed
-negative-floored t m zero negative positive = absurd (omega arith)
-negative-floored t zero (suc n) negative positive = rw (negative, div-eq-of-lt {n = 0 + (suc n - 1)} {m = suc n} (omega arith), zero-div (suc n))
-negative-floored t (suc m) (suc n) negative positive = rw (negative, rounded-up m n)
+added-below : (b : ℕ) → 0 + rounding true (suc b) < suc b
+unfolding rounding
+added-below b = omega arith
 
-pub other-floored : (t : Bool) (m n : ℕ) → t ≡ false → signed t (m / n) ≡ floor (signed t m) n
+added-other : (a b : ℕ) → a + rounding false b ≡ a
+unfolding rounding
+added-other a b = omega arith
+
+floored : (t : Bool) (m n : ℕ) → 0 < n → signed t ((m + rounding t n) / n) ≡ floor (signed t m) n
 unfolding signed
-other-floored t m n other = rw other
+floored t m zero positive = absurd (omega arith)
+floored true zero (suc n) positive = rw (div-eq-of-lt (added-below n), zero-div (suc n))
+floored true (suc m) (suc n) positive = rw (added-negative m n, add-div-right m {k = suc n} (omega arith), add-one (m / suc n))
+floored false m (suc n) positive = rw (added-other m (suc n))
 
 -- ---- The quotient.
 
--- Both signs may be turned, so the divisor's magnitude does.
+-- Both signs may be turned, so that the divisor is its magnitude.
 divide-floored : (x y : ℤ) → 0 < natAbs y → divide x y ≡ ranged (floor (signed (opposite x y) (natAbs x)) (natAbs y))
 unfolding signed opposite
 divide-floored x (pos zero) positive = absurd (omega arith)
@@ -44,18 +47,22 @@ divide-floored (negsuc a) (pos (suc b)) positive = refl
 divide-floored (pos a) (negsuc b) positive = refl
 divide-floored (negsuc a) (negsuc b) positive = refl
 
-pub quotient-answered : (a b m n q : ℕ) (t : Bool) (r : Computed) → (b ≡ 0 → ⊥) → m ≡ natAbs (integer-of a) → n ≡ natAbs (integer-of b) → t ≡ opposite (integer-of a) (integer-of b) → signed t q ≡ floor (signed t m) n → r ≡ computed (ranged (signed t q)) → r ≡ computed (compute Div (integer-of a) (integer-of b))
-unfolding compute
-quotient-answered a b m n q t r nonzero first second signs rounded answered =
-    answered ∙ sym (ap computed (divide-floored (integer-of a) (integer-of b) (magnitude-positive b nonzero)) ∙ rw (← signs, ← first, ← second, ← rounded))
+divide-signed : (x y : ℤ) → 0 < natAbs y → divide x y ≡ ranged (signed (opposite x y) ((natAbs x + rounding (opposite x y) (natAbs y)) / natAbs y))
+divide-signed x y positive = divide-floored x y positive ∙ ap ranged (sym (floored (opposite x y) (natAbs x) (natAbs y) positive))
 
-pub magnitudes-divisible : (a b m n : ℕ) → a < 2 ^ 64 → b < 2 ^ 64 → (b ≡ 0 → ⊥) → m ≡ natAbs (integer-of a) → n ≡ natAbs (integer-of b) → Divisible m n
-magnitudes-divisible a b m n fits-a fits-b nonzero first second =
-    record {
-      dividend-within = rw first (magnitude-within a fits-a);
-      divisor-positive = rw second (magnitude-positive b nonzero);
-      divisor-within = rw second (magnitude-within b fits-b);
-    }
+pub quotient-answered : (a b m n p : ℕ) (t : Bool) (r : Computed) → (b ≡ 0 → ⊥) → m ≡ natAbs (integer-of a) → n ≡ natAbs (integer-of b) → t ≡ opposite (integer-of a) (integer-of b) → p ≡ rounding t n → r ≡ computed (ranged (signed t ((m + p) / n))) → r ≡ computed (compute Div (integer-of a) (integer-of b))
+unfolding compute
+quotient-answered a b m n p t r nonzero first second signs added answered =
+    answered ∙ sym (ap computed (divide-signed (integer-of a) (integer-of b) (magnitude-positive b nonzero)) ∙ rw (added, signs, first, second))
+
+-- A sum of two magnitudes, the second less one, fits a word.
+pub sum-fits : (a b m n p : ℕ) (t : Bool) → a < 2 ^ 64 → b < 2 ^ 64 → (b ≡ 0 → ⊥) → m ≡ natAbs (integer-of a) → n ≡ natAbs (integer-of b) → p ≡ rounding t n → m + p < 2 ^ 64
+unfolding rounding
+sum-fits a b m n p t fits-a fits-b nonzero first second added = by t (rw second (magnitude-positive b nonzero)) added
+  where
+    by : (t : Bool) → 0 < n → p ≡ rounding t n → m + p < 2 ^ 64
+    by true positive added = omega (arith, magnitude-within a fits-a, magnitude-within b fits-b)
+    by false positive added = omega (arith, magnitude-within a fits-a, magnitude-within b fits-b)
 
 pub quotient-by-zero : (a b : ℕ) → b ≡ 0 → Failed 31 ≡ computed (compute Div (integer-of a) (integer-of b))
 unfolding compute computed reason-number integer-of

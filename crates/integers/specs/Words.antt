@@ -1,5 +1,5 @@
 -- Integers held as words, by two's complement in 64 bits, and what an arithmetic mark comes to in words.
-use Prim.Native.Nat.{ℕ, _-_, _^_, _≤_, _<_}
+use Prim.Native.Nat.{ℕ, _-_, _^_}
 use mathlib.Core.Bool.{Bool, true, false, cond, not, Bool·beq}
 use mathlib.Core.List.{List, [], _∷_}
 use lib.Dec.{ltb}
@@ -33,11 +33,10 @@ unfoldable pub signed : Bool → ℕ → ℤ
 signed true magnitude = negℤ (pos magnitude)
 signed false magnitude = pos magnitude
 
--- Magnitudes of integers of the range of which one can be divided by the other.
-pub record Divisible (dividend divisor : ℕ) : Type 0 where
-  pub dividend-within : dividend ≤ 2 ^ 63
-  pub divisor-positive : 0 < divisor
-  pub divisor-within : divisor ≤ 2 ^ 63
+-- What is added to the magnitude of a dividend before it is divided, so that the quotient is rounded down: true is a negative quotient.
+unfoldable pub rounding : Bool → (divisor : ℕ) → ℕ
+rounding true divisor = divisor - 1
+rounding false divisor = 0
 
 -- The integers that some words hold, and the words that hold some integers.
 unfoldable pub integers-of : List ℕ → List ℤ

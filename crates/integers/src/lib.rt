@@ -1,10 +1,11 @@
 // The arithmetic of the automaton: 64-bit integers, each held in one word by two's complement.
 ghost use mathlib.Core.Path.{_≡_};
+ghost use Prim.Native.Nat.{_<_};
 ghost use lib.IntN.{natAbs};
 ghost use lib.Signed.{ltZ};
 ghost use Rattle.rules.specs.paper.Tree.{Sum, Sub, Mul, Div};
-ghost use Rattle.rules.specs.paper.Integers.{compute, floor, ranged};
-ghost use Rattle.integers.specs.Words.{integer-of, computed, opposite, signed, Divisible};
+ghost use Rattle.rules.specs.paper.Integers.{compute, ranged};
+ghost use Rattle.integers.specs.Words.{integer-of, computed, opposite, signed, rounding};
 
 // 2^63: the words from here on hold the negative integers, and it is the magnitude of the least of them.
 const LEAST: u64 = 9223372036854775808;
@@ -106,16 +107,16 @@ pub fn product(first: u64, second: u64) -> Computed
     with_sign(negative, multiplicand * multiplier)
 }
 
-// The magnitude of a quotient rounded down, from its sign and the magnitudes of dividend and divisor. Where it is negative, down is away from
-// zero: with the divisor less one added before, any fraction counts as one more.
-fn floored(negative: bool, dividend: u64, divisor: u64) -> u64
-    requires { ⌜ Divisible dividend divisor ⌝ }
-    ensures { λ r. ⌜ signed negative r ≡ floor (signed negative dividend) divisor ⌝ }
+// What is added to the magnitude of a dividend before it is divided, so that the quotient is rounded down. A negative quotient has its
+// magnitude rounded up for that: any fraction counts as one more.
+fn rounding(negative: bool, divisor: u64) -> u64
+    requires { ⌜ 0 < divisor ⌝ }
+    ensures { λ r. ⌜ r ≡ rounding negative divisor ⌝ }
 {
     if negative {
-        return (dividend + (divisor - 1)) / divisor;
+        return divisor - 1;
     }
-    dividend / divisor
+    0
 }
 
 // The first by the second: the largest integer not above the quotient, by their magnitudes.
@@ -128,5 +129,6 @@ pub fn quotient(first: u64, second: u64) -> Computed
     let dividend = magnitude(first);
     let divisor = magnitude(second);
     let negative = opposite(first, second);
-    with_sign(negative, floored(negative, dividend, divisor))
+    let added = rounding(negative, divisor);
+    with_sign(negative, (dividend + added) / divisor)
 }

@@ -15,4 +15,5 @@ pub mod Needs
 pub mod Engine
 pub mod Cases
 pub mod Choices
+pub mod Quotients
 pub mod Prices

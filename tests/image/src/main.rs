@@ -46,7 +46,8 @@ slot with no routine; such as
     (Assign 0 (Sum (Id 1) (Id 1))))
 
 Numbers are 0 to 4294967295, truths are true and false; tests/image/README.md has every
-form of list.
+form of list. A Div gives the largest integer not above the quotient: -7 by 2 and 7 by -2
+are -4.
 
 In `refused N at P` the refusal's number is N, as `image refusals` lists them. For 3 to 6
 and 10 to 14, P is the number of a node, which show marks and find finds. If several of

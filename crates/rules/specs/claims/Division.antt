@@ -1,13 +1,13 @@
 -- What Div gives (document 02, request 7), stated by order, sum and product alone: the largest integer not above the quotient, for both signs of
--- the divisor; for every two integers of the range which answer there is, 31 and 32 among them; and that moving the dividend by a multiple of
--- the divisor moves the quotient by that multiple, across 0 too. proofs/running/Division.antt proves it.
-use Prim.Native.Nat.{_-_}
+-- the divisor; for every two integers of the range which answer there is, 31 and 32 among them; and that a dividend moved by a multiple of the
+-- divisor has its quotient moved by that multiple, across 0 too. proofs/running/Division.antt proves it.
 use mathlib.Core.Path.{_≡_}
 use lib.Dec.{T}
 use lib.IntN.{ℤ, pos, negsuc, _+ℤ_, _*ℤ_}
 use lib.Signed.{_≤ℤ_, _<ℤ_}
 use Rattle.rules.specs.paper.Refusals.{ZeroDivisor, OutOfRange}
-use Rattle.rules.specs.paper.Integers.{range-bound, in-range, Result, number, failed, ranged, divide}
+use Rattle.rules.specs.paper.Tree.{Div}
+use Rattle.rules.specs.paper.Integers.{lowest-integer, in-range, Result, number, failed, ranged, compute}
 
 -- The integer q is not above the quotient of a by b: q × b is not above a. A divisor below 0 turns the order: a is not above q × b.
 abbrev pub NotAbove : (q a b : ℤ) → Type 0
@@ -23,16 +23,13 @@ abbrev pub Between : (q a b : ℤ) → Type 0
 Between q a (pos b) = ((q *ℤ pos b) ≤ℤ a) × (a <ℤ ((q +ℤ pos 1) *ℤ pos b))
 Between q a (negsuc b) = (a ≤ℤ (q *ℤ negsuc b)) × (((q +ℤ pos 1) *ℤ negsuc b) <ℤ a)
 
--- For any integers: one integer is the largest not above the quotient, and `divide` gives it where it is in range.
+-- For any integers: one integer is the largest not above the quotient, and Div gives it where it is in range.
 pub record Divided (a b : ℤ) : Type 0 where
   pub quotient : ℤ
   pub is-largest : LargestNotAbove quotient a b
   pub only : (q : ℤ) → LargestNotAbove q a b → q ≡ quotient
   pub between : Between quotient a b
-  pub answered : divide a b ≡ ranged quotient
-
-abbrev pub lowest-integer : ℤ
-lowest-integer = negsuc (range-bound - 1)
+  pub answered : compute Div a b ≡ ranged quotient
 
 -- For integers of the range: a zero divisor is 31, the lowest integer by −1 is 32, and everything else has a quotient, in range.
 pub data Division (a b : ℤ) : Result → Type 0 where
@@ -42,6 +39,6 @@ pub data Division (a b : ℤ) : Result → Type 0 where
 
 pub record DivisionClaim : Type 0 where
   pub divides : (a b : ℤ) → (b ≡ pos 0 → ⊥) → Divided a b
-  pub answers : (a b : ℤ) → T (in-range a) → T (in-range b) → Division a b (divide a b)
-  -- One grid on both sides of 0: k divisors further on, the quotient is k more.
-  pub moves : (k q a b : ℤ) → LargestNotAbove q a b → LargestNotAbove (q +ℤ k) (a +ℤ k *ℤ b) b
+  pub answers : (a b : ℤ) → T (in-range a) → T (in-range b) → Division a b (compute Div a b)
+  -- One grid on both sides of 0: of a dividend that lies k divisors further on, the quotient is k more.
+  pub moves : (k q a b : ℤ) → compute Div a b ≡ number q → compute Div (a +ℤ k *ℤ b) b ≡ ranged (q +ℤ k)

@@ -1,5 +1,5 @@
 -- Integers and what the marks of the operators do with them (paper, "The automaton").
-use Prim.Native.Nat.{ℕ, zero, suc, _/_}
+use Prim.Native.Nat.{ℕ, zero, suc, _-_, _/_}
 use mathlib.Core.Bool.{Bool, true, false, cond, _&&_, _||_, Bool·beq}
 use lib.Dec.{eqb, ltb}
 use lib.IntN.{ℤ, pos, negsuc, negℤ, _+ℤ_, _-ℤ_, _*ℤ_}
@@ -14,6 +14,12 @@ range-bound = 9223372036854775808
 -- Integers are −2^63 to 2^63 − 1: `mag` is n both for n and for −(n + 1), so the range is one bound.
 abbrev pub in-range : ℤ → Bool
 in-range z = ltb (mag z) range-bound
+
+abbrev pub lowest-integer : ℤ
+lowest-integer = negsuc (range-bound - 1)
+
+abbrev pub greatest-integer : ℤ
+greatest-integer = pos (range-bound - 1)
 
 -- What an arithmetic mark comes to: an integer, or the reason for which its step is withheld.
 pub data Result : Type 0 where

@@ -1,12 +1,12 @@
 -- Laws of the integers' order, sum and product: what the lemmas of the library leave out. Negation turns the order, a summand on both sides
 -- keeps it, and products distribute over a first factor's sum.
-use Prim.Native.Nat.{ℕ, zero, suc, _≤_, _<_}
+use Prim.Native.Nat.{ℕ, zero, suc, _<_}
 use mathlib.Core.Path.{_≡_, refl, sym, ap, _∙_}
-use mathlib.Core.Bool.{Bool, true, false, not}
+use mathlib.Core.Bool.{Bool, true, false}
 use mathlib.Core.Logic.{_↔_}
 use native.Mathlib.Omega.{arith}
 use native.Mathlib.Nat.{le-antisymm}
-use lib.Dec.{T, leb, ltb, leb→le, le→leb}
+use lib.Dec.{T, leb→le, le→leb}
 use lib.IntN.{ℤ, pos, negsuc, negℤ, sucℤ, predℤ, _+ℤ_, _-ℤ_, _*ℤ_, negℤ-negℤ, negℤ-sucℤ, +ℤ-idr, +ℤ-assoc, +ℤ-sucℤ, +ℤ-predℤ, -ℤ-one, zero-*ℤ, sucℤ-*ℤ, predℤ-*ℤ}
 use lib.Signed.{ltZ, leZ, _≤ℤ_, _<ℤ_, ltZ-no}
 

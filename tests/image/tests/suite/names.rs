@@ -1,11 +1,14 @@
 //! The tables of refusals agree: the second interpreter's, its constants, the
 //! header's and the one in the README. So does the order in which the reasons of a step
-//! are told.
+//! are told, and what is told of quotients.
 
 use crate::binary::text_said;
+use second::arithmetic::operate;
 use second::execution::reasons_of_room;
 use second::refusal::{Row, OUT_OF_RANGE, STEPS, TABLE, ZERO_DIVISOR};
 use second::state::Heights;
+use second::store::Value;
+use second::tree::Operator;
 use std::path::PathBuf;
 
 /// A file of the repository.
@@ -148,6 +151,26 @@ fn the_readme_has_the_table() {
         assert_eq!(cells.len(), 4, "{cells:?}");
         let right = if row.place_is_node { place.starts_with("the node") } else { place == "–" };
         assert!(right, "{cells:?}");
+    }
+}
+
+/// What a quotient is rounded to, which stands in each text for users, is the second
+/// interpreter's.
+#[test]
+fn quotients_are_told() {
+    let quotient = |left, right| {
+        let (left, right) = (Value::Integer(left), Value::Integer(right));
+        match operate(Operator::Div, left, right) {
+            Some(Ok(Value::Integer(quotient))) => quotient,
+            other => panic!("{other:?}"),
+        }
+    };
+    assert_eq!(quotient(-7, 2), quotient(7, -2));
+    let told = format!("-7 by 2 and 7 by -2 are {}", quotient(7, -2));
+    let texts = ["README.md", "CHANGELOG.md", "include/pi_engine.h", "tests/image/README.md"];
+    for text in texts.map(file).into_iter().chain([text_said(&["help"], &[])]) {
+        let words: Vec<&str> = text.split_whitespace().filter(|word| *word != "*").collect();
+        assert!(words.join(" ").contains(&told), "no `{told}`");
     }
 }
 

@@ -1,20 +1,20 @@
--- `divide` gives the largest integer not above the quotient, as claims/Division.antt states it. For a divisor above 0 that is a fact on
+-- Div gives the largest integer not above the quotient, as claims/Division.antt states it. For a divisor above 0 that is a fact on
 -- the quotients of numbers, by the signs of the dividend; a divisor below 0 is one above 0 with both signs turned.
 use Prim.Native.Nat.{ℕ, zero, suc, _-_, _*_, _/_, _≤_, _<_}
 use mathlib.Core.Path.{_≡_, refl, sym, ap, _∙_}
 use mathlib.Core.Bool.{Bool, true, false, cond}
-use mathlib.Core.Logic.{_↔_}
 use native.Mathlib.Omega.{arith}
-use native.Mathlib.Nat.{div-mul-le-self, lt-div-mul-add, le-div-iff-mul-le, div-lt-iff-lt-mul, div-le-self, div-lt-self, div-one, suc-mul}
+use native.Mathlib.Nat.{div-mul-le-self, lt-div-mul-add, le-div-iff-mul-le, div-lt-iff-lt-mul, div-le-self, div-lt-self, suc-mul}
 use borrow.Author.Tests.{le-ltb}
-use lib.Dec.{T, leb, ltb, leb→le, le→leb, ltb→lt, lt→ltb}
+use lib.Dec.{T, leb→le, le→leb, ltb→lt, lt→ltb}
 use lib.IntN.{ℤ, pos, negsuc, negℤ, pos-ne-negsuc, _+ℤ_, _-ℤ_, _*ℤ_, negℤ-negℤ, *ℤ-negsuc, +ℤ-idr, +ℤ-one, +ℤ-assoc, +ℤ-invr, zero-*ℤ, -ℤ-+ℤ-cancel}
-use lib.Signed.{mag, leZ, _≤ℤ_, _<ℤ_}
+use lib.Signed.{_≤ℤ_}
 use Rattle.rules.specs.proofs.Basics.{by-order, true-test}
 use Rattle.rules.specs.proofs.IntegerOrder.{at-most, above, same-by-order, negated-at-most, negation-turns, sum-keeps-order, successor-above, sum-of-products}
-use Rattle.rules.specs.paper.Refusals.{ZeroDivisor, OutOfRange}
-use Rattle.rules.specs.paper.Integers.{range-bound, in-range, Result, number, failed, ranged, floor, divide}
-use Rattle.rules.specs.claims.Division.{NotAbove, LargestNotAbove, Between, Divided, lowest-integer, Division, by-zero, lowest-by-minus-one, gives, DivisionClaim}
+use Rattle.rules.specs.paper.Refusals.{OutOfRange}
+use Rattle.rules.specs.paper.Tree.{Div}
+use Rattle.rules.specs.paper.Integers.{range-bound, in-range, number, failed, ranged, floor, compute}
+use Rattle.rules.specs.claims.Division.{NotAbove, LargestNotAbove, Between, Divided, Division, by-zero, lowest-by-minus-one, gives, DivisionClaim}
 
 -- ---- A divisor above 0.
 
@@ -64,8 +64,8 @@ quotient-largest a (pos zero) nonzero = absurd (nonzero refl)
 quotient-largest a (pos (suc b)) nonzero = largest-floor b a
 quotient-largest a (negsuc b) nonzero = largest-turned b a
 
-quotient-answered : (a b : ℤ) → (b ≡ pos 0 → ⊥) → divide a b ≡ ranged (quotient-of a b)
-unfolding quotient-of
+quotient-answered : (a b : ℤ) → (b ≡ pos 0 → ⊥) → compute Div a b ≡ ranged (quotient-of a b)
+unfolding quotient-of compute
 quotient-answered a (pos zero) nonzero = absurd (nonzero refl)
 quotient-answered a (pos (suc b)) nonzero = refl
 quotient-answered a (negsuc b) nonzero = refl
@@ -116,7 +116,8 @@ module _ (a b : ℤ) (nonzero : b ≡ pos 0 → ⊥) where
   given q largest fits = rw (true-test (in-range q) fits) (gives q nonzero largest fits)
 
 -- Only the lowest integer by −1 leaves the range: a larger divisor makes the quotient smaller.
-negative-by-negative : (a b : ℕ) → T (in-range (negsuc a)) → Division (negsuc a) (negsuc b) (divide (negsuc a) (negsuc b))
+negative-by-negative : (a b : ℕ) → T (in-range (negsuc a)) → Division (negsuc a) (negsuc b) (compute Div (negsuc a) (negsuc b))
+unfolding compute
 negative-by-negative a b fits =
     by-order (suc a / suc b) range-bound
     (λ low. given (negsuc a) (negsuc b) (negative-nonzero b) (pos (suc a / suc b)) (largest-turned b (negsuc a)) (lt→ltb (suc a / suc b) range-bound low))
@@ -129,7 +130,8 @@ negative-by-negative a b fits =
     one zero high = refl
     one (suc b) high = absurd (omega (arith, div-lt-self {n = suc a} {k = suc (suc b)} (omega arith) (omega arith), ltb→lt a range-bound fits))
 
-answers : (a b : ℤ) → T (in-range a) → T (in-range b) → Division a b (divide a b)
+answers : (a b : ℤ) → T (in-range a) → T (in-range b) → Division a b (compute Div a b)
+unfolding compute
 answers a (pos zero) fits-a fits-b = by-zero refl
 answers a (pos (suc b)) fits-a fits-b = given a (pos (suc b)) (positive-nonzero b) (floor a (suc b)) (largest-floor b a) (floor-in-range a (suc b) fits-a)
 answers (pos a) (negsuc b) fits-a fits-b =
@@ -146,13 +148,35 @@ moved-back : (k a b : ℤ) → (a +ℤ k *ℤ b) +ℤ negℤ k *ℤ b ≡ a
 moved-back k a b =
     +ℤ-assoc a (k *ℤ b) (negℤ k *ℤ b) ∙ ap (λ x. a +ℤ x) (sym (sum-of-products k b (negℤ k)) ∙ ap (λ x. x *ℤ b) (+ℤ-invr k) ∙ zero-*ℤ b) ∙ +ℤ-idr a
 
-moves : (k q a b : ℤ) → LargestNotAbove q a b → LargestNotAbove (q +ℤ k) (a +ℤ k *ℤ b) b
-moves k q a b h = record { not-above = not-above-moved k q a b (h .not-above); largest = largest-moved }
+largest-moved : (k q a b : ℤ) → LargestNotAbove q a b → LargestNotAbove (q +ℤ k) (a +ℤ k *ℤ b) b
+largest-moved k q a b h = record { not-above = not-above-moved k q a b (h .not-above); largest = at-most-moved }
   where
-    largest-moved : (p : ℤ) → NotAbove p (a +ℤ k *ℤ b) b → p ≤ℤ (q +ℤ k)
-    largest-moved p l =
+    at-most-moved : (p : ℤ) → NotAbove p (a +ℤ k *ℤ b) b → p ≤ℤ (q +ℤ k)
+    at-most-moved p l =
         let back : NotAbove (p -ℤ k) a b = rw (← moved-back k a b) (not-above-moved (negℤ k) p (a +ℤ k *ℤ b) b l) in
         rw (-ℤ-+ℤ-cancel p k) at (sum-keeps-order k (h .largest (p -ℤ k) back))
+
+ranged-number : (z q : ℤ) → ranged z ≡ number q → z ≡ q
+ranged-number z q = by (in-range z)
+  where
+    by : (t : Bool) → cond t (number z) (failed OutOfRange) ≡ number q → z ≡ q
+    by true same = cc
+    by false same = let clash : _≡_ {A = ℕ} 0 1 = cc in absurd (omega arith)
+
+by-nonzero : (a b q : ℤ) → compute Div a b ≡ number q → b ≡ pos 0 → ⊥
+unfolding compute
+by-nonzero a (pos zero) q given zeroed = let clash : _≡_ {A = ℕ} 0 1 = cc in omega arith
+by-nonzero a (pos (suc b)) q given zeroed = positive-nonzero b zeroed
+by-nonzero a (negsuc b) q given zeroed = negative-nonzero b zeroed
+
+moves : (k q a b : ℤ) → compute Div a b ≡ number q → compute Div (a +ℤ k *ℤ b) b ≡ ranged (q +ℤ k)
+moves k q a b same =
+    let nonzero = by-nonzero a b q same in
+    let here = divided a b nonzero in
+    let there = divided (a +ℤ k *ℤ b) b nonzero in
+    let is : here .quotient ≡ q = ranged-number (here .quotient) q (sym (here .answered) ∙ same) in
+    let moved : (q +ℤ k) ≡ there .quotient = there .only (q +ℤ k) (rw is at (largest-moved k (here .quotient) a b (here .is-largest))) in
+    there .answered ∙ ap ranged (sym moved)
 
 -- ---- The claim.
 
