@@ -109,6 +109,20 @@ fn the_largest_integer_not_above_the_quotient() {
     }
 }
 
+/// What has changed from the rule before, which dropped the fraction toward zero: quotients that
+/// are below 0 and not exact are one less, and no other differs.
+#[test]
+fn one_less_than_toward_zero_where_below_0_and_not_exact() {
+    for left in (-30..=30).chain([LEAST, LEAST + 1, MOST]) {
+        for right in (-12..=12).chain([LEAST, MOST]).filter(|right| *right != 0) {
+            let Some(toward_zero) = left.checked_div(right) else { continue };
+            let below = (left < 0) != (right < 0) && left % right != 0;
+            let expected = toward_zero - i64::from(below);
+            assert_eq!(quotient(left, right), Outcome::Number(expected), "{left} by {right}");
+        }
+    }
+}
+
 /// Positions that are so many divisors apart have quotients that are as many apart, on one
 /// side of 0 and across it.
 #[test]
