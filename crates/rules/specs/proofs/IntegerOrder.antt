@@ -97,11 +97,11 @@ module _ (p b : ℤ) where
   one-less q h =
       ap (λ x. x *ℤ b) (+ℤ-predℤ p q) ∙ predℤ-*ℤ (p +ℤ q) b ∙ ap (λ x. x -ℤ b) h ∙ +ℤ-assoc (p *ℤ b) (q *ℤ b) (negℤ b) ∙ sym (ap (λ x. p *ℤ b +ℤ x) (predℤ-*ℤ q b))
 
-  none : Distributes (pos zero)
-  none = ap (λ x. x *ℤ b) (+ℤ-idr p) ∙ sym (ap (λ x. p *ℤ b +ℤ x) (zero-*ℤ b) ∙ +ℤ-idr (p *ℤ b))
+  of-zero : Distributes (pos zero)
+  of-zero = ap (λ x. x *ℤ b) (+ℤ-idr p) ∙ sym (ap (λ x. p *ℤ b +ℤ x) (zero-*ℤ b) ∙ +ℤ-idr (p *ℤ b))
 
   pub sum-of-products : (q : ℤ) → (p +ℤ q) *ℤ b ≡ p *ℤ b +ℤ q *ℤ b
-  sum-of-products (pos zero) = none
+  sum-of-products (pos zero) = of-zero
   sum-of-products (pos (suc q)) = one-more (pos q) (sum-of-products (pos q))
-  sum-of-products (negsuc zero) = one-less (pos zero) none
+  sum-of-products (negsuc zero) = one-less (pos zero) of-zero
   sum-of-products (negsuc (suc q)) = one-less (negsuc q) (sum-of-products (negsuc q))

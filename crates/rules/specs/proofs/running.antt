@@ -11,6 +11,7 @@ pub mod FrameSteps
 pub mod Judging
 pub mod Order
 pub mod Division
+pub mod DivisionBefore
 pub mod WholeRun
 pub mod RunEnds
 pub mod NoRoutine

@@ -94,7 +94,7 @@ divided a b nonzero =
 
 -- ---- Integers of the range.
 
-smaller-in-range : (m n : ℕ) → m ≤ n → T (in-range (pos n)) → T (in-range (pos m))
+pub smaller-in-range : (m n : ℕ) → m ≤ n → T (in-range (pos n)) → T (in-range (pos m))
 smaller-in-range m n smaller fits = lt→ltb m range-bound (omega (arith, ltb→lt n range-bound fits))
 
 floor-in-range : (a : ℤ) (b : ℕ) → T (in-range a) → T (in-range (floor a b))
