@@ -52,7 +52,7 @@ pub enum Family {
     /// 300 nodes; one in three has a change at a Call, which may be a fault.
     Functions,
     /// Quotients of every sign, of each other, in Assigns, Conds, loops and functions, up to
-    /// some 200 nodes, with starting values of every sign and size.
+    /// some 120 nodes, with starting values of every sign and size.
     Divisions,
     /// Near a limit of nodes, depth, cells, bindings or stack entries.
     Limits,
