@@ -1,5 +1,6 @@
 pub mod KindNumbers
 pub mod Pack
+pub mod PackLaws
 pub mod Put
 pub mod Scan
 pub mod Tables

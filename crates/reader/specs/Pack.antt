@@ -1,5 +1,6 @@
--- What the reader keeps of an image: a work word a node, which holds its kind, the first node after its descendants, and its operand.
-use Prim.Native.Nat.{ℕ, suc, _+_, _*_, _/_, _%_}
+-- What the reader keeps of an image: a work word a node, which holds its kind, the first node after its descendants (its end), and its
+-- operand.
+use Prim.Native.Nat.{ℕ, suc, _+_, _*_, _/_, _%_, _^_}
 use mathlib.Core.List.{List, [], _∷_, _++_}
 use lib.ListN.{length}
 use Rattle.rules.specs.paper.Kinds.{operator-number}
@@ -8,24 +9,35 @@ use Rattle.rules.specs.paper.Limits.{names}
 use Rattle.rules.specs.claims.Listing.{truth-word}
 use Rattle.reader.specs.KindNumbers.{num-number, boo-number, id-number, not-number, deref-number, valref-number, assign-number, loop-number, cseq-number, blk-number, call-number, conditional-number, bind-number, dseq-number, ref-number, abs-number, formal-number}
 
--- The room of a kind and of an end in a node's word, and what one unit of the operand above them counts.
+-- The kinds' numbers are below this one.
 abbrev pub kinds-room : ℕ
 kinds-room = 64
 
+-- The fields of a node's word, each where a load of its width finds it: the kind in bits 0 to 15, the end in bits 16 to 31, the operand
+-- in bits 32 to 63. What one unit of the end counts, how many numbers an end's field holds, and what one unit of the operand counts.
+abbrev pub kind-bits : ℕ
+kind-bits = 16
+
+abbrev pub end-bits : ℕ
+end-bits = 16
+
+abbrev pub end-unit : ℕ
+end-unit = 2 ^ kind-bits
+
 abbrev pub ends-room : ℕ
-ends-room = 2048
+ends-room = 2 ^ end-bits
 
 abbrev pub operand-unit : ℕ
-operand-unit = kinds-room * ends-room
+operand-unit = end-unit * ends-room
 
 abbrev pub pack : (kind operand end : ℕ) → ℕ
-pack k w e = k + kinds-room * e + operand-unit * w
+pack k w e = k + end-unit * e + operand-unit * w
 
 abbrev pub packed-kind : ℕ → ℕ
-packed-kind x = x % kinds-room
+packed-kind x = x % end-unit
 
 abbrev pub packed-end : ℕ → ℕ
-packed-end x = x / kinds-room % ends-room
+packed-end x = x / end-unit % ends-room
 
 abbrev pub packed-operand : ℕ → ℕ
 packed-operand x = x / operand-unit

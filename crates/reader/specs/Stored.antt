@@ -13,6 +13,7 @@ use Rattle.rules.specs.paper.Limits.{most-nodes, most-depth, names, codes, most
 use Rattle.rules.specs.claims.Listing.{truth-word}
 use Rattle.reader.specs.KindNumbers.{num-number, boo-number, id-number, not-number, deref-number, valref-number, assign-number, loop-number, cseq-number, blk-number, call-number, conditional-number, bind-number, dseq-number, ref-number, abs-number, formal-number}
 use Rattle.reader.specs.Pack.{kinds-room, pack, packed-kind, packed-end, packed-operand}
+use Rattle.reader.specs.PackLaws.{kind-fits, end-fits, kind-back, end-back, operand-back}
 
 -- The word of a node: its kind, its operand, and the first node after its descendants.
 pub record HasWord (words : List ℕ) (place kind operand end : ℕ) : Type 0 where
@@ -22,22 +23,13 @@ pub record HasWord (words : List ℕ) (place kind operand end : ℕ) : Type 0 wh
   pub end-low : end ≤ most-nodes
 
 pub kind-is : {words : List ℕ} {i k w e : ℕ} → HasWord words i k w e → k < kinds-room → packed-kind (getD words i 0) ≡ k
-kind-is {k = k} {w = w} {e = e} h l = ap packed-kind (h .word) ∙ inside k w e l
-  where
-    inside : (k w e : ℕ) → k < kinds-room → packed-kind (pack k w e) ≡ k
-    inside k w e g = omega arith
+kind-is {k = k} {w = w} {e = e} h l = ap packed-kind (h .word) ∙ kind-back k w e (kind-fits k l)
 
 pub end-is : {words : List ℕ} {i k w e : ℕ} → HasWord words i k w e → k < kinds-room → packed-end (getD words i 0) ≡ e
-end-is {k = k} {w = w} {e = e} h l = ap packed-end (h .word) ∙ inside k w e l (h .end-low)
-  where
-    inside : (k w e : ℕ) → k < kinds-room → e ≤ most-nodes → packed-end (pack k w e) ≡ e
-    inside k w e g m = omega arith
+end-is {k = k} {w = w} {e = e} h l = ap packed-end (h .word) ∙ end-back k w e (kind-fits k l) (end-fits e (h .end-low))
 
 pub operand-is : {words : List ℕ} {i k w e : ℕ} → HasWord words i k w e → k < kinds-room → packed-operand (getD words i 0) ≡ w
-operand-is {k = k} {w = w} {e = e} h l = ap packed-operand (h .word) ∙ inside k w e l (h .end-low)
-  where
-    inside : (k w e : ℕ) → k < kinds-room → e ≤ most-nodes → packed-operand (pack k w e) ≡ w
-    inside k w e g m = omega arith
+operand-is {k = k} {w = w} {e = e} h l = ap packed-operand (h .word) ∙ operand-back k w e (kind-fits k l) (end-fits e (h .end-low))
 
 pub data StoredExpression (words : List ℕ) : (depth place next : ℕ) → Expression → Type 0 where
   num : {d i n : ℕ} → HasWord words i num-number n (suc i) → StoredExpression words (suc d) i (suc i) (Num i n)

@@ -10,7 +10,7 @@ ghost use Rattle.rules.specs.paper.Limits.{most-nodes, most-depth, words};
 ghost use Rattle.rules.specs.paper.Reader.{size-fits, read};
 ghost use Rattle.reader.specs.Scan.{scan};
 ghost use Rattle.reader.specs.Tables.{sort-numbers, sort-of-number};
-ghost use Rattle.reader.specs.Pack.{kinds-room, ends-room, pack, packed-kind, packed-operand, packed-end};
+ghost use Rattle.reader.specs.Pack.{pack, packed-kind, packed-operand, packed-end};
 ghost use Rattle.reader.specs.Answers.{nodes-at, Readable, Outcome, ShapeAnswer};
 
 // The paper's limits of an image: how many nodes and how many registers it has at most.
@@ -33,22 +33,21 @@ pub enum Shape {
     Refused(u64, usize),
 }
 
-// The room of a kind and of an end in a node's word, and what one unit of the operand above them counts (specs/Pack.antt).
-const KINDS_ROOM: u64 = 64;
+// The fields of a node's word: 16 bits for the kind, 16 bits for the end, 32 bits for the operand (specs/Pack.antt).
+const END_UNIT: u64 = 1 << 16;
 
-const ENDS_ROOM: u64 = 2048;
+const ENDS_ROOM: u64 = 1 << 16;
 
-const OPERAND_UNIT: u64 = KINDS_ROOM * ENDS_ROOM;
+const OPERAND_UNIT: u64 = END_UNIT * ENDS_ROOM;
 
 // How deep a tree may be.
 const MOST_DEPTH: usize = 64;
 
-// The word of a node: its kind, the first node after its descendants, and its operand.
-fn node_word(kind: usize, operand: u64, end: usize) -> u64
-    requires { ⌜ (kind < kinds-room) × (operand < words) × (end < ends-room) ⌝ }
+// The word of a node: its kind, the first node after its descendants, and its operand, each in its field.
+fn node_word(kind: u16, operand: u32, end: u16) -> u64
     ensures { λ r. ⌜ r ≡ pack kind operand end ⌝ }
 {
-    kind as u64 + KINDS_ROOM * (end as u64) + OPERAND_UNIT * operand
+    kind as u64 + END_UNIT * (end as u64) + OPERAND_UNIT * (operand as u64)
 }
 
 // A node with its descendants, with this many levels of depth left for it.
@@ -89,7 +88,7 @@ fn read_node(
         end = next;
         left = left - 1;
     }
-    work[at] = node_word(kind, operand, end);
+    work[at] = node_word(kind as u16, operand as u32, end as u16);
     Scanned::Next(end)
 }
 
@@ -141,7 +140,7 @@ pub fn kind(work: &[u64], node: usize) -> usize
     requires { ⌜ node < length (now work) ⌝ }
     ensures { λ r. ⌜ r ≡ packed-kind (getD (now (work .entry)) node 0) ⌝ }
 {
-    (work[node] % KINDS_ROOM) as usize
+    (work[node] % END_UNIT) as usize
 }
 
 pub fn operand(work: &[u64], node: usize) -> usize
@@ -155,5 +154,5 @@ pub fn end(work: &[u64], node: usize) -> usize
     requires { ⌜ node < length (now work) ⌝ }
     ensures { λ r. ⌜ r ≡ packed-end (getD (now (work .entry)) node 0) ⌝ }
 {
-    (work[node] / KINDS_ROOM % ENDS_ROOM) as usize
+    (work[node] / END_UNIT % ENDS_ROOM) as usize
 }

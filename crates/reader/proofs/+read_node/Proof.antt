@@ -207,19 +207,33 @@ read-node-loop-again t c =
     let a = start .args in
     one-read _ _ _ _ _ _ _ _ _ (loop .loop .inv) _ _ _ (sort-there (a .sort) (kind-at (now (a .image)) (a .at)) (operand-at (now (a .image)) (a .n) (a .at)) (sym (fault .node-fault .ensures _ (row .row .ensures)) ∙ count .before .before .if2 .left) _ _ _ (row .row .ensures) (sort .child-sort .ensures) (loop .loop .inv .few)) (child .read-node .ensures) _ (c .before .child .given .1)
 
-read-node-node-word-requires : (t : ℕ) → read-node-lts.Need-node-word-requires (read-node-calls t) (read-node-at t) read-node.Post read-node-Inv-loop read-node-μ-loop
-read-node-node-word-requires t c κs =
+read-node-cast-node-word : (t : ℕ) → read-node-lts.Need-cast-node-word (read-node-calls t) (read-node-at t) read-node.Post read-node-Inv-loop read-node-μ-loop
+read-node-cast-node-word t c =
     let loop = c .before in
     let count = loop .before in
     let fault = count .before .before .before in
     let row = fault .before in
     let start = row .before .before .before .before .before .before in
     let a = start .args in
-    let readable = loop .loop .inv .readable in (
-      omega (arith, kind-low (a .sort) (kind-at (now (a .image)) (a .at)) (operand-at (now (a .image)) (a .n) (a .at)) (sym (fault .node-fault .ensures _ (row .row .ensures)) ∙ count .before .before .if2 .left)),
-      omega (arith, row .before .shared-slice-known3 .given (2 + a .n + a .at)),
-      omega (arith, readable .few, readable .within),
-    )
+    omega (arith, kind-low (a .sort) (kind-at (now (a .image)) (a .at)) (operand-at (now (a .image)) (a .n) (a .at)) (sym (fault .node-fault .ensures _ (row .row .ensures)) ∙ count .before .before .if2 .left))
+
+read-node-cast-node-word-2 : (t : ℕ) → read-node-lts.Need-cast-node-word-2 (read-node-calls t) (read-node-at t) read-node.Post read-node-Inv-loop read-node-μ-loop
+read-node-cast-node-word-2 t c =
+    let loop = c .before in
+    let count = loop .before in
+    let fault = count .before .before .before in
+    let row = fault .before in
+    let start = row .before .before .before .before .before .before in
+    let a = start .args in
+    omega (arith, row .before .shared-slice-known3 .given (2 + a .n + a .at))
+
+read-node-cast-node-word-3 : (t : ℕ) → read-node-lts.Need-cast-node-word-3 (read-node-calls t) (read-node-at t) read-node.Post read-node-Inv-loop read-node-μ-loop
+read-node-cast-node-word-3 t c =
+    let readable = c .before .loop .inv .readable in
+    omega (arith, readable .few, readable .within)
+
+read-node-node-word-requires : (t : ℕ) → read-node-lts.Need-node-word-requires (read-node-calls t) (read-node-at t) read-node.Post read-node-Inv-loop read-node-μ-loop
+read-node-node-word-requires t c κs = search needs
 
 read-node-mul-work : (t : ℕ) → read-node-lts.Need-mul-work (read-node-calls t) (read-node-at t) read-node.Post read-node-Inv-loop read-node-μ-loop
 read-node-mul-work t c =
@@ -287,6 +301,9 @@ pub +read-node-spec : {M : Type 1} → statement M
     (read-node-sub-left t)
     (read-node-loop-less t)
     (read-node-loop-again t)
+    (read-node-cast-node-word t)
+    (read-node-cast-node-word-2 t)
+    (read-node-cast-node-word-3 t)
     (read-node-node-word-requires t)
     (read-node-mul-work t)
     (read-node-slice-write-work t)
