@@ -97,8 +97,8 @@ extern "C" {
  */
 #define PI_VERSION_MAJOR 7
 #define PI_VERSION_MINOR 0
-#define PI_VERSION_PATCH 0
-#define PI_VERSION "7.0.0"
+#define PI_VERSION_PATCH 1
+#define PI_VERSION "7.0.1"
 #define PI_VERSION_NUMBER (PI_VERSION_MAJOR * 10000 + PI_VERSION_MINOR * 100 + PI_VERSION_PATCH)
 
 /* The work words of 64 bits that a call needs. */

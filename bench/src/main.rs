@@ -2,6 +2,7 @@
 
 mod images;
 mod measure;
+mod placement;
 mod race;
 mod routines;
 mod rows;

@@ -5,6 +5,7 @@ mod bytes;
 mod changes;
 mod check;
 mod command_line;
+mod ends;
 mod helpers;
 mod image_calls;
 mod needs;

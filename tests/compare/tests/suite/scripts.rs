@@ -4,8 +4,14 @@
 use std::path::{Path, PathBuf};
 use std::process::{Command, Stdio};
 
-const SCRIPTS: [&str; 5] =
-    [".ci/run", "examples/run.sh", "tests/cases/run.sh", "tests/host/run.sh", "tools/whole.sh"];
+const SCRIPTS: [&str; 6] = [
+    ".ci/run",
+    "bench/placements.sh",
+    "examples/run.sh",
+    "tests/cases/run.sh",
+    "tests/host/run.sh",
+    "tools/whole.sh",
+];
 
 fn repository() -> PathBuf {
     Path::new(env!("CARGO_MANIFEST_DIR")).join("../..")
@@ -37,6 +43,7 @@ fn each_has_a_help() {
 fn wrong_arguments_are_said() {
     for (name, arguments) in [
         (".ci/run", ["all"].as_slice()),
+        ("bench/placements.sh", &["no/libengine.a"]),
         ("tests/cases/run.sh", &["all"]),
         ("tests/host/run.sh", &[]),
         ("tests/host/run.sh", &["1", "2", "3", "4"]),
