@@ -33,10 +33,14 @@ pub enum Shape {
     Refused(u64, usize),
 }
 
-// The fields of a node's word: 16 bits for the kind, 16 bits for the end, 32 bits for the operand (specs/Pack.antt).
-const END_UNIT: u64 = 1 << 16;
+// The fields of a node's word, the lowest first: the kind, the end, the operand (specs/Pack.antt).
+const KIND_BITS: u64 = 16;
 
-const ENDS_ROOM: u64 = 1 << 16;
+const END_BITS: u64 = 16;
+
+const END_UNIT: u64 = 1 << KIND_BITS;
+
+const ENDS_ROOM: u64 = 1 << END_BITS;
 
 const OPERAND_UNIT: u64 = END_UNIT * ENDS_ROOM;
 
