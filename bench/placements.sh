@@ -10,7 +10,7 @@ the least, the median and the greatest of its eight times by the engine. Several
 archives are measured in turn, so that one can be held to another: where the linker
 happens to put the same code moves a step by a third and more.
 ARCHIVE is target/staticlib/libengine.a if none is named.
-It takes about three minutes an archive. The machine should have little else to do.'
+It takes about two minutes an archive. The machine should have little else to do.'
 case ${1-} in
 -h | --help)
     echo "$help"
@@ -51,8 +51,14 @@ times() { # ARCHIVE'S NUMBER
         }'
 }
 
+# On a terminal, one line of progress, written over again.
+say() { # TEXT
+    if [ -t 2 ]; then printf '\r\033[K%s' "$1" >&2; fi
+}
+
 for place in 0 1 2 3 4 5 6 7; do
     for number in "${!archives[@]}"; do
+        say "place $((place + 1)) of 8, archive $((number + 1)) of ${#archives[@]}"
         # Code is aligned to 16 bytes: the places differ in 64 bytes, and in more.
         BENCH_PADDING=$((place * 208)) ENGINE_ARCHIVE=${archives[number]} CARGO_TARGET_DIR=$made/$number \
             cargo build --offline --quiet --release --manifest-path "$bench/Cargo.toml" || exit 1
@@ -60,6 +66,7 @@ for place in 0 1 2 3 4 5 6 7; do
         times "$number" <"$made/printed" >>"$made/times"
     done
 done
+say ''
 
 for number in "${!archives[@]}"; do
     echo "archive $((number + 1)): ${archives[number]}"
