@@ -59,7 +59,7 @@ say() { # TEXT
 for place in 0 1 2 3 4 5 6 7; do
     for number in "${!archives[@]}"; do
         say "place $((place + 1)) of 8, archive $((number + 1)) of ${#archives[@]}"
-        # Code is aligned to 16 bytes: the places differ in 64 bytes, and in more.
+        # Code is aligned to 16 bytes, and 208 is 13 times that: the places differ within a line of 64 bytes too.
         BENCH_PADDING=$((place * 208)) ENGINE_ARCHIVE=${archives[number]} CARGO_TARGET_DIR=$made/$number \
             cargo build --offline --quiet --release --manifest-path "$bench/Cargo.toml" || exit 1
         "$made/$number/release/bench" >"$made/printed" || exit 1
