@@ -6,7 +6,7 @@ mod tables;
 ghost use mathlib.Core.Path.{_≡_};
 ghost use Prim.Native.Nat.{_<_, _≤_};
 ghost use lib.ListN.{length, drop, getD};
-ghost use Rattle.rules.specs.paper.Limits.{most-nodes, most-depth, words};
+ghost use Rattle.rules.specs.paper.Limits.{most-nodes, most-depth};
 ghost use Rattle.rules.specs.paper.Reader.{size-fits, read};
 ghost use Rattle.reader.specs.Scan.{scan};
 ghost use Rattle.reader.specs.Tables.{sort-numbers, sort-of-number};
