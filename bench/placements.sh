@@ -42,9 +42,11 @@ times() { # ARCHIVE'S NUMBER
             name = $0
             sub(/  +[0-9]+( +[0-9.]+)+$/, "", name)
             sub(/^ +/, "", name)
-            if (table == "check" || table == "run")
+            if (table == "check" || table == "run") {
                 printf "%d\t%s, %s\t%s\n", archive, table, name, $(NF - 2)
-            else if (table == "beside") {
+                checked[name]
+            } else if (table == "beside") {
+                if (!(name in checked)) printf "%d\tcheck, %s\t%s\n", archive, name, $(NF - 4)
                 printf "%d\tneeds, %s\t%s\n", archive, name, $(NF - 3)
                 printf "%d\tpage, %s\t%s\n", archive, name, $(NF - 1)
             }
