@@ -1,2 +1,3 @@
+pub mod Meter
 pub mod Runs
 pub mod Starts

@@ -1,6 +1,7 @@
 // The automaton: one step, and the run.
 pub mod ends;
 mod marks;
+pub mod meter;
 pub mod start;
 
 ghost use mathlib.Core.Path.{_≡_};

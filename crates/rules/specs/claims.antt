@@ -10,3 +10,4 @@ pub mod Division
 pub mod Ends
 pub mod NoRoutine
 pub mod FreeRun
+pub mod HighMarks

@@ -12,6 +12,7 @@ pub mod Rules
 pub mod Fire
 pub mod Run
 pub mod Needs
+pub mod HighMarks
 pub mod Engine
 pub mod Cases
 pub mod Choices

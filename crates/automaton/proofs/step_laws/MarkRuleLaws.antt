@@ -69,10 +69,10 @@ operator-has w (order Ge) q = by-kind w 12 (operator-mark (order Ge)) (omega ari
 operator-has w (logic And) q = by-kind w 13 (operator-mark (logic And)) (omega arith) (logic And, q, refl)
 operator-has w (logic Or) q = by-kind w 14 (operator-mark (logic Or)) (omega arith) (logic Or, q, refl)
 
-leave-kind : (w m : ℕ) → w ≡ leave-word m → w % 64 ≡ 22
+pub leave-kind : (w m : ℕ) → w ≡ leave-word m → w % 64 ≡ 22
 leave-kind w m q = omega arith
 
-call-kind : (w m : ℕ) → w ≡ call-word m → w % 64 ≡ 24
+pub call-kind : (w m : ℕ) → w ≡ call-word m → w % 64 ≡ 24
 call-kind w m q = omega arith
 
 has : {nodes : List ℕ} {m : Mode} {w : ℕ} {ws : List ℕ} {C : List Item} {k : Mark} → ControlAs nodes m (w ∷ ws) (mark k ∷ C) → Has w (arm-of (w % 64)) k

@@ -13,11 +13,12 @@ use Rattle.rules.specs.paper.Refusals.{Reason, Steps, Cells, Bindings, V
 use Rattle.rules.specs.paper.Limits.{most-nodes, most-registers, most-cells, most-bindings, most-value-entries, most-control-entries}
 use Rattle.rules.specs.paper.Integers.{in-range, failed, compute}
 use Rattle.rules.specs.paper.Checker.{Passed}
-use Rattle.rules.specs.paper.States.{integer, truth, Environment, Store, Entry, val, node, Item, command, mark, operator-mark, loop-mark, conditional-mark, State, state, control-of, values-of, store-of, bindings-of}
+use Rattle.rules.specs.paper.States.{integer, truth, Environment, Store, Entry, val, node, Item, command, mark, operator-mark, loop-mark, conditional-mark, State, state, control-of}
 use Rattle.rules.specs.paper.Rules.{Rule, Effect, goes, Applies}
 use Rattle.rules.specs.paper.Fire.{after-test, chosen}
 use Rattle.rules.specs.paper.Run.{ended, run}
 use Rattle.rules.specs.paper.Needs.{Figure, control, values, cells, bindings, Sizes, sizes, routine-need, has-loop, has-conditional}
+use Rattle.rules.specs.paper.HighMarks.{size}
 use Rattle.rules.specs.paper.Engine.{check-image, passed, start}
 use Rattle.rules.specs.claims.History.{History, Reach}
 use Rattle.rules.specs.claims.Claim.{ReasonHolds, AllInRange}
@@ -40,10 +41,6 @@ pub data FreeStep : State → State → Type 0 where
 pub data FreeReach (first : State) : (steps : ℕ) → State → Type 0 where
   at-start : FreeReach first 0 first
   one-more : {k : ℕ} {σ τ : State} → FreeReach first k σ → FreeStep σ τ → FreeReach first (suc k) τ
-
--- The four sizes of a state.
-abbrev pub size : State → Sizes
-size σ = sizes (length (control-of σ)) (length (values-of σ)) (length (store-of σ)) (bindings-of σ)
 
 -- ---- For every passed image and one starting value per register:
 

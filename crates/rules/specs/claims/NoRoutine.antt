@@ -9,6 +9,7 @@ use Rattle.rules.specs.paper.Tree.{absent}
 use Rattle.rules.specs.paper.Refusals as Refusals
 use Rattle.rules.specs.paper.Limits.{most-registers, most-budget, work-words}
 use Rattle.rules.specs.paper.Checker.{Passed, a-command}
+use Rattle.rules.specs.paper.Needs.{sizes}
 use Rattle.rules.specs.paper.Engine.{turned-back, passed, check-image, root-command, checker, outcome, nothing, cleared, engine}
 
 pub record NoRoutineClaim : Type 0 where
@@ -19,6 +20,7 @@ pub record NoRoutineClaim : Type 0 where
   pub many-registers : (r : ℕ) (ws : List ℕ) → most-registers < r → check-image (0 ∷ r ∷ ws) ≡ turned-back Refusals.Size 0
   -- The checker alone answers "command".
   pub checks : (r : ℕ) → r ≤ most-registers → (work : List ℕ) → work-words ≤ length work → checker (0 ∷ r ∷ []) work ≡ record { answer = root-command; work = cleared work }
-  -- The run gives `none`, 0 steps and the registers unchanged, with any permitted budget, 0 included.
+  -- The run gives `none`, 0 steps, the registers as the most cells and bindings, and the registers unchanged, with any permitted budget, 0
+  -- included.
   pub runs : (r : ℕ) → r ≤ most-registers → (registers : List ℤ) → length registers ≡ r → (budget : ℕ) → budget ≤ most-budget → (work : List ℕ) → work-words ≤ length work →
-      engine (0 ∷ r ∷ []) registers budget work ≡ record { reply = record { answer = outcome nothing; steps = 0 }; registers = registers; work = cleared work }
+      engine (0 ∷ r ∷ []) registers budget work ≡ record { reply = record { answer = outcome nothing; steps = 0; most = sizes 0 0 r r }; registers = registers; work = cleared work }

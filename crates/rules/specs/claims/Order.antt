@@ -12,6 +12,7 @@ use Rattle.rules.specs.paper.States.{State, state, control-of, values-of
 use Rattle.rules.specs.paper.Rules.{Rule, Effect, goes, fails, Applies}
 use Rattle.rules.specs.paper.Fire.{Firing, stuck, fires, fire}
 use Rattle.rules.specs.paper.Run.{holds, first-holding, Verdict, made, withheld, settle, judge, Ending, ended, stopped, lost, proceed, run}
+use Rattle.rules.specs.paper.Needs.{Sizes}
 use Rattle.rules.specs.paper.Engine.{Called, finish}
 
 -- ---- The order before, and the run by it.
@@ -67,7 +68,7 @@ SameRuns = (left steps : ℕ) (σ : State) → SameEnding (run left steps σ) (r
 
 -- ---- What a run leaves.
 
--- The steps that are reported, the registers and the work words are the same: what a routine is priced by.
+-- The steps that are reported, the registers and the work words are the same, whatever marks are reported: what a routine is priced by.
 pub record SamePrice (now before : Called) : Type 0 where
   pub same-steps : now .reply .steps ≡ before .reply .steps
   pub same-registers : now .registers ≡ before .registers
@@ -75,5 +76,5 @@ pub record SamePrice (now before : Called) : Type 0 where
 
 abbrev pub SamePrices : Type 0
 SamePrices =
-    (registers : ℕ) (work : List ℕ) (left steps : ℕ) (σ : State) →
-    SamePrice (finish registers work (run left steps σ)) (finish registers work (run-by-number left steps σ))
+    (registers : ℕ) (work : List ℕ) (most : Sizes) (left steps : ℕ) (σ : State) →
+    SamePrice (finish registers work most (run left steps σ)) (finish registers work most (run-by-number left steps σ))

@@ -16,8 +16,9 @@ use Rattle.rules.specs.paper.Reader.{Reading, bad, image, read}
 use Rattle.rules.specs.paper.Checker.{Judged, fault, fine, Passed, expression-of-code, a-command, register-scope, root-is}
 use Rattle.rules.specs.paper.States.{Value, integer, truth, location, Bindable, value, closure, Environment, empty, bound, Store, find, Entry, bindable, name, node, environment, locations, Item, expression, command, State, state, values-of, store-of}
 use Rattle.rules.specs.paper.Run.{Ending, ended, stopped, lost, run}
-use Rattle.rules.specs.paper.Needs.{Need, routine-need, has-loop}
+use Rattle.rules.specs.paper.Needs.{Sizes, Need, routine-need, has-loop}
 use Rattle.rules.specs.paper.Needs as Needs
+use Rattle.rules.specs.paper.HighMarks.{no-high-marks, high-marks}
 
 -- What the checker makes of an image: refused, or its registers, its tree and what the root is.
 pub data Checked : Type 0 where
@@ -90,9 +91,11 @@ pub data Answer : Type 0 where
   outcome : Outcome → Answer
   refused : Refusal → (place : ℕ) → Answer
 
+-- The answer, the steps made, and the most of each size over all states reached (document 02, request 9).
 pub record Reply : Type 0 where
   pub answer : Answer
   pub steps : ℕ
+  pub most : Sizes
 
 -- A call's reply, and what it leaves in the registers and the work words.
 pub record Called : Type 0 where
@@ -104,24 +107,24 @@ pub record Called : Type 0 where
 unfoldable pub cleared : List ℕ → List ℕ
 cleared ws = replicate work-words 0 ++ drop work-words ws
 
--- 1 to 22 report 0 steps and keep the registers.
+-- 1 to 22 report 0 steps and marks of 0, and keep the registers.
 abbrev pub refusing : Refusal → (place : ℕ) → List ℤ → List ℕ → Called
-refusing x p zs ws = record { reply = record { answer = refused x p; steps = 0 }; registers = zs; work = ws }
+refusing x p zs ws = record { reply = record { answer = refused x p; steps = 0; most = no-high-marks }; registers = zs; work = ws }
 
--- 30 to 36 report the steps made, at place 0, and leave the registers as before the withheld step.
-abbrev pub finish : (registers : ℕ) → List ℕ → Ending → Called
-finish r ws (ended k σ) =
-    record { reply = record { answer = outcome (outcome-of (values-of σ)); steps = k }; registers = registers-from 0 r (store-of σ); work = ws }
-finish r ws (stopped x k σ) =
-    record { reply = record { answer = refused (Withheld x) 0; steps = k }; registers = registers-from 0 r (store-of σ); work = ws }
-finish r ws (lost k σ) =
-    record { reply = record { answer = outcome nothing; steps = k }; registers = registers-from 0 r (store-of σ); work = ws }
+-- 30 to 36 report the steps made, at place 0, and leave the registers as before the withheld step. They report marks as a normal end does.
+abbrev pub finish : (registers : ℕ) → List ℕ → (most : Sizes) → Ending → Called
+finish r ws m (ended k σ) =
+    record { reply = record { answer = outcome (outcome-of (values-of σ)); steps = k; most = m }; registers = registers-from 0 r (store-of σ); work = ws }
+finish r ws m (stopped x k σ) =
+    record { reply = record { answer = refused (Withheld x) 0; steps = k; most = m }; registers = registers-from 0 r (store-of σ); work = ws }
+finish r ws m (lost k σ) =
+    record { reply = record { answer = outcome nothing; steps = k; most = m }; registers = registers-from 0 r (store-of σ); work = ws }
 
 -- 20: the register slice is not r long.
 abbrev pub run-checked : Checked → List ℤ → (budget : ℕ) → List ℕ → Called
 run-checked (turned-back x p) zs b ws = refusing x p zs ws
 run-checked (passed r t c) zs b ws =
-    let steps = finish r ws (run b 0 (start r t zs)) in
+    let steps = finish r ws (high-marks b (start r t zs)) (run b 0 (start r t zs)) in
     cond (eqb (length zs) r) steps (refusing Refusals.Registers 0 zs ws)
 
 -- A run tests 22, 21, the image, 20, then steps. 21 and 22 touch nothing.

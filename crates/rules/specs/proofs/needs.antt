@@ -1,4 +1,4 @@
--- The figures of Needs.antt are the most over all free runs.
+-- The figures of Needs.antt are the most over all free runs, and the high marks of a run the most over its own states.
 pub mod Outlook
 pub mod StretchLaws
 pub mod NodeStretches
@@ -12,3 +12,4 @@ pub mod FreeSteps
 pub mod FreeMost
 pub mod RunNeeds
 pub mod RoomBounds
+pub mod HighMarks

@@ -9,6 +9,7 @@ pub mod CommandSteps
 pub mod MarkSteps
 pub mod FrameSteps
 pub mod Judging
+pub mod StepSizes
 pub mod Order
 pub mod Division
 pub mod DivisionBefore

@@ -9,11 +9,12 @@ use Rattle.rules.specs.paper.States.{State, values-of}
 use Rattle.rules.specs.paper.Rules.{goes, Applies}
 use Rattle.rules.specs.paper.Run.{ended}
 use Rattle.rules.specs.paper.Needs.{Figure, control, values, cells, bindings, Need, routine-need, is-loop, is-conditional, has-loop, has-conditional}
+use Rattle.rules.specs.paper.HighMarks.{size}
 use Rattle.rules.specs.paper.Engine.{start}
 use Rattle.rules.specs.claims.History.{History, Reach, at-start, step-made}
 use Rattle.rules.specs.claims.Claim.{ReasonHolds, budget-used, cells-full, bindings-full, values-full, control-full}
 use Rattle.rules.specs.claims.Ends.{EndsWell, normally}
-use Rattle.rules.specs.claims.FreeRun.{by-rule, one-more, size, RunIsFree, RunExceedsNothing, limits, room-reason, RoomSuffices, BudgetSuffices, SizeMet, ReachesExactly}
+use Rattle.rules.specs.claims.FreeRun.{by-rule, one-more, RunIsFree, RunExceedsNothing, limits, room-reason, RoomSuffices, BudgetSuffices, SizeMet, ReachesExactly}
 use Rattle.rules.specs.claims.FreeRun as FreeRun
 use Rattle.rules.specs.proofs.running.RunEnds.{run-ends}
 use Rattle.rules.specs.proofs.running.WholeRun.{rule-left}

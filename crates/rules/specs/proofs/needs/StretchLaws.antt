@@ -8,7 +8,7 @@ use native.Mathlib.Omega.{arith}
 use lib.ListN.{length}
 use Rattle.rules.specs.paper.States.{Entry, State, state}
 use Rattle.rules.specs.paper.Needs.{Figure, control, values, cells, bindings, Sizes, sizes, Need, nothing, step, over, in-turn}
-use Rattle.rules.specs.claims.FreeRun.{size}
+use Rattle.rules.specs.paper.HighMarks.{size}
 use Rattle.rules.specs.proofs.needs.Outlook.{sketches, outlook, Stretch, once, again, need-there, steps-through, through, lies, ahead-of}
 
 -- ---- Each of the four.

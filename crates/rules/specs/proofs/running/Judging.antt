@@ -10,10 +10,10 @@ use lib.ListN.{length}
 use Rattle.rules.specs.proofs.Basics.{missing, passed-test, failed-test}
 use Rattle.rules.specs.paper.Limits.{most-cells, most-bindings, most-value-entries, most-control-entries}
 use Rattle.rules.specs.paper.Refusals.{Reason, Steps, ZeroDivisor, OutOfRange, Cells, Bindings, ValueEntries, ControlEntries, reason-number}
-use Rattle.rules.specs.paper.States.{control-of, values-of, store-of, bindings-of}
+use Rattle.rules.specs.paper.States.{State, control-of, values-of, store-of, bindings-of}
 use Rattle.rules.specs.paper.Rules.{Effect, goes, fails}
 use Rattle.rules.specs.claims.Claim.{ReasonHolds, budget-used, divisor-zero, result-outside, cells-full, bindings-full, values-full, control-full, FirstOf, at-front, behind}
-use Rattle.rules.specs.paper.Run.{same-reason, priority, holds, first-holding, withheld, settle, judge}
+use Rattle.rules.specs.paper.Run.{same-reason, priority, holds, first-holding, Verdict, made, withheld, settle, judge}
 
 abbrev InList : Reason → List Reason → Type 0
 InList r [] = ⊥
@@ -142,3 +142,22 @@ reason→holds budget steps e r (cells-full τ q h) = subst (λ f. T (holds (eqb
 reason→holds budget steps e r (bindings-full τ q h) = subst (λ f. T (holds (eqb steps budget) f Bindings)) (sym q) (lt→ltb most-bindings (bindings-of τ) h)
 reason→holds budget steps e r (values-full τ q h) = subst (λ f. T (holds (eqb steps budget) f ValueEntries)) (sym q) (lt→ltb most-value-entries (length (values-of τ)) h)
 reason→holds budget steps e r (control-full τ q h) = subst (λ f. T (holds (eqb steps budget) f ControlEntries)) (sym q) (lt→ltb most-control-entries (length (control-of τ)) h)
+
+abbrev pub IsWithheld : Verdict → Type 0
+IsWithheld (made τ) = ⊥
+IsWithheld (withheld x) = Unit {0}
+
+-- A step that is made leaves the state that its rule says.
+settled-made : (e : Effect) (o : Option Reason) (τ : State) → settle e o ≡ made τ → e ≡ goes τ
+settled-made (goes ρ) none τ q = ap state-of q
+  where
+    state-of : Verdict → Effect
+    state-of (made υ) = goes υ
+    state-of (withheld x) = goes ρ
+settled-made (goes ρ) (some x) τ q = absurd (subst IsWithheld q tt)
+settled-made (fails y) none τ q = absurd (subst IsWithheld q tt)
+settled-made (fails y) (some x) τ q = absurd (subst IsWithheld q tt)
+
+pub made-goes : (e : Effect) (τ : State) → judge false e ≡ made τ → e ≡ goes τ
+unfolding judge
+made-goes e τ q = settled-made e (first-holding (holds false e) priority) τ q

@@ -16,6 +16,8 @@ use Rattle.rules.specs.paper.Reader.{read}
 use Rattle.rules.specs.paper.Checker.{Scope, Passed, a-command}
 use Rattle.rules.specs.paper.States.{integer, Store, find}
 use Rattle.rules.specs.paper.Run.{ended, run}
+use Rattle.rules.specs.paper.Needs.{sizes}
+use Rattle.rules.specs.paper.HighMarks.{high-marks}
 use Rattle.rules.specs.paper.Engine.{passed, check-image, root-command, checker, start, register-store, as-register, registers-from, outcome, nothing, cleared, engine}
 use Rattle.rules.specs.claims.Listing.{root-nodes, kind-words, operand-words, image-words}
 use Rattle.rules.specs.claims.Shape as Shape
@@ -24,6 +26,7 @@ use Rattle.rules.specs.claims.Typing as Typing
 use Rattle.rules.specs.claims.Image.{Meets}
 use Rattle.rules.specs.claims.NoRoutine.{NoRoutineClaim}
 use Rattle.rules.specs.proofs.checking.ImageExact.{check-exact}
+use Rattle.rules.specs.proofs.running.RunEnds.{store-count}
 
 -- ---- The check.
 
@@ -79,13 +82,19 @@ unfolding run start
 ends-at-once r zero zs = refl
 ends-at-once r (suc budget) zs = refl
 
+-- The only state is the first.
+only-registers : (r budget : ℕ) (zs : List ℤ) → high-marks budget (start r absent zs) ≡ sizes 0 0 r r
+unfolding high-marks start
+only-registers r zero zs = ap (λ n. sizes 0 0 n r) (store-count r zs)
+only-registers r (suc budget) zs = ap (λ n. sizes 0 0 n r) (store-count r zs)
+
 -- ---- All of it.
 
 runs-to-none : (r : ℕ) → r ≤ most-registers → (registers : List ℤ) → length registers ≡ r → (budget : ℕ) → budget ≤ most-budget → (work : List ℕ) → work-words ≤ length work →
-    engine (0 ∷ r ∷ []) registers budget work ≡ record { reply = record { answer = outcome nothing; steps = 0 }; registers = registers; work = cleared work }
+    engine (0 ∷ r ∷ []) registers budget work ≡ record { reply = record { answer = outcome nothing; steps = 0; most = sizes 0 0 r r }; registers = registers; work = cleared work }
 unfolding engine start
 runs-to-none r few registers count budget permitted work room =
-    rw (le-ltb (length work) work-words room, le-leb budget most-budget permitted, absent-passes r few, eq-eqb (length registers) r count, ends-at-once r budget registers, registers-start r registers count)
+    rw (le-ltb (length work) work-words room, le-leb budget most-budget permitted, absent-passes r few, eq-eqb (length registers) r count, ends-at-once r budget registers, only-registers r budget registers, registers-start r registers count)
 
 pub no-routine : NoRoutineClaim
 unfolding check-image read

@@ -13,6 +13,7 @@ use Rattle.rules.specs.paper.States.{State, state, control-of, values-of
 use Rattle.rules.specs.paper.Rules.{Rule, Effect, goes, fails, Applies}
 use Rattle.rules.specs.paper.Fire.{Firing, stuck, fires, fire}
 use Rattle.rules.specs.paper.Run.{same-reason, priority, holds, first-holding, Verdict, settle, judge, Ending, proceed, attempt, run}
+use Rattle.rules.specs.paper.Needs.{Sizes}
 use Rattle.rules.specs.paper.Engine.{finish}
 use Rattle.rules.specs.claims.Order.{by-number, judge-by-number, attempt-by-number, run-by-number, BothStacksFull, SameStep, both-make, both-withhold, control-named, SameStepsWithheld, SameEnding, both-end, both-stop, stopped-for-control, both-lost, SameRuns, SamePrice, SamePrices}
 use Rattle.rules.specs.proofs.running.FireExact.{fires→applies, one-rule}
@@ -105,11 +106,11 @@ same-runs (suc left) k (state (i ∷ C) X E S L n) =
 
 -- ---- What a run leaves.
 
-same-price : (registers : ℕ) (work : List ℕ) (now before : Ending) → SameEnding now before → SamePrice (finish registers work now) (finish registers work before)
-same-price r work now before (both-end k σ) = record { same-steps = refl; same-registers = refl; same-work = refl }
-same-price r work now before (both-stop x k σ other) = record { same-steps = refl; same-registers = refl; same-work = refl }
-same-price r work now before (stopped-for-control k σ rule e applies full) = record { same-steps = refl; same-registers = refl; same-work = refl }
-same-price r work now before (both-lost k σ) = record { same-steps = refl; same-registers = refl; same-work = refl }
+same-price : (registers : ℕ) (work : List ℕ) (most : Sizes) (now before : Ending) → SameEnding now before → SamePrice (finish registers work most now) (finish registers work most before)
+same-price r work most now before (both-end k σ) = record { same-steps = refl; same-registers = refl; same-work = refl }
+same-price r work most now before (both-stop x k σ other) = record { same-steps = refl; same-registers = refl; same-work = refl }
+same-price r work most now before (stopped-for-control k σ rule e applies full) = record { same-steps = refl; same-registers = refl; same-work = refl }
+same-price r work most now before (both-lost k σ) = record { same-steps = refl; same-registers = refl; same-work = refl }
 
 pub same-prices : SamePrices
-same-prices r work left k σ = same-price r work (run left k σ) (run-by-number left k σ) (same-runs left k σ)
+same-prices r work most left k σ = same-price r work most (run left k σ) (run-by-number left k σ) (same-runs left k σ)

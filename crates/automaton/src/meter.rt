@@ -1,0 +1,115 @@
+// The meter: the high marks of a run. It is lent to each step, which changes it where it lies in the run's record.
+ghost use mathlib.Core.Path.{_≡_};
+ghost use Prim.Native.Nat.{max};
+ghost use Rattle.automaton.specs.Runs.{Enabled, StepsFrom};
+ghost use Rattle.automaton.specs.Meter.{first-marks, stacks-raised, all-raised, marks-by-word, after-step, Covers, MeteredStep};
+use crate::step;
+use machine::Machine;
+use machine::Stepped;
+use machine::layout::MARK;
+use machine::layout::MARK_NUMBERS;
+use machine::layout::TOP_CONTROL;
+use reader::kinds;
+
+// The marks with lower numbers, of the operators, of Not and of Assign, raise nothing.
+const FIRST_THAT_RAISES: u64 = kinds::LOOP as u64;
+
+// The most cells, bindings, value entries and control entries over the states that a run has reached.
+pub struct HighMarks {
+    pub cells: usize,
+    pub bindings: usize,
+    pub values: usize,
+    pub control: usize,
+}
+
+// A step and the marks after it.
+struct Metered {
+    stepped: Stepped,
+    marks: HighMarks,
+}
+
+// The marks of a run's first state.
+pub(crate) fn first_marks(m: Machine) -> HighMarks
+    ensures { λ r. ⌜ r ≡ first-marks m ⌝ }
+{
+    HighMarks {
+        cells: m.cells,
+        bindings: m.bindings,
+        values: m.values,
+        control: m.control,
+    }
+}
+
+fn higher(mark: usize, size: usize) -> usize
+    ensures { λ r. ⌜ r ≡ max mark size ⌝ }
+{
+    if mark < size {
+        return size;
+    }
+    mark
+}
+
+fn stacks_raised(marks: HighMarks, m: Machine) -> HighMarks
+    ensures { λ r. ⌜ r ≡ stacks-raised marks m ⌝ }
+{
+    HighMarks {
+        cells: marks.cells,
+        bindings: marks.bindings,
+        values: higher(marks.values, m.values),
+        control: higher(marks.control, m.control),
+    }
+}
+
+fn all_raised(marks: HighMarks, m: Machine) -> HighMarks
+    ensures { λ r. ⌜ r ≡ all-raised marks m ⌝ }
+{
+    HighMarks {
+        cells: higher(marks.cells, m.cells),
+        bindings: higher(marks.bindings, m.bindings),
+        values: higher(marks.values, m.values),
+        control: higher(marks.control, m.control),
+    }
+}
+
+// The marks after a step, by the word of the item that was taken off control: a node raises the stacks alone.
+fn marks_by_word(marks: HighMarks, word: u64, stepped: Stepped) -> HighMarks
+    ensures { λ r. ⌜ r ≡ marks-by-word marks word stepped ⌝ }
+{
+    match stepped {
+        Stepped::Made(next) => {
+            if word < MARK {
+                return stacks_raised(marks, next);
+            }
+            if word % MARK_NUMBERS < FIRST_THAT_RAISES {
+                return marks;
+            }
+            all_raised(marks, next)
+        }
+        Stepped::Withheld(reason) => marks,
+    }
+}
+
+// A step, and the marks after it, which cover the state before it.
+fn metered_step(work: &mut [u64], m: Machine, marks: HighMarks) -> Metered
+    requires { ⌜ Enabled (now work) m × Covers marks m ⌝ }
+    ensures { λ r. ⌜ MeteredStep (now (work .entry)) m marks r (now (work .exit)) ⌝ }
+{
+    let height = m.control;
+    let word = work[TOP_CONTROL + height];
+    let stepped = step(work, m);
+    let raised = marks_by_word(marks, word, stepped);
+    Metered {
+        stepped,
+        marks: raised,
+    }
+}
+
+// One step. The meter is lent to it, and it changes it where it lies.
+fn make_step(work: &mut [u64], m: Machine, meter: &mut HighMarks) -> Stepped
+    requires { ⌜ Enabled (now work) m × Covers (now meter) m ⌝ }
+    ensures { λ r. ⌜ StepsFrom (now (work .entry)) m r (now (work .exit)) × (now (meter .exit) ≡ after-step (now (meter .entry)) r) ⌝ }
+{
+    let made = metered_step(work, m, *meter);
+    *meter = made.marks;
+    made.stepped
+}
