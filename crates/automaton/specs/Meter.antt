@@ -4,7 +4,6 @@ use mathlib.Core.Path.{_≡_}
 use mathlib.Core.Bool.{cond}
 use mathlib.Core.List.{List}
 use lib.Dec.{ltb}
-use Rattle.rules.specs.paper.Needs.{control, values, cells, bindings, Sizes}
 use Rattle.rules.specs.paper.States.{loop-mark}
 use Rattle.machine.specs.Layout.{mark-base, mark-numbers, mark-number}
 use Rattle.machine.specs.declared.Machine.{Machine}
@@ -13,10 +12,6 @@ use Rattle.machine.specs.declared.Stepped.the-variants.{Made, Withheld}
 use Rattle.automaton.specs.Runs.{StepsFrom}
 use Rattle.automaton.specs.declared.meter.HighMarks.{HighMarks}
 use Rattle.automaton.specs.declared.meter.Metered.{Metered}
-
--- The marks of the rules, one field a size.
-abbrev pub marks-of : Sizes → HighMarks
-marks-of s = record { cells = s cells; bindings = s bindings; values = s values; control = s control }
 
 abbrev pub first-marks : Machine → HighMarks
 first-marks m = record { cells = m .cells; bindings = m .bindings; values = m .values; control = m .control }

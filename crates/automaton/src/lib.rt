@@ -13,9 +13,13 @@ ghost use Rattle.rules.specs.paper.Rules.{Rule, Effect, Table};
 ghost use Rattle.rules.specs.claims.History.{History};
 ghost use Rattle.rules.specs.proofs.running.Continuation.{Invariant};
 ghost use Rattle.rules.specs.paper.Run.{run, judge};
+ghost use Rattle.rules.specs.paper.HighMarks.{high-marks};
 ghost use Rattle.machine.specs.Steps.{Holds};
 ghost use Rattle.automaton.specs.Runs.{Enabled, StepsFrom, RunAnswer};
 use crate::marks::mark_rule;
+use crate::meter::Record;
+use crate::meter::advance;
+use crate::meter::first_marks;
 use commands::declarations::close;
 use commands::declarations::declaration_rule;
 use commands::declarations::reference;
@@ -36,11 +40,11 @@ const COMMANDS: usize = kinds::ASSIGN;
 
 const DECLARATIONS: usize = kinds::BIND;
 
-// How a run ends, with the steps made and the machine in its last state: control is empty, or a step is withheld, with the number of the
-// reason.
+// How a run ends, with the steps made and the run's record, the machine in its last state: control is empty, or a step is withheld, with the
+// number of the reason.
 pub enum Ending {
-    Ended(u64, Machine),
-    Stopped(u64, u64, Machine),
+    Ended(u64, Record),
+    Stopped(u64, u64, Record),
 }
 
 // One step: the item on top of control is taken off, and its rule is applied.
@@ -71,27 +75,37 @@ fn step(work: &mut [u64], mut m: Machine) -> Stepped
     close(work, m, node)
 }
 
-// The run: steps until control is empty, a step is withheld, or the budget is used up.
+// The run: steps until control is empty, a step is withheld, or the budget is used up. Each step is lent the meter.
 pub fn run(work: &mut [u64], first: Machine, budget: u64) -> Ending
     requires { ⌜ ((a : Passed) × (r : ℕ) × (σ : State) × (h : History) × Holds (now work) first σ × Invariant a r σ h) ⌝ }
-    ensures { λ ending. ⌜ ((a : Passed) (r : ℕ) (σ : State) (h : History) → Holds (now (work .entry)) first σ → Invariant a r σ h → RunAnswer (run budget 0 σ) ending (now (work .entry)) (now (work .exit))) ⌝ }
+    ensures { λ ending. ⌜ ((a : Passed) (r : ℕ) (σ : State) (h : History) → Holds (now (work .entry)) first σ → Invariant a r σ h → RunAnswer (high-marks budget σ) (run budget 0 σ) ending (now (work .entry)) (now (work .exit))) ⌝ }
 {
-    let mut m = first;
+    let marks = first_marks(first);
+    let mut reached = Record {
+        machine: first,
+        marks,
+    };
     let mut left = budget;
     let ending = loop {
-        if m.control == 0 {
-            break Ending::Ended(budget - left, m);
+        if reached.machine.control == 0 {
+            break Ending::Ended(budget - left, reached);
         }
         if left == 0 {
-            break Ending::Stopped(STEPS, budget - left, m);
+            break Ending::Stopped(STEPS, budget - left, reached);
         }
-        match step(work, m) {
+        let made = advance(work, reached);
+        let stepped = made.stepped;
+        match stepped {
             Stepped::Made(next) => {
-                m = next;
+                let raised = made.marks;
+                reached = Record {
+                    machine: next,
+                    marks: raised,
+                };
                 left = left - 1;
             }
             Stepped::Withheld(reason) => {
-                break Ending::Stopped(reason, budget - left, m);
+                break Ending::Stopped(reason, budget - left, reached);
             }
         }
     };

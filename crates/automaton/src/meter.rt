@@ -22,10 +22,16 @@ pub struct HighMarks {
     pub control: usize,
 }
 
+// A run's record: the machine in the state that was reached last, and the meter.
+pub struct Record {
+    pub machine: Machine,
+    pub marks: HighMarks,
+}
+
 // A step and the marks after it.
-struct Metered {
-    stepped: Stepped,
-    marks: HighMarks,
+pub(crate) struct Metered {
+    pub(crate) stepped: Stepped,
+    pub(crate) marks: HighMarks,
 }
 
 // The marks of a run's first state.
@@ -112,4 +118,17 @@ fn make_step(work: &mut [u64], m: Machine, meter: &mut HighMarks) -> Stepped
     let made = metered_step(work, m, *meter);
     *meter = made.marks;
     made.stepped
+}
+
+// The step of a run, which is lent the meter out of the run's record.
+pub(crate) fn advance(work: &mut [u64], mut reached: Record) -> Metered
+    requires { ⌜ Enabled (now work) (reached .machine) × Covers (reached .marks) (reached .machine) ⌝ }
+    ensures { λ r. ⌜ MeteredStep (now (work .entry)) (reached .machine) (reached .marks) r (now (work .exit)) ⌝ }
+{
+    let m = reached.machine;
+    let stepped = make_step(work, m, &mut reached.marks);
+    Metered {
+        stepped,
+        marks: reached.marks,
+    }
 }

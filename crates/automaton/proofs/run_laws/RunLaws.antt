@@ -12,7 +12,9 @@ use Rattle.rules.specs.paper.States.{Environment, Store, Entry, environment, lo
 use Rattle.rules.specs.paper.Rules.{Rule, Effect, goes, fails, Applies}
 use Rattle.rules.specs.paper.Fire.{fire, fires}
 use Rattle.rules.specs.proofs.running.FireExact.{applies→fires}
-use Rattle.rules.specs.paper.Run.{Verdict, made, withheld, settle, judge, Ending, ended, stopped, attempt, run, first-holding, holds, priority}
+use Rattle.rules.specs.proofs.running.Judging.{made-goes}
+use Rattle.rules.specs.paper.Run.{Verdict, made, withheld, judge, Ending, ended, stopped, attempt, run}
+use Rattle.rules.specs.paper.HighMarks.{high-marks}
 use Rattle.rules.specs.claims.History.{History, note}
 use Rattle.rules.specs.proofs.running.Continuation.{StackShape, declared, opened, ControlTyped, extend-mark-typed, ValuesTyped, declared-on, opened-on, Invariant}
 use Rattle.rules.specs.proofs.running.World.{World}
@@ -23,7 +25,12 @@ use Rattle.automaton.specs.Runs.{EnabledAt, Enabled, StepsFrom, HasEnded
 use Rattle.machine.specs.declared.Machine.{Machine}
 use Rattle.machine.specs.declared.Stepped.{Stepped}
 use Rattle.machine.specs.declared.Stepped.the-variants.{Made, Withheld}
+use Rattle.automaton.specs.Meter.{first-marks, after-step}
+use Rattle.automaton.specs.declared.meter.HighMarks.{HighMarks}
+use Rattle.automaton.specs.declared.meter.Record.{Record}
+use Rattle.automaton.specs.declared.Ending as Endings
 use Rattle.automaton.specs.declared.Ending.the-variants.{Ended, Stopped}
+use Rattle.automaton.proofs.run_laws.MarkedLaws.{Marked, marked-at-start, marked-on, marked-at-end, marked-spent, marked-withheld}
 use Rattle.machine.proofs.state_laws.ModelLaws.{sizes}
 
 -- ---- A rule applies in every state of the run.
@@ -53,6 +60,7 @@ pub record Moves (words : List ℕ) (m : Machine) (a : Passed) (r : ℕ) (σ : S
   pub effect : Effect
   pub is : σ ≡ state (item ∷ control) values environment-then store locations-then bindings
   pub enabled : EnabledAt words m item control values environment-then store locations-then bindings rule effect
+  pub applies : Applies rule σ effect
   pub fired : fire σ ≡ fires rule effect
   pub next : Next a r σ h effect
 
@@ -72,6 +80,7 @@ moves words m a r (state (i ∷ C) X E S L n) h held inv d =
       effect = p .effect;
       is = refl;
       enabled = record { stands = held; applies = p .applies; at-extend-mark = extend-mark-shape a r i C X E S L n h inv };
+      applies = p .applies;
       fired = applies→fires (p .rule) (state (i ∷ C) X E S L n) (p .effect) (p .applies);
       next = p .next;
     }
@@ -84,32 +93,6 @@ moves words m a r (state (i ∷ C) X E S L n) h held inv d =
     some-left q = subst IsEmpty (sym q) tt
 
 -- ---- One turn of the run.
-
-settled : (e : Effect) (o : Option Reason) (τ : State) → settle e o ≡ made τ → e ≡ goes τ
-settled (goes ρ) none τ q = ap state-of q
-  where
-    state-of : Verdict → Effect
-    state-of (made υ) = goes υ
-    state-of (withheld x) = goes ρ
-settled (goes ρ) (some x) τ q = absurd (subst IsWithheldVerdict q tt)
-  where
-    IsWithheldVerdict : Verdict → Type 0
-    IsWithheldVerdict (made υ) = ⊥
-    IsWithheldVerdict (withheld x) = Unit {0}
-settled (fails y) none τ q = absurd (subst IsWithheldVerdict q tt)
-  where
-    IsWithheldVerdict : Verdict → Type 0
-    IsWithheldVerdict (made υ) = ⊥
-    IsWithheldVerdict (withheld x) = Unit {0}
-settled (fails y) (some x) τ q = absurd (subst IsWithheldVerdict q tt)
-  where
-    IsWithheldVerdict : Verdict → Type 0
-    IsWithheldVerdict (made υ) = ⊥
-    IsWithheldVerdict (withheld x) = Unit {0}
-
-made-goes : (e : Effect) (τ : State) → judge false e ≡ made τ → e ≡ goes τ
-unfolding judge
-made-goes e τ q = settled e (first-holding (holds false e) priority) τ q
 
 turn : (left k : ℕ) (i : Item) (C : List Item) (X : List Entry) (E : Environment) (S : Store) (L : List ℕ) (n : ℕ) (r : Rule) (e : Effect) → fire (state (i ∷ C) X E S L n) ≡ fires r e →
     run (suc left) k (state (i ∷ C) X E S L n) ≡ attempt (fires r e) k (state (i ∷ C) X E S L n) (λ τ. run left (suc k) τ)
@@ -145,22 +128,39 @@ spent-end words m (suc left) k σ held d q = absurd (omega (arith, q))
 -- ---- Each time round.
 
 -- The machine holds a state of the run, from which the run goes on with what is left of the budget.
-pub record Reached (budget : ℕ) (first : State) (a : Passed) (r : ℕ) (before words : List ℕ) (m : Machine) (left : ℕ) : Type 0 where
+pub record Reached (budget : ℕ) (first : State) (a : Passed) (r : ℕ) (before words : List ℕ) (m : Machine) (marks : HighMarks) (left : ℕ) : Type 0 where
   pub now-in : State
   pub history : History
   pub held : Holds words m now-in
   pub invariant : Invariant a r now-in history
   pub goes-on : run budget 0 first ≡ run left (budget - left) now-in
+  pub marked : Marked budget first left now-in m marks
   pub untouched : Untouched before words
 
-pub at-start : (budget : ℕ) (σ : State) (a : Passed) (r : ℕ) (h : History) (words : List ℕ) (m : Machine) → Holds words m σ → Invariant a r σ h → Reached budget σ a r words words m budget
-at-start budget σ a r h words m held inv =
-    record { now-in = σ; history = h; held = held; invariant = inv; goes-on = ap (λ k. run budget k σ) (none budget); untouched = record { same-nodes = refl; same-beyond = refl; same-length = refl } }
+pub at-start : (budget : ℕ) (σ : State) (a : Passed) (r : ℕ) (h : History) (words : List ℕ) (m : Machine) (marks : HighMarks) → marks ≡ first-marks m → Holds words m σ → Invariant a r σ h →
+    Reached budget σ a r words words m marks budget
+at-start budget σ a r h words m marks same held inv =
+    record {
+      now-in = σ;
+      history = h;
+      held = held;
+      invariant = inv;
+      goes-on = ap (λ k. run budget k σ) (none budget);
+      marked = subst (Marked budget σ budget σ m) (sym same) (marked-at-start budget σ words m held);
+      untouched = record { same-nodes = refl; same-beyond = refl; same-length = refl };
+    }
   where
     none : (b : ℕ) → 0 ≡ b - b
     none b = omega arith
 
-module _ (budget : ℕ) (first : State) (a : Passed) (r : ℕ) (before words : List ℕ) (m : Machine) (left : ℕ) (here : Reached budget first a r before words m left) where
+module _ (budget : ℕ) (first : State) (a : Passed) (r : ℕ) (before words : List ℕ) (m : Machine) (marks : HighMarks) (left : ℕ) (here : Reached budget first a r before words m marks left) where
+  -- What `run` answers with the run's record as it is now.
+  abbrev Answers : Endings.Ending → (after : List ℕ) → Type 0
+  Answers ending after = RunAnswer (high-marks budget first) (run budget 0 first) ending before after
+
+  abbrev reached : Record
+  reached = record { machine = m; marks = marks }
+
   pub enabled-here : (m .control ≡ 0 → ⊥) → Enabled words m
   enabled-here d =
       let μ = moves words m a r (here .now-in) (here .history) (here .held) (here .invariant) d in
@@ -177,16 +177,26 @@ module _ (budget : ℕ) (first : State) (a : Passed) (r : ℕ) (before words : L
         enabled = μ .enabled;
       }
 
-  pub ends-here : m .control ≡ 0 → RunAnswer (run budget 0 first) (Ended (budget - left) m) before words
+  pub ends-here : m .control ≡ 0 → Answers (Ended (budget - left) reached) words
   ends-here q =
-      subst (λ e. RunAnswer e (Ended (budget - left) m) before words) (sym (here .goes-on ∙ empty-end words m left (budget - left) (here .now-in) (here .held) q))
-      (record { machine = m; answer-is = refl; holds = here .held; untouched = here .untouched })
+      subst (λ e. RunAnswer (high-marks budget first) e (Ended (budget - left) reached) before words) (sym (here .goes-on ∙ empty-end words m left (budget - left) (here .now-in) (here .held) q))
+      (record {
+        machine = m;
+        answer-is = ap (λ h. Ended (budget - left) (record { machine = m; marks = h })) (marked-at-end budget first (here .now-in) words m marks (here .held) left (here .marked) q);
+        holds = here .held;
+        untouched = here .untouched;
+      })
 
-  pub spent-here : (m .control ≡ 0 → ⊥) → left ≡ 0 → RunAnswer (run budget 0 first) (Stopped 30 (budget - left) m) before words
+  pub spent-here : (m .control ≡ 0 → ⊥) → left ≡ 0 → Answers (Stopped 30 (budget - left) reached) words
   unfolding reason-number
   spent-here d q =
-      subst (λ e. RunAnswer e (Stopped 30 (budget - left) m) before words) (sym (here .goes-on ∙ spent-end words m left (budget - left) (here .now-in) (here .held) d q))
-      (record { machine = m; answer-is = refl; holds = here .held; untouched = here .untouched })
+      subst (λ e. RunAnswer (high-marks budget first) e (Stopped 30 (budget - left) reached) before words) (sym (here .goes-on ∙ spent-end words m left (budget - left) (here .now-in) (here .held) d q))
+      (record {
+        machine = m;
+        answer-is = ap (λ h. Stopped 30 (budget - left) (record { machine = m; marks = h })) (marked-spent budget first (here .now-in) words m marks (here .held) left (here .marked) q);
+        holds = here .held;
+        untouched = here .untouched;
+      })
 
   module _ (d : m .control ≡ 0 → ⊥) (some-left : left ≡ 0 → ⊥) (answer : Stepped) (after : List ℕ) (steps : StepsFrom words m answer after) where
     abbrev move : Moves words m a r (here .now-in) (here .history)
@@ -198,6 +208,9 @@ module _ (budget : ℕ) (first : State) (a : Passed) (r : ℕ) (before words : L
 
     one-less : (l : ℕ) → (l ≡ 0 → ⊥) → l ≡ suc (l - 1)
     one-less l e = omega (arith, e)
+
+    marked-before : Marked budget first (suc (left - 1)) (here .now-in) m marks
+    marked-before = subst (λ l. Marked budget first l (here .now-in) m marks) (one-less left some-left) (here .marked)
 
     same-machine : (s t : Machine) → answer ≡ Made s → answer ≡ Made t → s ≡ t
     same-machine s t p q = cc
@@ -216,10 +229,10 @@ module _ (budget : ℕ) (first : State) (a : Passed) (r : ℕ) (before words : L
           same-length = u .same-length ∙ here .untouched .same-length;
         }
 
-    pub goes-round : (next : Machine) → answer ≡ Made next → left ≤ budget → Reached budget first a r before after next (left - 1)
-    goes-round next q low = by (judge false (move .effect)) refl answered
+    pub goes-round : (next : Machine) → answer ≡ Made next → left ≤ budget → (raised : HighMarks) → raised ≡ after-step marks answer → Reached budget first a r before after next raised (left - 1)
+    goes-round next q low raised same = by (judge false (move .effect)) refl answered
       where
-        by : (v : Verdict) → judge false (move .effect) ≡ v → StepAnswer v answer words after → Reached budget first a r before after next (left - 1)
+        by : (v : Verdict) → judge false (move .effect) ≡ v → StepAnswer v answer words after → Reached budget first a r before after next raised (left - 1)
         by (made τ) e t =
             record {
               now-in = τ;
@@ -231,6 +244,10 @@ module _ (budget : ℕ) (first : State) (a : Passed) (r : ℕ) (before words : L
                   ∙ ap (λ l. run l (budget - left) (here .now-in)) (one-less left some-left)
                   ∙ turn-made words m a r (left - 1) (budget - left) (here .now-in) (here .history) move τ e
                   ∙ ap (λ k. run (left - 1) k τ) (one-more low some-left);
+              marked =
+                  subst (Marked budget first (left - 1) τ next) (sym same)
+                  (marked-on budget first (here .now-in) words m marks (here .held) (left - 1) marked-before (move .rule) (move .effect) τ (move .applies) e after next
+                  (subst (λ s. Holds after s τ) (same-machine (t .machine) next (t .answer) q) (t .holds)) answer q);
               untouched = untouched-then (t .untouched);
             }
           where
@@ -238,17 +255,20 @@ module _ (budget : ℕ) (first : State) (a : Passed) (r : ℕ) (before words : L
             one-more l g = omega (arith, l, g)
         by (withheld x) e t = absurd (not-both next (reason-number x) q (t .answer))
 
-    pub stops-here : (x : ℕ) → answer ≡ Withheld x → RunAnswer (run budget 0 first) (Stopped x (budget - left) m) before after
+    pub stops-here : (x : ℕ) → answer ≡ Withheld x → Answers (Stopped x (budget - left) reached) after
     stops-here x q = by (judge false (move .effect)) refl answered
       where
-        by : (v : Verdict) → judge false (move .effect) ≡ v → StepAnswer v answer words after → RunAnswer (run budget 0 first) (Stopped x (budget - left) m) before after
+        by : (v : Verdict) → judge false (move .effect) ≡ v → StepAnswer v answer words after → Answers (Stopped x (budget - left) reached) after
         by (made τ) e t = absurd (not-both (t .machine) x (t .answer) q)
         by (withheld y) e t =
-            subst (λ f. RunAnswer f (Stopped x (budget - left) m) before after)
+            subst (λ f. RunAnswer (high-marks budget first) f (Stopped x (budget - left) reached) before after)
             (sym (here .goes-on ∙ ap (λ l. run l (budget - left) (here .now-in)) (one-less left some-left) ∙ turn-withheld words m a r (left - 1) (budget - left) (here .now-in) (here .history) move y e))
             (record {
               machine = m;
-              answer-is = ap (λ n. Stopped n (budget - left) m) (same-reason x (reason-number y) q (t .answer));
+              answer-is =
+                  ap (λ n. Stopped n (budget - left) reached) (same-reason x (reason-number y) q (t .answer))
+                  ∙ ap (λ h. Stopped (reason-number y) (budget - left) (record { machine = m; marks = h }))
+                  (marked-withheld budget first (here .now-in) words m marks (here .held) (left - 1) marked-before (move .rule) (move .effect) y (move .applies) e);
               holds = subst (λ ws. Holds ws m (here .now-in)) (sym (t .unchanged)) (here .held);
               untouched = subst (Untouched before) (sym (t .unchanged)) (here .untouched);
             })

@@ -10,6 +10,7 @@ pub mod MarkSteps
 pub mod FrameSteps
 pub mod Judging
 pub mod StepSizes
+pub mod HighMarkLaws
 pub mod Order
 pub mod Division
 pub mod DivisionBefore

@@ -1,7 +1,7 @@
 -- `make_step` meets its contract: a walk of its MIR, by hand. The meter's borrow is opened and stays open while `metered_step` is called with a copy
 -- of the marks; the marks that it answers are stored where the meter lies, and the borrow is closed at them. Of `metered_step` the proof knows
 -- only that it meets its contract. The work words are given to it for good: what it says of them at exit is what `make_step` says.
-use mathlib.Core.Path.{_≡_, refl, ap, subst}
+use mathlib.Core.Path.{_≡_, refl, ap}
 use Prim.Native.Nat.{ℕ}
 use mathlib.Core.List.{[], _∷_, List}
 use lib.ListN.{length}
@@ -42,7 +42,6 @@ use denote.Triple.Walked.{says, needs, Stays, stay-ref, stay-none, gave-slice, w
 use denote.Exit.{yes}
 use denote.Signature.{plain}
 use Rattle.machine.specs.declared.Machine.{Machine}
-use Rattle.machine.specs.declared.Stepped.{Stepped}
 use Rattle.machine.proofs.Machine as machine
 use Rattle.machine.proofs.Machine.Laws as machine-laws
 use Rattle.machine.proofs.Stepped as stepped
@@ -55,6 +54,7 @@ use Rattle.automaton.proofs.meter.HighMarks as marks
 use Rattle.automaton.proofs.meter.HighMarks.Laws as marks-laws
 use Rattle.automaton.proofs.meter.Metered as metered
 use Rattle.automaton.proofs.meter.Metered.Laws as metered-laws
+use Rattle.automaton.proofs.run_laws.MeterValues.{machine-value, marks-value, stepped-values, metered-value, metered-told, metered-stepped, metered-marks}
 use Rattle.automaton.proofs.meter.metered_step as metered-step
 use Rattle.automaton.proofs.meter.metered_step.Symbol as metered-step-def
 use Rattle.automaton.proofs.meter.metered_step.Symbol.{name as #metered-step}
@@ -70,29 +70,6 @@ stayed = (gave-slice (0 ∷ []) tt (plain (λ _. u64)), (stay-none (λ _. machin
 -- the contract that the proof cites
 abbrev MeteredStepContract : {M : Type 1} (𝓤 : URA M) (H : Heap 𝓤) (A : Atoms 𝓤) (at-mem : Memory → SProp 𝓤) (run : Routine → Fun 𝓤) → Contract 𝓤
 MeteredStepContract 𝓤 H A at-mem run = tripleOf 𝓤 H A metered-step.signature (metered-step.spec 𝓤 H A at-mem run)
-
--- the machine values
-abbrev machine-value : Machine → Val
-machine-value m = struct-laws.tuple-val machine.the-type machine-laws.the-laws (machine.the-type .to m)
-
-abbrev marks-value : HighMarks → Val
-marks-value h = struct-laws.tuple-val marks.the-type marks-laws.the-laws (marks.the-type .to h)
-
-abbrev metered-value : Metered → Val
-metered-value r = struct-laws.tuple-val metered.the-type metered-laws.the-laws (metered.the-type .to r)
-
-abbrev stepped-values : Stepped → List Val
-stepped-values = enum-laws.vals stepped.the-type stepped-laws.the-laws
-
--- what whoever holds a `Metered` knows of its machine value and of its fields
-is-value : (r : Metered) (w : Val) → Is metered.the-row r (w ∷ []) → Is metered.the-row r (metered-value r ∷ [])
-is-value r w told = subst (λ vs. Is metered.the-row r vs) (struct-laws.tells metered.the-type metered-laws.the-laws r _ told) told
-
-stepped-is : (r : Metered) → Is metered.the-row r (metered-value r ∷ []) → Is stepped.the-row (r .stepped) (stepped-values (r .stepped))
-stepped-is r is = struct-laws.owed metered.the-type metered-laws.the-laws r _ is .0
-
-marks-is : (r : Metered) → Is metered.the-row r (metered-value r ∷ []) → Is marks.the-row (r .marks) (marks-value (r .marks) ∷ [])
-marks-is r is = struct-laws.owed metered.the-type metered-laws.the-laws r _ is .1 .0
 
 module _ {M : Type 1} (𝓤 : URA M) (H : Heap 𝓤) (A : Atoms 𝓤) (W : Given 𝓤 H A) (at-mem : Memory → SProp 𝓤) (run : Routine → Fun 𝓤) (κ κ′ : Lft) (q q′ : Share) (b o : ℕ) (γ : GName) (words : List ℕ) (m : Machine) (b′ o′ : ℕ) (γ′ : GName) (h : HighMarks) (m-is : Is machine.the-row m (machine-value m ∷ [])) where
   -- the arguments: the work words, the machine and the meter, which holds the marks h
@@ -125,7 +102,7 @@ module _ {M : Type 1} (𝓤 : URA M) (H : Heap 𝓤) (A : Atoms 𝓤) (W : Given
       nothing ! $ owned ! marks.the-row (Is marks.the-row) (struct-laws.makes marks.the-type marks-laws.the-plain 𝓤 H A) h _ h-is $ fjoin ! $
       owned ! machine.the-row (Is machine.the-row) (struct-laws.makes machine.the-type machine-laws.the-plain 𝓤 H A) m _ m-is $ fjoin ! $ move ! (1 ∷ 0 ∷ []) $ fjoin ! $ done !
 
-  exits : (r : Metered) (after : List ℕ) → Is metered.the-row r (metered-value r ∷ []) → MeteredStep words m h r after → length after ≡ length words →
+  exits : (r : Metered) (after : List ℕ) → Is metered.the-row r (metered-value (r .stepped) (r .marks) ∷ []) → MeteredStep words m h r after → length after ≡ length words →
       ent 𝓤 (⋆ 𝓤 H A (‵ (fobs γ′ (marks.the-row .coded .code (r .marks))) ∷ ‵ (fbor κ′ (Body (mem marks.the-row) b′ o′ γ′)) ∷ ‵ (flft κ′ q′) ∷ (‵ (flft κ q) ⊛ ‵ ftrue) ∷ ‵ (finally u64 γ after) ∷ [])) (Post (only (stepped-values (r .stepped))))
   exits r after is e l =
       qed W (‵ (fobs γ′ (marks.the-row .coded .code (r .marks))) ∷ ‵ (fbor κ′ (Body (mem marks.the-row) b′ o′ γ′)) ∷ ‵ (flft κ′ q′) ∷ (‵ (flft κ q) ⊛ ‵ ftrue) ∷ ‵ (finally u64 γ after) ∷ []) ∵
@@ -134,7 +111,7 @@ module _ {M : Type 1} (𝓤 : URA M) (H : Heap 𝓤) (A : Atoms 𝓤) (W : Given
       move ! (3 ∷ []) $ split ! $ move ! (4 ∷ 1 ∷ []) $ join ! $ move ! (1 ∷ 0 ∷ []) $ join ! $ frame ! $
       feqI ! (List Val) (vptr b′ o′ ∷ []) (vptr b′ o′ ∷ []) refl $ fjoin3 ! $ nothing ! $ move ! (1 ∷ 0 ∷ []) $ fjoin ! $
       owned ! machine.the-row (Is machine.the-row) (struct-laws.makes machine.the-type machine-laws.the-plain 𝓤 H A) m _ m-is $ fjoin ! $ move ! (1 ∷ 0 ∷ []) $ fjoin ! $
-      owned ! stepped.the-row (Is stepped.the-row) (enum-laws.makes stepped.the-type stepped-laws.the-plain 𝓤 H A) (r .stepped) _ (stepped-is r is) $ move ! (1 ∷ 0 ∷ []) $ done !
+      owned ! stepped.the-row (Is stepped.the-row) (enum-laws.makes stepped.the-type stepped-laws.the-plain 𝓤 H A) (r .stepped) _ (metered-stepped r is) $ move ! (1 ∷ 0 ∷ []) $ done !
 
   module _ (C : Calls 𝓤 H) (Λ : Loops 𝓤 H) (fm : FmC 𝓤 H (W .laws) C) (known : Triple 𝓤 (C #metered-step) (MeteredStepContract 𝓤 H A at-mem run)) where
     walk : Room u64 (length words) → Enabled words m × Covers h m → ent 𝓤 (onEntry 𝓤 H A make-step.signature (κ, (κ′, tt)) (q, (q′, tt)) arguments values) (WpFn 𝓤 H C Λ code.function (slice ∷ machine-value m ∷ vptr b′ o′ ∷ []) Post)
@@ -166,14 +143,14 @@ module _ {M : Type 1} (𝓤 : URA M) (H : Heap 𝓤) (A : Atoms 𝓤) (W : Given
         land ! (from ! (stop !)) (init ! 18 refl (struct-laws.lawful metered.the-type metered-laws.the-laws 𝓤 H A W .typed r _ told .0)) $
         rewrite ! 18 (λ (u : Val). ‵ (fat fullShare metered-laws.mir l₄ 0 u)) (ap only (struct-laws.tells metered.the-type metered-laws.the-laws r _ told)) refl $
         -- the marks are stored where the meter lies, and the borrow is closed at them
-        assigns ! (of-opd ! (load ! (from ! (fld ! refl (stop !))) (look-in ! 18 (sub ! 1 refl (whole !))))) (from ! (hop ! (look ! 20 refl) (stop !))) (store-raw ! 4 refl (struct-laws.lawful marks.the-type marks-laws.the-laws 𝓤 H A W .typed (r .marks) _ (marks-is r (is-value r w told)) .0)) $
-        assigns ! (of-opd ! (load ! (from ! (fld ! refl (stop !))) (look-in ! 18 (sub ! 0 refl (whole !))))) (from ! (stop !)) (init ! 26 refl (enum-laws.lawful stepped.the-type stepped-laws.the-laws 𝓤 H A W tt .typed (r .stepped) _ (stepped-is r (is-value r w told)) .0)) $
-        move ! (5 ∷ []) $ drop ! $ owned ! marks.the-row (Is marks.the-row) (struct-laws.makes marks.the-type marks-laws.the-plain 𝓤 H A) (r .marks) _ (marks-is r (is-value r w told)) $
+        assigns ! (of-opd ! (load ! (from ! (fld ! refl (stop !))) (look-in ! 18 (sub ! 1 refl (whole !))))) (from ! (hop ! (look ! 20 refl) (stop !))) (store-raw ! 4 refl (struct-laws.lawful marks.the-type marks-laws.the-laws 𝓤 H A W .typed (r .marks) _ (metered-marks r (metered-told r w told)) .0)) $
+        assigns ! (of-opd ! (load ! (from ! (fld ! refl (stop !))) (look-in ! 18 (sub ! 0 refl (whole !))))) (from ! (stop !)) (init ! 26 refl (enum-laws.lawful stepped.the-type stepped-laws.the-laws 𝓤 H A W tt .typed (r .stepped) _ (metered-stepped r (metered-told r w told)) .0)) $
+        move ! (5 ∷ []) $ drop ! $ owned ! marks.the-row (Is marks.the-row) (struct-laws.makes marks.the-type marks-laws.the-plain 𝓤 H A) (r .marks) _ (metered-marks r (metered-told r w told)) $
         move ! (5 ∷ 0 ∷ 6 ∷ 7 ∷ 8 ∷ []) $ closes ! tt marks.the-row (r .marks) (marks-value (r .marks) ∷ []) b′ o′ $
         -- [obs; the meter's borrow; its token; what the result owns; the token of work; the last words; true; true; true; what m owns; _7; …; room for _0; …]
         returns ! (look ! 24 refl) $ forget ! 10 refl $ forget ! 12 refl $ forget ! 14 refl $ forget ! 16 refl $ forget ! 18 refl $ forget ! 20 refl $ forget ! 22 refl $ forget ! 24 refl $
         move ! (24 ∷ 25 ∷ []) $ free1 ! $ move ! (22 ∷ 23 ∷ []) $ free1 ! $ move ! (20 ∷ 21 ∷ []) $ free1 ! $ move ! (18 ∷ 19 ∷ []) $ free1 ! $ move ! (16 ∷ 17 ∷ []) $ free1 ! $ move ! (14 ∷ 15 ∷ []) $ free1 ! $ move ! (12 ∷ 13 ∷ []) $ free1 ! $ move ! (10 ∷ 11 ∷ []) $ free1 ! $ free0 ! $
-        keep ! (0 ∷ 1 ∷ 2 ∷ 4 ∷ 5 ∷ []) $ by ! (exits r (after .0) (is-value r w told) e l)))))))))))))))))
+        keep ! (0 ∷ 1 ∷ 2 ∷ 4 ∷ 5 ∷ []) $ by ! (exits r (after .0) (metered-told r w told) e l)))))))))))))))))
 
 module _ {M : Type 1} (𝓤 : URA M) (H : Heap 𝓤) (A : Atoms 𝓤) (W : Given 𝓤 H A) (at-mem : Memory → SProp 𝓤) (run : Routine → Fun 𝓤) where
   make-step-walks : (C : Calls 𝓤 H) (Λ : Loops 𝓤 H) → FmC 𝓤 H (W .laws) C → Triple 𝓤 (C #metered-step) (MeteredStepContract 𝓤 H A at-mem run) → Walks 𝓤 H A make-step.ended stayed (WpFn 𝓤 H C Λ code.function) (make-step.clauses 𝓤 H A at-mem run)

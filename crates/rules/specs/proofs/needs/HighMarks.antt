@@ -27,6 +27,7 @@ use Rattle.rules.specs.claims.Claim.{AllInRange}
 use Rattle.rules.specs.claims.FreeRun.{SizeMet}
 use Rattle.rules.specs.claims.HighMarks.{MostReached, HighMarksAreMost, HighMarksWithinNeeds, HighMarksAreNeeds, RepliesWithinNeeds}
 use Rattle.rules.specs.proofs.running.FireExact.{applies→fires, fires→applies}
+use Rattle.rules.specs.proofs.running.HighMarkLaws.{here-counted, marks-made}
 use Rattle.rules.specs.proofs.running.Judging.{IsWithheld, made-goes}
 use Rattle.rules.specs.proofs.needs.RunNeeds.{run-exceeds-nothing, reaches-exactly}
 
@@ -43,33 +44,6 @@ with-budget steps budget τ q = by (eqb steps budget) refl
     by : (t : Bool) → eqb steps budget ≡ t → (eqb steps budget ≡ false) × (judge false (goes τ) ≡ made τ)
     by true e = absurd (subst IsWithheld (sym (spent-withheld τ) ∙ ap (λ t. judge t (goes τ)) (sym e) ∙ q) tt)
     by false e = (e, ap (λ t. judge t (goes τ)) (sym e) ∙ q)
-
-here-counted : (left : ℕ) (σ : State) (f : Figure) → size σ f ≤ high-marks left σ f
-unfolding high-marks
-here-counted zero σ f = omega arith
-here-counted (suc left) (state [] X E S L n) f = omega arith
-here-counted (suc left) (state (i ∷ C) X E S L n) f = by (fire (state (i ∷ C) X E S L n))
-  where
-    by-verdict : (v : Verdict) → size (state (i ∷ C) X E S L n) f ≤ raised-by-verdict v (state (i ∷ C) X E S L n) (λ τ. high-marks left τ) f
-    by-verdict (made τ) = omega arith
-    by-verdict (withheld x) = omega arith
-
-    by : (g : Firing) → size (state (i ∷ C) X E S L n) f ≤ raised-by-firing g (state (i ∷ C) X E S L n) (λ τ. high-marks left τ) f
-    by stuck = omega arith
-    by (fires r e) = by-verdict (judge false e)
-
-later-counted : (left : ℕ) (σ τ : State) (r : Rule) → Applies r σ (goes τ) → judge false (goes τ) ≡ made τ → (f : Figure) → high-marks left τ f ≤ high-marks (suc left) σ f
-unfolding high-marks
-later-counted left (state [] X E S L n) τ r line q f = absurd line
-later-counted left (state (i ∷ C) X E S L n) τ r line q f =
-    subst (λ v. high-marks left τ f ≤ v)
-    (sym
-    (ap (λ g. raised-by-firing g (state (i ∷ C) X E S L n) (λ υ. high-marks left υ) f) (applies→fires r (state (i ∷ C) X E S L n) (goes τ) line)
-    ∙ ap (λ v. raised-by-verdict v (state (i ∷ C) X E S L n) (λ υ. high-marks left υ) f) q))
-    above
-  where
-    above : high-marks left τ f ≤ max (size (state (i ∷ C) X E S L n) f) (high-marks left τ f)
-    above = omega arith
 
 -- What is left of the budget, and the marks from a reached state on, which are among all.
 record Ahead (budget : ℕ) (first : State) (steps : ℕ) (σ : State) : Type 0 where
@@ -90,7 +64,7 @@ ahead budget first r steps σ h (step-made {n = k} {σ = ρ} {h = g} x τ reache
         record {
           left = l;
           counted = omega (arith, before .counted, e);
-          among = λ f. omega (arith, later-counted l ρ τ x line (m .1) f, subst (λ n. high-marks n ρ f ≤ high-marks budget first f) e (before .among f));
+          among = λ f. omega (arith, marks-made l ρ x (goes τ) τ line (m .1) f, subst (λ n. high-marks n ρ f ≤ high-marks budget first f) e (before .among f));
         }
 
 -- ---- Each is reached.
