@@ -1,9 +1,10 @@
 -- The text of an answer in the code's words is that of the engine's call.
 use Prim.Native.Nat.{ℕ, _+_, _*_, _<_, _≤_}
 use mathlib.Core.Path.{_≡_, refl, ap, _∙_}
-use mathlib.Core.Bool.{cond}
+use mathlib.Core.Bool.{Bool, cond}
 use mathlib.Core.List.{List, [], _++_}
 use native.Mathlib.Omega.{arith}
+use lib.IntN.{ℤ}
 use lib.ListN.{length, take, drop, getD, replicate, length-replicate}
 use lib.Seq.{length-take-le}
 use Rattle.calls.specs.Sizes.{most-image-words}
@@ -14,46 +15,58 @@ use Rattle.integers.specs.Words.{integers-of, words-of}
 use Rattle.integers.specs.WordLaws.{integer-of-word}
 use Rattle.calls.specs.Runs.{ran, run-reply, run-call, RanAs}
 use Rattle.calls.specs.Delivered.{all-in-range}
+use Rattle.rules.specs.paper.Needs.{Sizes}
+use Rattle.automaton.specs.Runs.{marks-of}
+use Rattle.automaton.specs.declared.meter.HighMarks.{HighMarks}
+use Rattle.calls.specs.Claim.{marks-in}
 use Rattle.calls.specs.declared.Ran.{Ran}
 use Rattle.rules.specs.paper.Decimal.{ascii, decimal, integer}
 use Rattle.little_endian.specs.Numbers.{numbers}
-use Rattle.answer.specs.Program.{line, outcome-text, register-lines, shows-registers, answer-text, input-bytes, run-numbers, run-input}
-use Rattle.answer.specs.Writing.{PutWithin, ran-text, ran-steps, ran-shows, ran-answer}
+use Rattle.answer.specs.Program.{line, outcome-text, most-text, register-lines, shows-registers, answer-text, input-bytes, run-numbers, run-input}
+use Rattle.answer.specs.Writing.{PutWithin, ran-text, ran-steps, ran-shows, marks-text, ran-answer}
 use Rattle.answer.proofs.PutLaws.{within-as}
 use Rattle.answer.proofs.RangeLaws.{RangedAnswer, Ranged, integers-back, engine-ranged}
 
-same-text : (a : Answer) (k : ℕ) → RangedAnswer a → ran-text (ran a k) ≡ outcome-text a
+same-text : (a : Answer) (k : ℕ) (h : HighMarks) → RangedAnswer a → ran-text (ran a k h) ≡ outcome-text a
 unfolding ran-text outcome-text
-same-text (outcome (number z)) k h = ap (λ y. ascii "number " ++ integer y) (integer-of-word z h)
-same-text (outcome (truth-of b)) k h = refl
-same-text (outcome (cell l)) k h = refl
-same-text (outcome nothing) k h = refl
-same-text (refused x p) k h = refl
+same-text (outcome (number z)) k m h = ap (λ y. ascii "number " ++ integer y) (integer-of-word z h)
+same-text (outcome (truth-of b)) k m h = refl
+same-text (outcome (cell l)) k m h = refl
+same-text (outcome nothing) k m h = refl
+same-text (refused x p) k m h = refl
 
-same-steps : (a : Answer) (k : ℕ) → ran-steps (ran a k) ≡ k
-same-steps (outcome (number z)) k = refl
-same-steps (outcome (truth-of b)) k = refl
-same-steps (outcome (cell l)) k = refl
-same-steps (outcome nothing) k = refl
-same-steps (refused x p) k = refl
+same-steps : (a : Answer) (k : ℕ) (h : HighMarks) → ran-steps (ran a k h) ≡ k
+same-steps (outcome (number z)) k h = refl
+same-steps (outcome (truth-of b)) k h = refl
+same-steps (outcome (cell l)) k h = refl
+same-steps (outcome nothing) k h = refl
+same-steps (refused x p) k h = refl
 
-same-shows : (a : Answer) (k : ℕ) → ran-shows (ran a k) ≡ shows-registers a
-same-shows (outcome (number z)) k = refl
-same-shows (outcome (truth-of b)) k = refl
-same-shows (outcome (cell l)) k = refl
-same-shows (outcome nothing) k = refl
-same-shows (refused x p) k = refl
+same-shows : (a : Answer) (k : ℕ) (h : HighMarks) → ran-shows (ran a k h) ≡ shows-registers a
+same-shows (outcome (number z)) k h = refl
+same-shows (outcome (truth-of b)) k h = refl
+same-shows (outcome (cell l)) k h = refl
+same-shows (outcome nothing) k h = refl
+same-shows (refused x p) k h = refl
+
+same-marks : (a : Answer) (k : ℕ) (m : Sizes) → marks-text (marks-in (ran a k (marks-of m))) ≡ most-text m
+unfolding marks-text most-text
+same-marks (outcome (number z)) k m = refl
+same-marks (outcome (truth-of b)) k m = refl
+same-marks (outcome (cell l)) k m = refl
+same-marks (outcome nothing) k m = refl
+same-marks (refused x p) k m = refl
 
 same-answer : (c : Called) → Ranged c → ran-answer (run-reply (c .reply)) (integers-of (words-of (c .registers))) ≡ answer-text c
 unfolding ran-answer answer-text
 same-answer c ranged =
-    let zs = integers-of (words-of (c .registers)) in
-    let r = run-reply (c .reply) in
-    ap (λ l. line l ++ line (ascii "steps " ++ decimal (ran-steps r)) ++ cond (ran-shows r) (register-lines 0 zs) []) (same-text (c .reply .answer) (c .reply .steps) (ranged .answer))
-    ∙ ap (λ k. line (outcome-text (c .reply .answer)) ++ line (ascii "steps " ++ decimal k) ++ cond (ran-shows r) (register-lines 0 zs) []) (same-steps (c .reply .answer) (c .reply .steps))
-    ∙ ap (λ t. line (outcome-text (c .reply .answer)) ++ line (ascii "steps " ++ decimal (c .reply .steps)) ++ cond t (register-lines 0 zs) []) (same-shows (c .reply .answer) (c .reply .steps))
-    ∙ ap (λ ys. line (outcome-text (c .reply .answer)) ++ line (ascii "steps " ++ decimal (c .reply .steps)) ++ cond (shows-registers (c .reply .answer)) (register-lines 0 ys) [])
-    (integers-back (c .registers) (ranged .registers))
+    let a = c .reply .answer in
+    let k = c .reply .steps in
+    let h = marks-of (c .reply .most) in
+    λ i. lines-of (same-text a k h (ranged .answer) i) (same-steps a k h i) (same-marks a k (c .reply .most) i) (same-shows a k h i) (integers-back (c .registers) (ranged .registers) i)
+  where
+    lines-of : (text : List ℕ) (steps : ℕ) (marks : List ℕ) (shows : Bool) → List ℤ → List ℕ
+    lines-of text steps marks shows zs = line text ++ line (ascii "steps " ++ decimal steps) ++ line marks ++ cond shows (register-lines 0 zs) []
 
 -- What is written after a run is the text of the engine's call.
 pub ran-put : (before after image registers work last-registers last-work : List ℕ) (r : Ran) (last : ℕ) → ((i : ℕ) → i < length registers → getD registers i 0 < 18446744073709551616) →

@@ -12,8 +12,9 @@ use Rattle.rules.specs.paper.Engine.{Called, refused, refusing}
 use Rattle.reader.specs.SizeLaws.{few-nodes, few-registers}
 use Rattle.rules.specs.paper.Decimal.{ascii, decimal}
 use Rattle.little_endian.specs.Numbers.{little-endian}
-use Rattle.answer.specs.Program.{line, outcome-text, answer-text, input-bytes, run-input, call-input, program}
-use Rattle.answer.specs.Writing.{ran-text, refusal-answer, CountsFit, CountAnswer}
+use Rattle.rules.specs.paper.HighMarks.{no-high-marks}
+use Rattle.answer.specs.Program.{line, outcome-text, most-text, answer-text, input-bytes, run-input, call-input, program}
+use Rattle.answer.specs.Writing.{ran-text, marks-text, refusal-answer, CountsFit, CountAnswer}
 use Rattle.answer.specs.declared.input.Counted.{Counted}
 use Rattle.answer.specs.declared.input.Counted.the-variants.{Fits, Refused}
 
@@ -22,13 +23,16 @@ use Rattle.answer.specs.declared.input.Counted.the-variants.{Fits, Refus
 abbrev steps-line : List ℕ
 steps-line = line (ascii "steps " ++ decimal 0)
 
+abbrev marks-line : List ℕ
+marks-line = line (most-text no-high-marks)
+
 length-answer : answer-text (refusing Length 0 [] []) ≡ refusal-answer 1
-unfolding answer-text outcome-text refusal-number refusal-answer ran-text
-length-answer = append-nil (line (outcome-text (refused Length 0)) ++ steps-line)
+unfolding answer-text outcome-text most-text refusal-number refusal-answer ran-text marks-text
+length-answer = append-nil (line (outcome-text (refused Length 0)) ++ steps-line ++ marks-line)
 
 size-answer : answer-text (refusing Size 0 [] []) ≡ refusal-answer 2
-unfolding answer-text outcome-text refusal-number refusal-answer ran-text
-size-answer = append-nil (line (outcome-text (refused Size 0)) ++ steps-line)
+unfolding answer-text outcome-text most-text refusal-number refusal-answer ran-text marks-text
+size-answer = append-nil (line (outcome-text (refused Size 0)) ++ steps-line ++ marks-line)
 
 -- ---- The tests, in their order.
 

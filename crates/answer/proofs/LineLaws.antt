@@ -9,46 +9,56 @@ use lib.IntN.{ℤ}
 use lib.ListN.{length, take, getD}
 use lib.Seq.{take-suc, take-length, length-take-le}
 use Rattle.rules.specs.paper.Limits.{most-registers}
-use Rattle.answer.specs.Sizes.{outcome-bytes, steps-bytes, register-line-bytes, register-lines-bytes, answer-bytes}
+use Rattle.answer.specs.Sizes.{outcome-bytes, steps-bytes, marks-bytes, register-line-bytes, register-lines-bytes, answer-bytes}
 use Rattle.integers.specs.Words.{integer-of, integers-of}
 use Rattle.integers.specs.WordLaws.{integers-length}
+use Rattle.rules.specs.paper.HighMarks.{no-high-marks}
+use Rattle.automaton.specs.Runs.{marks-of}
+use Rattle.automaton.specs.declared.meter.HighMarks.{HighMarks}
+use Rattle.calls.specs.Claim.{marks-in}
 use Rattle.calls.specs.declared.Ran.{Ran}
 use Rattle.calls.specs.declared.Ran.the-variants.{Number, Truth, Location, Nothing, Refused}
 use Rattle.rules.specs.paper.Decimal.{ascii, decimal, integer}
-use Rattle.answer.specs.Program.{line, register-text, register-lines}
-use Rattle.answer.specs.Writing.{Put, PutWithin, ran-text, ran-steps, ran-shows, ran-answer, refusal-answer}
+use Rattle.answer.specs.Program.{line, spaced, register-text, register-lines}
+use Rattle.answer.specs.Writing.{Put, PutWithin, ran-text, ran-steps, ran-shows, marks-text, ran-answer, refusal-answer}
 use Rattle.answer.proofs.PutLaws.{within, within-then, within-as}
 
 -- ---- The outcome.
 
 module _ (before after : List ℕ) (answer : Ran) (last : ℕ) where
-  pub number-text : (w k : ℕ) → answer ≡ Number w k → PutWithin 28 before 0 (ascii "number " ++ integer (integer-of w)) last after → PutWithin outcome-bytes before 0 (ran-text answer) last after
+  pub number-text : (w k : ℕ) (h : HighMarks) → answer ≡ Number w k h → PutWithin 28 before 0 (ascii "number " ++ integer (integer-of w)) last after → PutWithin outcome-bytes before 0 (ran-text answer) last after
   unfolding ran-text
-  number-text w k e p = within-as outcome-bytes (sym (ap ran-text e)) (omega arith) p
+  number-text w k h e p = within-as outcome-bytes (sym (ap ran-text e)) (omega arith) p
 
-  pub truth-text : (w k : ℕ) → answer ≡ Truth w k → PutWithin 26 before 0 (ascii "truth " ++ decimal w) last after → PutWithin outcome-bytes before 0 (ran-text answer) last after
+  pub truth-text : (w k : ℕ) (h : HighMarks) → answer ≡ Truth w k h → PutWithin 26 before 0 (ascii "truth " ++ decimal w) last after → PutWithin outcome-bytes before 0 (ran-text answer) last after
   unfolding ran-text
-  truth-text w k e p = within-as outcome-bytes (sym (ap ran-text e)) (omega arith) p
+  truth-text w k h e p = within-as outcome-bytes (sym (ap ran-text e)) (omega arith) p
 
-  pub cell-text : (w k : ℕ) → answer ≡ Location w k → PutWithin 25 before 0 (ascii "cell " ++ decimal w) last after → PutWithin outcome-bytes before 0 (ran-text answer) last after
+  pub cell-text : (w k : ℕ) (h : HighMarks) → answer ≡ Location w k h → PutWithin 25 before 0 (ascii "cell " ++ decimal w) last after → PutWithin outcome-bytes before 0 (ran-text answer) last after
   unfolding ran-text
-  cell-text w k e p = within-as outcome-bytes (sym (ap ran-text e)) (omega arith) p
+  cell-text w k h e p = within-as outcome-bytes (sym (ap ran-text e)) (omega arith) p
 
-  pub none-text : (k : ℕ) → answer ≡ Nothing k → Put before 0 (ascii "none") last after → PutWithin outcome-bytes before 0 (ran-text answer) last after
+  pub none-text : (k : ℕ) (h : HighMarks) → answer ≡ Nothing k h → Put before 0 (ascii "none") last after → PutWithin outcome-bytes before 0 (ran-text answer) last after
   unfolding ran-text
-  none-text k e p = within-as outcome-bytes (sym (ap ran-text e)) (omega arith) (within 4 p (omega arith))
+  none-text k h e p = within-as outcome-bytes (sym (ap ran-text e)) (omega arith) (within 4 p (omega arith))
 
-  pub refused-text : (middle : List ℕ) (next x p k : ℕ) → answer ≡ Refused x p k → PutWithin 28 before 0 (ascii "refused " ++ decimal x) next middle →
+  pub refused-text : (middle : List ℕ) (next x p k : ℕ) (h : HighMarks) → answer ≡ Refused x p k h → PutWithin 28 before 0 (ascii "refused " ++ decimal x) next middle →
       PutWithin 24 middle next (ascii " at " ++ decimal p) last after → PutWithin outcome-bytes before 0 (ran-text answer) last after
   unfolding ran-text
-  refused-text middle next x p k e f g =
+  refused-text middle next x p k h e f g =
       within-as outcome-bytes (sym (append-assoc (ascii "refused " ++ decimal x) (ascii " at ") (decimal p)) ∙ sym (ap ran-text e)) (omega arith) (within-then f g)
 
--- ---- The steps, and a register.
+-- ---- The steps, the marks, and a register.
 
 pub steps-lines : (before middle after : List ℕ) (at next last n : ℕ) → PutWithin 27 before at (ascii "\nsteps " ++ decimal n) next middle → Put middle next (ascii "\n") last after →
     PutWithin steps-bytes before at (ascii "\n" ++ line (ascii "steps " ++ decimal n)) last after
 steps-lines before middle after at next last n p q = within-then p (within 1 q (omega arith))
+
+pub marks-line : (before second third fourth fifth after : List ℕ) (at a b c d last : ℕ) (h : HighMarks) → PutWithin 25 before at (ascii "most " ++ decimal (h .cells)) a second →
+    PutWithin 21 second a (spaced (h .bindings)) b third → PutWithin 21 third b (spaced (h .values)) c fourth → PutWithin 21 fourth c (spaced (h .control)) d fifth → Put fifth d (ascii "\n") last after →
+    PutWithin marks-bytes before at (line (marks-text h)) last after
+unfolding marks-text
+marks-line before second third fourth fifth after at a b c d last h p q r s t = within-as marks-bytes refl (omega arith) (within-then (within-then (within-then (within-then p q) r) s) (within 1 t (omega arith)))
 
 pub register-line : (before second third after : List ℕ) (at a b last i w : ℕ) → PutWithin 29 before at (ascii "register " ++ decimal i) a second →
     PutWithin 22 second a (ascii " " ++ integer (integer-of w)) b third → Put third b (ascii "\n") last after →
@@ -120,30 +130,33 @@ lined-all before registers after at i next few l h =
 
 -- ---- The whole answer.
 
-module _ (before second third : List ℕ) (answer : Ran) (a b steps : ℕ) (outcome : PutWithin outcome-bytes before 0 (ran-text answer) a second)
-    (counted : PutWithin steps-bytes second a (ascii "\n" ++ line (ascii "steps " ++ decimal steps)) b third) where
-  two-lines : PutWithin 80 before 0 (line (ran-text answer) ++ line (ascii "steps " ++ decimal steps)) b third
-  two-lines = within-as 80 (sym (append-assoc (ran-text answer) (ascii "\n") (line (ascii "steps " ++ decimal steps)))) (omega arith) (within-then outcome counted)
+module _ (before second third fourth : List ℕ) (answer : Ran) (a b c steps : ℕ) (marks : HighMarks) (outcome : PutWithin outcome-bytes before 0 (ran-text answer) a second)
+    (counted : PutWithin steps-bytes second a (ascii "\n" ++ line (ascii "steps " ++ decimal steps)) b third) (marked : PutWithin marks-bytes third b (line (marks-text marks)) c fourth) where
+  abbrev texts : (steps : ℕ) → HighMarks → List ℕ
+  texts k h = line (ran-text answer) ++ line (ascii "steps " ++ decimal k) ++ line (marks-text h)
 
-  pub answer-with-registers : (after : List ℕ) (last : ℕ) (zs : List ℤ) → steps ≡ ran-steps answer → ran-shows answer ≡ true → PutWithin register-lines-bytes third b (register-lines 0 zs) last after →
+  three-lines : PutWithin 169 before 0 (texts steps marks) c fourth
+  three-lines =
+      within-then (within-as 80 (sym (append-assoc (ran-text answer) (ascii "\n") (line (ascii "steps " ++ decimal steps)))) (omega arith) (within-then outcome counted)) marked
+
+  pub answer-with-registers : (after : List ℕ) (last : ℕ) (zs : List ℤ) → steps ≡ ran-steps answer → marks ≡ marks-in answer → ran-shows answer ≡ true → PutWithin register-lines-bytes fourth c (register-lines 0 zs) last after →
       PutWithin answer-bytes before 0 (ran-answer answer zs) last after
   unfolding ran-answer
-  answer-with-registers after last zs e shows p =
-      within-as answer-bytes
-      (ap (λ k. line (ran-text answer) ++ line (ascii "steps " ++ decimal k) ++ register-lines 0 zs) e ∙
-      ap (λ t. line (ran-text answer) ++ line (ascii "steps " ++ decimal (ran-steps answer)) ++ cond t (register-lines 0 zs) []) (sym shows))
-      (omega arith) (within-then two-lines p)
+  answer-with-registers after last zs e m shows p =
+      within-as answer-bytes ((λ i. texts (e i) (m i) ++ register-lines 0 zs) ∙ ap (λ t. texts (ran-steps answer) (marks-in answer) ++ cond t (register-lines 0 zs) []) (sym shows)) (omega arith) (within-then three-lines p)
 
-  pub answer-without : (zs : List ℤ) → steps ≡ ran-steps answer → ran-shows answer ≡ false → PutWithin answer-bytes before 0 (ran-answer answer zs) b third
+  pub answer-without : (zs : List ℤ) → steps ≡ ran-steps answer → marks ≡ marks-in answer → ran-shows answer ≡ false → PutWithin answer-bytes before 0 (ran-answer answer zs) c fourth
   unfolding ran-answer
-  answer-without zs e shows =
+  answer-without zs e m shows =
       within-as answer-bytes
-      (ap (λ k. line (ran-text answer) ++ line (ascii "steps " ++ decimal k)) e ∙
-      sym (append-nil (line (ran-text answer) ++ line (ascii "steps " ++ decimal (ran-steps answer)))) ∙
-      ap (λ t. line (ran-text answer) ++ line (ascii "steps " ++ decimal (ran-steps answer)) ++ cond t (register-lines 0 zs) []) (sym shows))
-      (omega arith) two-lines
+      ((λ i. texts (e i) (m i)) ∙
+      sym (append-nil (texts (ran-steps answer) (marks-in answer))) ∙
+      ap (λ t. texts (ran-steps answer) (marks-in answer) ++ cond t (register-lines 0 zs) []) (sym shows))
+      (omega arith) three-lines
 
-pub refused-answer : (before second after : List ℕ) (a last x : ℕ) → PutWithin outcome-bytes before 0 (ran-text (Refused x 0 0)) a second →
-    PutWithin steps-bytes second a (ascii "\n" ++ line (ascii "steps " ++ decimal 0)) last after → PutWithin answer-bytes before 0 (refusal-answer x) last after
+pub refused-answer : (before second third after : List ℕ) (a b last x : ℕ) (none : HighMarks) → none ≡ marks-of no-high-marks → PutWithin outcome-bytes before 0 (ran-text (Refused x 0 0 none)) a second →
+    PutWithin steps-bytes second a (ascii "\n" ++ line (ascii "steps " ++ decimal 0)) b third → PutWithin marks-bytes third b (line (marks-text none)) last after → PutWithin answer-bytes before 0 (refusal-answer x) last after
 unfolding refusal-answer
-refused-answer before second after a last x p q = within-as answer-bytes refl (omega arith) (two-lines before second after (Refused x 0 0) a last 0 p q)
+refused-answer before second third after a b last x none e p q r =
+    within-as answer-bytes (λ i. line (ran-text (Refused x 0 0 (e i))) ++ line (ascii "steps " ++ decimal 0) ++ line (marks-text (e i))) (omega arith)
+    (three-lines before second third after (Refused x 0 0 none) a b last 0 none p q r)

@@ -15,6 +15,7 @@ use Rattle.rules.specs.paper.Tree.{Root}
 use Rattle.rules.specs.paper.Checker.{Passed}
 use Rattle.rules.specs.paper.States.{integer, truth, location, value, closure, Entry, bindable, name, node, environment, locations, Store, find, State, values-of, store-of}
 use Rattle.rules.specs.paper.Run.{Ending, ended, stopped, run}
+use Rattle.rules.specs.paper.HighMarks.{high-marks}
 use Rattle.rules.specs.claims.History.{History, Reach}
 use Rattle.rules.specs.claims.Claim.{AllInRange}
 use Rattle.rules.specs.claims.Ends.{EndsWell, normally, withheld-for, RegisterHolds, RangedValues, StateFacts}
@@ -72,13 +73,13 @@ module _ (image : List ℕ) (zs : List ℤ) (ranged : AllInRange zs) (budget : �
   kept : (x : Refusals.Refusal) (p : ℕ) (ws : List ℕ) → Ranged (refusing x p zs ws)
   kept x p ws = record { answer = tt; registers = ranged }
 
-  run-ranged : (ws : List ℕ) (r : ℕ) (t : Root) (a : Passed) → check-image image ≡ passed r t a → length zs ≡ r → Ranged (finish r ws (run budget 0 (start r t zs)))
+  run-ranged : (ws : List ℕ) (r : ℕ) (t : Root) (a : Passed) → check-image image ≡ passed r t a → length zs ≡ r → Ranged (finish r ws (high-marks budget (start r t zs)) (run budget 0 (start r t zs)))
   run-ranged ws r t a passes count = by (run budget 0 (start r t zs)) (run-ends image r t a passes zs count ranged budget)
     where
       facts : (k : ℕ) (σ : State) (h : History) → Reach budget (start r t zs) r k σ h → StateFacts r σ
       facts k σ h reached = state-facts image r t a passes zs count ranged budget k σ h reached
 
-      by : (e : Ending) → EndsWell budget (start r t zs) r a e → Ranged (finish r ws e)
+      by : (e : Ending) → EndsWell budget (start r t zs) r a e → Ranged (finish r ws (high-marks budget (start r t zs)) e)
       by (ended k σ) (normally h reached empty final) =
           record { answer = left-ranged (values-of σ) (facts k σ h reached .values-ranged); registers = registers-ranged (store-of σ) r 0 (λ i l. facts k σ h reached .registers-hold i (omega (arith, l))) }
       by (stopped x k σ) (withheld-for h rule e reached applies w q) =
@@ -92,7 +93,7 @@ module _ (image : List ℕ) (zs : List ℤ) (ranged : AllInRange zs) (budget : �
   checked-ranged ws (turned-back x p) e = kept x p ws
   checked-ranged ws (passed r t a) e = by (eqb (length zs) r) refl
     where
-      by : (s : Bool) → eqb (length zs) r ≡ s → Ranged (cond s (finish r ws (run budget 0 (start r t zs))) (refusing Refusals.Registers 0 zs ws))
+      by : (s : Bool) → eqb (length zs) r ≡ s → Ranged (cond s (finish r ws (high-marks budget (start r t zs)) (run budget 0 (start r t zs))) (refusing Refusals.Registers 0 zs ws))
       by true q = run-ranged ws r t a e (eqb-true (length zs) r q)
       by false q = kept Refusals.Registers 0 ws
 

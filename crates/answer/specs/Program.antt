@@ -9,6 +9,7 @@ use Rattle.rules.specs.paper.Refusals.{Length, Size, refusal-number}
 use Rattle.rules.specs.paper.Limits.{most-budget, work-words}
 use Rattle.rules.specs.claims.Listing.{truth-word}
 use Rattle.rules.specs.paper.Reader.{size-fits}
+use Rattle.rules.specs.paper.Needs.{control, values, cells, bindings, Sizes}
 use Rattle.rules.specs.paper.Engine.{number, truth-of, cell, nothing, Answer, outcome, refused, Called, refusing, engine}
 use Rattle.integers.specs.Words.{integers-of}
 use Rattle.rules.specs.paper.Decimal.{ascii, decimal, integer}
@@ -26,6 +27,13 @@ outcome-text (outcome (cell l)) = ascii "cell " ++ decimal l
 outcome-text (outcome nothing) = ascii "none"
 outcome-text (refused x p) = ascii "refused " ++ decimal (refusal-number x) ++ ascii " at " ++ decimal p
 
+-- `most C B V K`: the most cells, bindings, value entries and control entries over all states reached.
+abbrev pub spaced : ℕ → List ℕ
+spaced n = ascii " " ++ decimal n
+
+unfoldable pub most-text : Sizes → List ℕ
+most-text m = ascii "most " ++ decimal (m cells) ++ spaced (m bindings) ++ spaced (m values) ++ spaced (m control)
+
 unfoldable pub register-text : ℕ → ℤ → List ℕ
 register-text i z = ascii "register " ++ decimal i ++ ascii " " ++ integer z
 
@@ -41,10 +49,10 @@ abbrev pub shows-registers : Answer → Bool
 shows-registers (outcome o) = true
 shows-registers (refused x p) = ltb last-before-run (refusal-number x)
 
--- The outcome, the steps and the registers, a line each.
+-- The outcome, the steps, the high marks and the registers, a line each.
 unfoldable pub answer-text : Called → List ℕ
 answer-text c =
-    line (outcome-text (c .reply .answer)) ++ line (ascii "steps " ++ decimal (c .reply .steps)) ++
+    line (outcome-text (c .reply .answer)) ++ line (ascii "steps " ++ decimal (c .reply .steps)) ++ line (most-text (c .reply .most)) ++
     cond (shows-registers (c .reply .answer)) (register-lines 0 (c .registers)) []
 
 -- The byte count of an input: 4 bytes for each of the image's 2 + 2n words, 8 for each of the r starting values.
@@ -52,8 +60,8 @@ abbrev pub input-bytes : (n r : ℕ) → ℕ
 input-bytes n r = 8 + 8 * n + 8 * r
 
 -- The engine on so many words of an input and so many values behind them, 8 bytes each.
-abbrev pub run-numbers : (words values : ℕ) (input work : List ℕ) → Called
-run-numbers words values input work = engine (numbers 4 words input) (integers-of (numbers 8 values (drop (4 * words) input))) most-budget work
+abbrev pub run-numbers : (words count : ℕ) (input work : List ℕ) → Called
+run-numbers words count input work = engine (numbers 4 words input) (integers-of (numbers 8 count (drop (4 * words) input))) most-budget work
 
 -- The engine on the image's 2 + 2n words and the r starting values behind it.
 unfoldable pub run-input : (n r : ℕ) → List ℕ → Called

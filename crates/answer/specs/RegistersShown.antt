@@ -13,6 +13,8 @@ use Rattle.rules.specs.paper.Limits.{most-budget, work-words}
 use Rattle.rules.specs.paper.Reader.{size-fits}
 use Rattle.rules.specs.paper.Run.{Ending, ended, stopped, lost, run}
 use Rattle.rules.specs.paper.States.{Store, store-of}
+use Rattle.rules.specs.paper.Needs.{Sizes}
+use Rattle.rules.specs.paper.HighMarks.{high-marks}
 use Rattle.rules.specs.paper.Engine.{Called, Checked, turned-back, passed, check-image, cleared, refusing, finish, start, registers-from, run-checked, engine}
 use Rattle.integers.specs.Words.{integers-of}
 use Rattle.integers.specs.WordLaws.{integers-length}
@@ -29,10 +31,10 @@ unfolding registers-from
 registers-length i zero S = refl
 registers-length i (suc k) S = ap suc (registers-length (suc i) k S)
 
-finish-shows : (r : ℕ) (ws : List ℕ) (e : Ending) → ShowsAll r (finish r ws e)
-finish-shows r ws (ended k σ) = record { as-many = λ t. registers-length 0 r (store-of σ) }
-finish-shows r ws (stopped x k σ) = record { as-many = λ t. registers-length 0 r (store-of σ) }
-finish-shows r ws (lost k σ) = record { as-many = λ t. registers-length 0 r (store-of σ) }
+finish-shows : (r : ℕ) (ws : List ℕ) (most : Sizes) (e : Ending) → ShowsAll r (finish r ws most e)
+finish-shows r ws most (ended k σ) = record { as-many = λ t. registers-length 0 r (store-of σ) }
+finish-shows r ws most (stopped x k σ) = record { as-many = λ t. registers-length 0 r (store-of σ) }
+finish-shows r ws most (lost k σ) = record { as-many = λ t. registers-length 0 r (store-of σ) }
 
 by-test : (b : Bool) (r : ℕ) (x y : Called) → (b ≡ true → ShowsAll r x) → ShowsAll r y → ShowsAll r (cond b x y)
 by-test true r x y p q = p refl
@@ -41,8 +43,8 @@ by-test false r x y p q = q
 run-shows : (c : Checked) (zs : List ℤ) (b : ℕ) (ws : List ℕ) → ShowsAll (length zs) (run-checked c zs b ws)
 run-shows (turned-back x p) zs b ws = record { as-many = λ t. refl }
 run-shows (passed r t c) zs b ws =
-    by-test (eqb (length zs) r) (length zs) (finish r ws (run b 0 (start r t zs))) (refusing Refusals.Registers 0 zs ws)
-    (λ e. subst (λ (n : ℕ). ShowsAll n (finish r ws (run b 0 (start r t zs)))) (sym (eqb-true (length zs) r e)) (finish-shows r ws (run b 0 (start r t zs))))
+    by-test (eqb (length zs) r) (length zs) (finish r ws (high-marks b (start r t zs)) (run b 0 (start r t zs))) (refusing Refusals.Registers 0 zs ws)
+    (λ e. subst (λ (n : ℕ). ShowsAll n (finish r ws (high-marks b (start r t zs)) (run b 0 (start r t zs)))) (sym (eqb-true (length zs) r e)) (finish-shows r ws (high-marks b (start r t zs)) (run b 0 (start r t zs))))
     (record { as-many = λ t. refl })
 
 engine-shows : (image : List ℕ) (zs : List ℤ) (b : ℕ) (ws : List ℕ) → ShowsAll (length zs) (engine image zs b ws)

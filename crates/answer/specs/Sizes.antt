@@ -17,6 +17,10 @@ outcome-bytes = 52
 abbrev pub steps-bytes : ℕ
 steps-bytes = 28
 
+-- `most C B V K` and its newline: 4 + 4 × (1 + 20) + 1.
+abbrev pub marks-bytes : ℕ
+marks-bytes = 89
+
 -- `register I V` and its newline: 9 + 20 + 1 + 21 + 1.
 abbrev pub register-line-bytes : ℕ
 register-line-bytes = 52
@@ -24,6 +28,6 @@ register-line-bytes = 52
 abbrev pub register-lines-bytes : ℕ
 register-lines-bytes = most-registers * register-line-bytes
 
--- The room for an answer: its parts are 52 + 28 + 832 = 912.
+-- The room for an answer: its parts are 52 + 28 + 89 + 832 = 1,001.
 abbrev pub answer-bytes : ℕ
 answer-bytes = 1024

@@ -1,4 +1,4 @@
--- How a whole answer is told from one that was cut: by its lines. An answer has 2 lines, and one more for each register where it shows
+-- How a whole answer is told from one that was cut: by its lines. An answer has 3 lines, and one more for each register where it shows
 -- them; and of all that an answer begins with, only the answer itself has as many. `tools/whole.sh` tests this.
 use Prim.Native.Nat.{ℕ, zero, suc, _+_, _/_, _%_, _<_}
 use native.Mathlib.Omega.{arith}
@@ -10,12 +10,13 @@ use lib.IntN.{ℤ, pos, negsuc}
 use lib.ListN.{length, take, drop, take-append-drop}
 use borrow.Author.Tests.{ne-eqb, eq-eqb}
 use Rattle.rules.specs.paper.Refusals.{refusal-number}
+use Rattle.rules.specs.paper.Needs.{control, values, cells, bindings, Sizes}
 use Rattle.rules.specs.paper.Engine.{number, truth-of, cell, nothing, Answer, outcome, refused, Called}
 use Rattle.rules.specs.claims.Listing.{truth-word}
 use Rattle.little_endian.specs.Numbers.{little-endian}
 use Rattle.answer.specs.RegistersShown.{registers-shown}
 use Rattle.rules.specs.paper.Decimal.{ascii, digit, digits-within, decimal, integer}
-use Rattle.answer.specs.Program.{line, outcome-text, register-text, register-lines, shows-registers, answer-text, call-input, program}
+use Rattle.answer.specs.Program.{line, spaced, outcome-text, most-text, register-text, register-lines, shows-registers, answer-text, call-input, program}
 
 abbrev pub newline : ℕ
 newline = 10
@@ -25,15 +26,15 @@ unfoldable pub newlines : List ℕ → ℕ
 newlines [] = 0
 newlines (b ∷ bs) = cond (eqb b newline) 1 0 + newlines bs
 
--- What an answer's lines tell: they are 2, and one for each of the input's registers where the answer shows them; and of all that the
+-- What an answer's lines tell: they are 3, and one for each of the input's registers where the answer shows them; and of all that the
 -- answer begins with, only the answer itself has as many.
 pub record ToldByLines (input : List ℕ) : Type 0 where
-  pub lines : newlines (program input) ≡ 2 + cond (shows-registers (call-input input .reply .answer)) (little-endian (take 4 (drop 4 input))) 0
+  pub lines : newlines (program input) ≡ 3 + cond (shows-registers (call-input input .reply .answer)) (little-endian (take 4 (drop 4 input))) 0
   pub whole : (k : ℕ) → newlines (take k (program input)) ≡ newlines (program input) → take k (program input) ≡ program input
 
 -- The lines of an answer.
 abbrev answer-lines : Called → ℕ
-answer-lines c = 2 + cond (shows-registers (c .reply .answer)) (length (c .registers)) 0
+answer-lines c = 3 + cond (shows-registers (c .reply .answer)) (length (c .registers)) 0
 
 newlines-append : (xs ys : List ℕ) → newlines (xs ++ ys) ≡ newlines xs + newlines ys
 unfolding newlines
@@ -87,6 +88,19 @@ no-newline-register i z =
     labelled (ascii "register " ++ decimal i ++ ascii " ") (integer z)
     (labelled (ascii "register " ++ decimal i) (ascii " ") (labelled (ascii "register ") (decimal i) refl (no-newline-decimal i)) refl) (no-newline-integer z)
 
+no-newline-spaced : (n : ℕ) → newlines (spaced n) ≡ 0
+unfolding newlines
+no-newline-spaced n = labelled (ascii " ") (decimal n) refl (no-newline-decimal n)
+
+no-newline-most : (m : Sizes) → newlines (most-text m) ≡ 0
+unfolding most-text newlines
+no-newline-most m =
+    labelled (ascii "most " ++ decimal (m cells) ++ spaced (m bindings) ++ spaced (m values)) (spaced (m control))
+    (labelled (ascii "most " ++ decimal (m cells) ++ spaced (m bindings)) (spaced (m values))
+    (labelled (ascii "most " ++ decimal (m cells)) (spaced (m bindings)) (labelled (ascii "most ") (decimal (m cells)) refl (no-newline-decimal (m cells))) (no-newline-spaced (m bindings)))
+    (no-newline-spaced (m values)))
+    (no-newline-spaced (m control))
+
 newlines-registers : (i : ℕ) (zs : List ℤ) → newlines (register-lines i zs) ≡ length zs
 unfolding register-lines newlines
 newlines-registers i [] = refl
@@ -99,18 +113,26 @@ unfolding newlines
 newlines-shown true zs = newlines-registers 0 zs
 newlines-shown false zs = refl
 
-two-lines-and-more : (first second rest : List ℕ) (k : ℕ) → newlines first ≡ 0 → newlines second ≡ 0 → newlines rest ≡ k → newlines (line first ++ line second ++ rest) ≡ 2 + k
-two-lines-and-more first second rest k e d m =
-    newlines-append (line first ++ line second) rest ∙
-    omega (arith, newlines-line first e, newlines-append (line first) (line second), newlines-line second d, m)
+three-lines-and-more : (first second third rest : List ℕ) (k : ℕ) → newlines first ≡ 0 → newlines second ≡ 0 → newlines third ≡ 0 → newlines rest ≡ k → newlines (line first ++ line second ++ line third ++ rest) ≡ 3 + k
+three-lines-and-more first second third rest k e d g m =
+    newlines-append (line first ++ line second ++ line third) rest ∙
+    omega (
+      arith,
+      newlines-line first e,
+      newlines-append (line first) (line second),
+      newlines-line second d,
+      newlines-append (line first ++ line second) (line third),
+      newlines-line third g,
+      m,
+    )
 
 -- An answer has its lines.
 lines-of-answer : (c : Called) → newlines (answer-text c) ≡ answer-lines c
 unfolding answer-text newlines
 lines-of-answer c =
-    two-lines-and-more (outcome-text (c .reply .answer)) (ascii "steps " ++ decimal (c .reply .steps)) (cond (shows-registers (c .reply .answer)) (register-lines 0 (c .registers)) [])
+    three-lines-and-more (outcome-text (c .reply .answer)) (ascii "steps " ++ decimal (c .reply .steps)) (most-text (c .reply .most)) (cond (shows-registers (c .reply .answer)) (register-lines 0 (c .registers)) [])
     (cond (shows-registers (c .reply .answer)) (length (c .registers)) 0) (no-newline-outcome (c .reply .answer))
-    (labelled (ascii "steps ") (decimal (c .reply .steps)) refl (no-newline-decimal (c .reply .steps))) (newlines-shown (shows-registers (c .reply .answer)) (c .registers))
+    (labelled (ascii "steps ") (decimal (c .reply .steps)) refl (no-newline-decimal (c .reply .steps))) (no-newline-most (c .reply .most)) (newlines-shown (shows-registers (c .reply .answer)) (c .registers))
 
 append-nil : (xs : List ℕ) → xs ++ [] ≡ xs
 append-nil [] = refl
@@ -148,8 +170,10 @@ newline-ends-shown false zs = tt
 newline-ends-answer : (c : Called) → EndsWithNewline (answer-text c)
 unfolding answer-text
 newline-ends-answer c =
-    newline-ends-append (line (outcome-text (c .reply .answer)) ++ line (ascii "steps " ++ decimal (c .reply .steps))) _
+    newline-ends-append (line (outcome-text (c .reply .answer)) ++ line (ascii "steps " ++ decimal (c .reply .steps)) ++ line (most-text (c .reply .most))) _
+    (newline-ends-append (line (outcome-text (c .reply .answer)) ++ line (ascii "steps " ++ decimal (c .reply .steps))) _
     (newline-ends-append (line (outcome-text (c .reply .answer))) _ (newline-ends-line (outcome-text (c .reply .answer))) (newline-ends-line (ascii "steps " ++ decimal (c .reply .steps))))
+    (newline-ends-line (most-text (c .reply .most))))
     (newline-ends-shown (shows-registers (c .reply .answer)) (c .registers))
 
 newline-ends-drop : (k : ℕ) (xs : List ℕ) → EndsWithNewline xs → EndsWithNewline (drop k xs)
@@ -173,8 +197,8 @@ whole-answer c k e =
     nothing-behind (take k (answer-text c)) (drop k (answer-text c)) (newline-ends-drop k (answer-text c) (newline-ends-answer c)) (e ∙ ap newlines (sym (take-append-drop k (answer-text c)))) ∙
     take-append-drop k (answer-text c)
 
-counted : (b : Bool) (m r : ℕ) → (b ≡ true → m ≡ r) → 2 + cond b m 0 ≡ 2 + cond b r 0
-counted true m r e = ap (λ (n : ℕ). 2 + n) (e refl)
+counted : (b : Bool) (m r : ℕ) → (b ≡ true → m ≡ r) → 3 + cond b m 0 ≡ 3 + cond b r 0
+counted true m r e = ap (λ (n : ℕ). 3 + n) (e refl)
 counted false m r e = refl
 
 pub answers-told : (input : List ℕ) → ToldByLines input

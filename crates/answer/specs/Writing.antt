@@ -8,10 +8,14 @@ use lib.IntN.{ℤ}
 use lib.ListN.{length, take}
 use Rattle.rules.specs.paper.Limits.{most-nodes, most-registers}
 use Rattle.integers.specs.Words.{integer-of}
+use Rattle.rules.specs.paper.HighMarks.{no-high-marks}
+use Rattle.automaton.specs.Runs.{marks-of}
+use Rattle.automaton.specs.declared.meter.HighMarks.{HighMarks}
+use Rattle.calls.specs.Claim.{marks-in}
 use Rattle.calls.specs.declared.Ran.{Ran}
 use Rattle.calls.specs.declared.Ran.the-variants.{Number, Truth, Location, Nothing, Refused}
 use Rattle.rules.specs.paper.Decimal.{ascii, decimal, integer}
-use Rattle.answer.specs.Program.{line, register-lines, last-before-run, answer-text, input-bytes, run-input, program}
+use Rattle.answer.specs.Program.{line, spaced, register-lines, last-before-run, answer-text, input-bytes, run-input, program}
 use Rattle.answer.specs.declared.input.Counted.{Counted}
 use Rattle.answer.specs.declared.input.Counted.the-variants as Count
 
@@ -26,32 +30,35 @@ pub record PutWithin (most : ℕ) (before : List ℕ) (at : ℕ) (text : List �
   pub short : next ≤ at + most
 
 unfoldable pub ran-text : Ran → List ℕ
-ran-text (Number w k) = ascii "number " ++ integer (integer-of w)
-ran-text (Truth w k) = ascii "truth " ++ decimal w
-ran-text (Location w k) = ascii "cell " ++ decimal w
-ran-text (Nothing k) = ascii "none"
-ran-text (Refused x p k) = ascii "refused " ++ decimal x ++ ascii " at " ++ decimal p
+ran-text (Number w k h) = ascii "number " ++ integer (integer-of w)
+ran-text (Truth w k h) = ascii "truth " ++ decimal w
+ran-text (Location w k h) = ascii "cell " ++ decimal w
+ran-text (Nothing k h) = ascii "none"
+ran-text (Refused x p k h) = ascii "refused " ++ decimal x ++ ascii " at " ++ decimal p
 
 abbrev pub ran-steps : Ran → ℕ
-ran-steps (Number w k) = k
-ran-steps (Truth w k) = k
-ran-steps (Location w k) = k
-ran-steps (Nothing k) = k
-ran-steps (Refused x p k) = k
+ran-steps (Number w k h) = k
+ran-steps (Truth w k h) = k
+ran-steps (Location w k h) = k
+ran-steps (Nothing k h) = k
+ran-steps (Refused x p k h) = k
 
 abbrev pub ran-shows : Ran → Bool
-ran-shows (Number w k) = true
-ran-shows (Truth w k) = true
-ran-shows (Location w k) = true
-ran-shows (Nothing k) = true
-ran-shows (Refused x p k) = ltb last-before-run x
+ran-shows (Number w k h) = true
+ran-shows (Truth w k h) = true
+ran-shows (Location w k h) = true
+ran-shows (Nothing k h) = true
+ran-shows (Refused x p k h) = ltb last-before-run x
+
+unfoldable pub marks-text : HighMarks → List ℕ
+marks-text h = ascii "most " ++ decimal (h .cells) ++ spaced (h .bindings) ++ spaced (h .values) ++ spaced (h .control)
 
 unfoldable pub ran-answer : Ran → List ℤ → List ℕ
-ran-answer r zs = line (ran-text r) ++ line (ascii "steps " ++ decimal (ran-steps r)) ++ cond (ran-shows r) (register-lines 0 zs) []
+ran-answer r zs = line (ran-text r) ++ line (ascii "steps " ++ decimal (ran-steps r)) ++ line (marks-text (marks-in r)) ++ cond (ran-shows r) (register-lines 0 zs) []
 
 -- The answer to an input that is refused before its image is read.
 unfoldable pub refusal-answer : (number : ℕ) → List ℕ
-refusal-answer x = line (ran-text (Refused x 0 0)) ++ line (ascii "steps " ++ decimal 0)
+refusal-answer x = line (ran-text (Refused x 0 0 (marks-of no-high-marks))) ++ line (ascii "steps " ++ decimal 0) ++ line (marks-text (marks-of no-high-marks))
 
 -- What an input's counts come to: they fit its byte count, or it is refused.
 pub record CountsFit (n r : ℕ) (input : List ℕ) : Type 0 where

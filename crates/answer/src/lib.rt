@@ -29,7 +29,7 @@ use reader::MOST_REGISTERS;
 // The largest input: an image of the most nodes, 8 bytes for n and r and 8 a node, and 8 bytes for each of the most registers.
 pub const MOST_INPUT_BYTES: usize = 8 + 8 * MOST_NODES + 8 * MOST_REGISTERS;
 
-// The room for an answer. The longest has 912 bytes: an outcome of 52, the steps of 28, and 16 registers of 52.
+// The room for an answer. The longest has 1,001 bytes: an outcome of 52, the steps of 28, the marks of 89, and 16 registers of 52.
 pub const ANSWER_BYTES: usize = 1024;
 
 // The image and the starting values of an input.

@@ -1,7 +1,8 @@
 // The meter: the high marks of a run. It is lent to each step, which changes it where it lies in the run's record.
 ghost use mathlib.Core.Path.{_≡_};
 ghost use Prim.Native.Nat.{max};
-ghost use Rattle.automaton.specs.Runs.{Enabled, StepsFrom};
+ghost use Rattle.rules.specs.paper.HighMarks.{no-high-marks};
+ghost use Rattle.automaton.specs.Runs.{marks-of, Enabled, StepsFrom};
 ghost use Rattle.automaton.specs.Meter.{first-marks, stacks-raised, all-raised, marks-by-word, after-step, Covers, MeteredStep};
 use crate::step;
 use machine::Machine;
@@ -43,6 +44,18 @@ pub(crate) fn first_marks(m: Machine) -> HighMarks
         bindings: m.bindings,
         values: m.values,
         control: m.control,
+    }
+}
+
+// The marks of a call that is refused before a run.
+pub fn no_marks() -> HighMarks
+    ensures { λ r. ⌜ r ≡ marks-of no-high-marks ⌝ }
+{
+    HighMarks {
+        cells: 0,
+        bindings: 0,
+        values: 0,
+        control: 0,
     }
 }
 

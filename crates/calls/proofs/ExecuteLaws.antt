@@ -8,6 +8,7 @@ use Rattle.rules.specs.paper.Tree.{Root}
 use Rattle.rules.specs.paper.Checker.{Passed}
 use Rattle.rules.specs.paper.States.{State, store-of}
 use Rattle.rules.specs.paper.Run.{Ending, ended, stopped, lost, run}
+use Rattle.rules.specs.paper.HighMarks.{high-marks}
 use Rattle.rules.specs.claims.History.{History, first-history, Reach}
 use Rattle.rules.specs.claims.Ends.{EndsWell, normally, withheld-for, RegisterHolds}
 use Rattle.rules.specs.proofs.running.Continuation.{Invariant}
@@ -46,12 +47,14 @@ module _ (image registers : List ℕ) (t : Root) (a : Passed) (passes : check-im
   beyond-both u v = record { same-length = v .same-length ∙ u .same-length; same-beyond = v .same-beyond ∙ u .same-beyond }
 
   pub executed : (budget : ℕ) (before middle after taken : List ℕ) (m : Machine) (answer : Endings.Ending) → StartsAt t registers m before middle →
-      RunAnswer (run budget 0 (start (length registers) t (integers-of registers))) answer middle after →
+      RunAnswer (high-marks budget (start (length registers) t (integers-of registers))) (run budget 0 (start (length registers) t (integers-of registers))) answer middle after →
       ((k : Machine) (σ : State) → Holds after k σ → ((i : ℕ) → i < length registers → RegisterHolds (store-of σ) i) → taken ≡ words-of (registers-from 0 (length registers) (store-of σ))) →
-      ExecuteAnswer (run budget 0 (start (length registers) t (integers-of registers))) (length registers) answer taken before after
+      ExecuteAnswer (high-marks budget (start (length registers) t (integers-of registers))) (run budget 0 (start (length registers) t (integers-of registers))) (length registers) answer taken before after
   executed budget before middle after taken m answer starts ran takes = by (run budget 0 (start (length registers) t (integers-of registers))) (ends-well budget) ran
     where
-      by : (e : Ending) → EndsWell budget (start (length registers) t (integers-of registers)) (length registers) a e → RunAnswer e answer middle after → ExecuteAnswer e (length registers) answer taken before after
+      by : (e : Ending) → EndsWell budget (start (length registers) t (integers-of registers)) (length registers) a e →
+          RunAnswer (high-marks budget (start (length registers) t (integers-of registers))) e answer middle after →
+          ExecuteAnswer (high-marks budget (start (length registers) t (integers-of registers))) e (length registers) answer taken before after
       by (ended k σ) (normally h reached empty final) r =
           record {
             machine = r .machine;

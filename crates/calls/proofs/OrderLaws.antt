@@ -15,6 +15,10 @@ use Rattle.rules.specs.paper.Tree.{Root}
 use Rattle.rules.specs.paper.Checker.{Passed, expression-of-code, a-command}
 use Rattle.rules.specs.paper.Engine.{Checked, turned-back, passed, check-image, run-checked, refusing, Called, engine, cleared, finish, start}
 use Rattle.rules.specs.paper.Run.{Ending, ended, stopped, lost, run}
+use Rattle.rules.specs.paper.Needs.{Sizes}
+use Rattle.rules.specs.paper.HighMarks.{no-high-marks, high-marks}
+use Rattle.automaton.specs.Runs.{marks-of}
+use Rattle.automaton.specs.declared.meter.HighMarks.{HighMarks}
 use Rattle.integers.specs.Words.{integers-of, words-of}
 use Rattle.integers.specs.WordLaws.{integers-length, words-back}
 use Rattle.reader.specs.Stored.{RootAt}
@@ -73,21 +77,21 @@ module _ (image before after : List ℕ) (e : Loaded) (a : LoadAnswer (check-ima
 
   -- The image is refused: 0 steps, and the registers are kept.
   pub image-refused : (registers : List ℕ) (budget x p : ℕ) → ((i : ℕ) → i < length registers → getD registers i 0 < 18446744073709551616) → e ≡ Load.Refused x p →
-      Performed (run-checked (check-image image) (integers-of registers) budget []) (Refused x p 0) registers before after
-  image-refused registers budget x p low q =
+      (marks : HighMarks) → marks ≡ marks-of no-high-marks → Performed (run-checked (check-image image) (integers-of registers) budget []) (Refused x p 0 marks) registers before after
+  image-refused registers budget x p low q marks none =
       let l = loaded-refused image before after e a x p q in
-      subst (λ k. Performed (run-checked k (integers-of registers) budget []) (Refused x p 0) registers before after) (sym (l .refused))
-      (record { reply-is = ap (λ n. Refused n p 0) (l .number-is); registers-are = sym (words-back registers low); beyond = loaded-beyond image before after e a })
+      subst (λ k. Performed (run-checked k (integers-of registers) budget []) (Refused x p 0 marks) registers before after) (sym (l .refused))
+      (record { reply-is = λ i. Refused (l .number-is i) p 0 (none i); registers-are = sym (words-back registers low); beyond = loaded-beyond image before after e a })
 
 -- ---- 20.
 
 module _ (image registers : List ℕ) (n nodes : ℕ) (a : Passed) (budget : ℕ) (before middle : List ℕ) (found : FoundPassed image n nodes a before middle) where
   pub count-refused : ((i : ℕ) → i < length registers → getD registers i 0 < 18446744073709551616) → (length registers ≡ n → ⊥) →
-      Performed (run-checked (check-image image) (integers-of registers) budget []) (Refused 20 0 0) registers before middle
+      (marks : HighMarks) → marks ≡ marks-of no-high-marks → Performed (run-checked (check-image image) (integers-of registers) budget []) (Refused 20 0 0 marks) registers before middle
   unfolding refusal-number
-  count-refused low d =
-      subst (λ k. Performed (run-checked k (integers-of registers) budget []) (Refused 20 0 0) registers before middle) (sym (found .passes))
-      (subst (λ c. Performed c (Refused 20 0 0) registers before middle) (sym other) (record { reply-is = refl; registers-are = sym (words-back registers low); beyond = found .beyond }))
+  count-refused low d marks none =
+      subst (λ k. Performed (run-checked k (integers-of registers) budget []) (Refused 20 0 0 marks) registers before middle) (sym (found .passes))
+      (subst (λ c. Performed c (Refused 20 0 0 marks) registers before middle) (sym other) (record { reply-is = ap (Refused 20 0 0) none; registers-are = sym (words-back registers low); beyond = found .beyond }))
     where
       other : run-checked (passed n (found .tree) a) (integers-of registers) budget [] ≡ refusing Refusals.Registers 0 (integers-of registers) []
       other = rw (ne-eqb (length (integers-of registers)) n (λ q. d (sym (integers-length registers) ∙ q)))
@@ -107,44 +111,44 @@ module _ (image registers : List ℕ) (n nodes : ℕ) (a : Passed) (budget : ℕ
 
 -- ---- A call's reply and registers do not depend on the work words that it is handed on.
 
-finish-reply : (r : ℕ) (ws vs : List ℕ) (e : Ending) → finish r ws e .reply ≡ finish r vs e .reply
-finish-reply r ws vs (ended k σ) = refl
-finish-reply r ws vs (stopped x k σ) = refl
-finish-reply r ws vs (lost k σ) = refl
+finish-reply : (r : ℕ) (ws vs : List ℕ) (most : Sizes) (e : Ending) → finish r ws most e .reply ≡ finish r vs most e .reply
+finish-reply r ws vs most (ended k σ) = refl
+finish-reply r ws vs most (stopped x k σ) = refl
+finish-reply r ws vs most (lost k σ) = refl
 
-finish-registers : (r : ℕ) (ws vs : List ℕ) (e : Ending) → finish r ws e .registers ≡ finish r vs e .registers
-finish-registers r ws vs (ended k σ) = refl
-finish-registers r ws vs (stopped x k σ) = refl
-finish-registers r ws vs (lost k σ) = refl
+finish-registers : (r : ℕ) (ws vs : List ℕ) (most : Sizes) (e : Ending) → finish r ws most e .registers ≡ finish r vs most e .registers
+finish-registers r ws vs most (ended k σ) = refl
+finish-registers r ws vs most (stopped x k σ) = refl
+finish-registers r ws vs most (lost k σ) = refl
 
-finish-work : (r : ℕ) (ws : List ℕ) (e : Ending) → finish r ws e .work ≡ ws
-finish-work r ws (ended k σ) = refl
-finish-work r ws (stopped x k σ) = refl
-finish-work r ws (lost k σ) = refl
+finish-work : (r : ℕ) (ws : List ℕ) (most : Sizes) (e : Ending) → finish r ws most e .work ≡ ws
+finish-work r ws most (ended k σ) = refl
+finish-work r ws most (stopped x k σ) = refl
+finish-work r ws most (lost k σ) = refl
 
 module _ (zs : List ℤ) (budget : ℕ) (ws vs : List ℕ) where
   reply-same : (k : Checked) → run-checked k zs budget ws .reply ≡ run-checked k zs budget vs .reply
   reply-same (turned-back x p) = refl
   reply-same (passed r t c) = by (eqb (length zs) r)
     where
-      by : (b : Bool) → cond b (finish r ws (run budget 0 (start r t zs))) (refusing Refusals.Registers 0 zs ws) .reply ≡ cond b (finish r vs (run budget 0 (start r t zs))) (refusing Refusals.Registers 0 zs vs) .reply
-      by true = finish-reply r ws vs (run budget 0 (start r t zs))
+      by : (b : Bool) → cond b (finish r ws (high-marks budget (start r t zs)) (run budget 0 (start r t zs))) (refusing Refusals.Registers 0 zs ws) .reply ≡ cond b (finish r vs (high-marks budget (start r t zs)) (run budget 0 (start r t zs))) (refusing Refusals.Registers 0 zs vs) .reply
+      by true = finish-reply r ws vs (high-marks budget (start r t zs)) (run budget 0 (start r t zs))
       by false = refl
 
   registers-same : (k : Checked) → run-checked k zs budget ws .registers ≡ run-checked k zs budget vs .registers
   registers-same (turned-back x p) = refl
   registers-same (passed r t c) = by (eqb (length zs) r)
     where
-      by : (b : Bool) → cond b (finish r ws (run budget 0 (start r t zs))) (refusing Refusals.Registers 0 zs ws) .registers ≡ cond b (finish r vs (run budget 0 (start r t zs))) (refusing Refusals.Registers 0 zs vs) .registers
-      by true = finish-registers r ws vs (run budget 0 (start r t zs))
+      by : (b : Bool) → cond b (finish r ws (high-marks budget (start r t zs)) (run budget 0 (start r t zs))) (refusing Refusals.Registers 0 zs ws) .registers ≡ cond b (finish r vs (high-marks budget (start r t zs)) (run budget 0 (start r t zs))) (refusing Refusals.Registers 0 zs vs) .registers
+      by true = finish-registers r ws vs (high-marks budget (start r t zs)) (run budget 0 (start r t zs))
       by false = refl
 
   work-same : (k : Checked) → run-checked k zs budget ws .work ≡ ws
   work-same (turned-back x p) = refl
   work-same (passed r t c) = by (eqb (length zs) r)
     where
-      by : (b : Bool) → cond b (finish r ws (run budget 0 (start r t zs))) (refusing Refusals.Registers 0 zs ws) .work ≡ ws
-      by true = finish-work r ws (run budget 0 (start r t zs))
+      by : (b : Bool) → cond b (finish r ws (high-marks budget (start r t zs)) (run budget 0 (start r t zs))) (refusing Refusals.Registers 0 zs ws) .work ≡ ws
+      by true = finish-work r ws (high-marks budget (start r t zs)) (run budget 0 (start r t zs))
       by false = refl
 
 -- ---- 22 and 21: nothing is touched.
@@ -155,16 +159,16 @@ module _ (image registers : List ℕ) (budget : ℕ) (work : List ℕ) (low : (i
   as-called c r last-registers last-work e p q s =
       record { answer-is = p ∙ sym (ap (λ k. run-reply (k .reply)) e); registers-are = q ∙ sym (ap (λ k. words-of (k .registers)) e); work-is = s ∙ sym (ap (λ k. k .work) e) }
 
-  pub work-refused : length work < work-words → RanAs (run-call image registers budget work) (Refused 22 0 0) registers work
+  pub work-refused : length work < work-words → (marks : HighMarks) → marks ≡ marks-of no-high-marks → RanAs (run-call image registers budget work) (Refused 22 0 0 marks) registers work
   unfolding refusal-number
-  work-refused h = as-called (refusing Refusals.Work 0 (integers-of registers) work) (Refused 22 0 0) registers work little refl (sym (words-back registers low)) refl
+  work-refused h marks none = as-called (refusing Refusals.Work 0 (integers-of registers) work) (Refused 22 0 0 marks) registers work little (ap (Refused 22 0 0) none) (sym (words-back registers low)) refl
     where
       little : run-call image registers budget work ≡ refusing Refusals.Work 0 (integers-of registers) work
       little = unfold engine in (rw (lt-ltb (length work) work-words h))
 
-  pub budget-refused : work-words ≤ length work → most-budget < budget → RanAs (run-call image registers budget work) (Refused 21 0 0) registers work
+  pub budget-refused : work-words ≤ length work → most-budget < budget → (marks : HighMarks) → marks ≡ marks-of no-high-marks → RanAs (run-call image registers budget work) (Refused 21 0 0 marks) registers work
   unfolding refusal-number
-  budget-refused room h = as-called (refusing Refusals.Budget 0 (integers-of registers) work) (Refused 21 0 0) registers work much refl (sym (words-back registers low)) refl
+  budget-refused room h marks none = as-called (refusing Refusals.Budget 0 (integers-of registers) work) (Refused 21 0 0 marks) registers work much (ap (Refused 21 0 0) none) (sym (words-back registers low)) refl
     where
       much : run-call image registers budget work ≡ refusing Refusals.Budget 0 (integers-of registers) work
       much = unfold engine in (rw (le-ltb (length work) work-words room, lt-leb budget most-budget h))

@@ -1,5 +1,5 @@
 -- Demand 3 for what `run` runs: which reached state its reply and its registers are taken from, with the whole-run claim about every
--- state that the run reaches. `Delivered` has the proofs.
+-- state that the run reaches; what its marks are, and that they are within the needs. `Delivered` has the proofs.
 use Prim.Native.Nat.{ℕ, _<_, _≤_}
 use mathlib.Core.Path.{_≡_}
 use mathlib.Core.List.{List, []}
@@ -11,13 +11,23 @@ use Rattle.rules.specs.paper.Limits.{most-budget, work-words}
 use Rattle.rules.specs.paper.Checker.{Passed}
 use Rattle.rules.specs.paper.States.{State, control-of, values-of, store-of}
 use Rattle.rules.specs.paper.Rules.{Rule, Effect, Applies}
-use Rattle.rules.specs.paper.Engine.{check-image, passed, start, Answer, outcome, refused, outcome-of, registers-from, Called, engine}
+use Rattle.rules.specs.paper.Engine.{check-image, passed, start, Answer, outcome, refused, outcome-of, registers-from, Called, engine, needs}
 use Rattle.rules.specs.claims.History.{History, Reach}
 use Rattle.rules.specs.claims.Claim.{StateClaim, StepWithheld, AllInRange}
 use Rattle.rules.specs.claims.Ends.{FinalValues}
+use Rattle.rules.specs.claims.HighMarks.{MostReached}
+use Rattle.rules.specs.paper.Needs.{Sizes}
 use Rattle.integers.specs.Words.{integers-of, words-of}
 use Rattle.calls.specs.Runs.{ran, run-reply, run-call}
+use Rattle.calls.specs.Needs.{needs-reply}
+use Rattle.automaton.specs.Runs.{marks-of}
+use Rattle.automaton.specs.declared.meter.HighMarks.{HighMarks}
 use Rattle.calls.specs.declared.Ran.{Ran}
+use Rattle.calls.specs.declared.Ran.the-variants.{Number, Truth, Location, Nothing}
+use Rattle.calls.specs.declared.Ran.the-variants as Ran
+use Rattle.calls.specs.declared.Estimated.{Estimated}
+use Rattle.calls.specs.declared.Estimated.the-variants.{Figures, Open}
+use Rattle.calls.specs.declared.Estimated.the-variants as Estimated
 
 -- The answer that a state with these steps made comes to: control is empty, and what is left is the outcome; or the step is withheld
 -- for a reason that holds, the first in the order.
@@ -32,6 +42,8 @@ pub record Delivered (a : Passed) (r : ℕ) (first : State) (budget : ℕ) (c : 
   pub reached : Reach budget first r (c .reply .steps) last history
   pub answered : AnsweredAt a budget (c .reply .steps) last history (c .reply .answer)
   pub registers-are : c .registers ≡ registers-from 0 r (store-of last)
+  -- the marks that the reply reports: each is the size of a state that the run reaches, and none that it reaches is above
+  pub marked : MostReached budget first r (c .reply .most)
   -- the claim of the rules about every state that the run reaches with control not empty
   pub claimed : (steps : ℕ) (σ : State) (h : History) → Reach budget first r steps σ h → (control-of σ ≡ [] → ⊥) → StateClaim budget steps σ h
 
@@ -51,7 +63,9 @@ pub record RunIsWhole (a : Passed) (registers : List ℕ) (t : Root) (budget : �
   pub reached : Reach budget (start (length registers) t (integers-of registers)) (length registers) steps state-at-end history
   pub what : Answer
   pub answered : AnsweredAt a budget steps state-at-end history what
-  pub answer-is : answer ≡ ran what steps
+  pub most : Sizes
+  pub marked : MostReached budget (start (length registers) t (integers-of registers)) (length registers) most
+  pub answer-is : answer ≡ ran what steps (marks-of most)
   pub registers-are : last ≡ words-of (registers-from 0 (length registers) (store-of state-at-end))
   pub claimed : (k : ℕ) (σ : State) (h : History) → Reach budget (start (length registers) t (integers-of registers)) (length registers) k σ h → (control-of σ ≡ [] → ⊥) → StateClaim budget k σ h
 
@@ -63,3 +77,26 @@ RunsAreWhole =
     -- a passed image, one starting value per register, a permitted budget, enough work words
     (t : Root) (a : Passed) → check-image image ≡ passed (length registers) t a → ((i : ℕ) → i < length registers → getD registers i 0 < 18446744073709551616) →
     budget ≤ most-budget → work-words ≤ length work → RunIsWhole a registers t budget answer last
+
+-- ---- The marks and the needs.
+
+abbrev pub marks-in : Ran → HighMarks
+marks-in (Number w k h) = h
+marks-in (Truth w k h) = h
+marks-in (Location w k h) = h
+marks-in (Nothing k h) = h
+marks-in (Ran.Refused x p k h) = h
+
+-- No mark is above its figure, where there are figures.
+abbrev pub MarksWithin : HighMarks → Estimated → Type 0
+MarksWithin h (Figures k v c b s) = (h .control ≤ k) × (h .values ≤ v) × (h .cells ≤ c) × (h .bindings ≤ b)
+MarksWithin h (Open k v c b) = (h .control ≤ k) × (h .values ≤ v) × (h .cells ≤ c) × (h .bindings ≤ b)
+MarksWithin h (Estimated.Refused x p) = Unit {0}
+
+-- `answer` and `estimated` stand for what `run` and `needs` answer for one image, which their contracts give by the two equations; whatever else
+-- they are called with.
+abbrev pub RunsWithinNeeds : Type 0
+RunsWithinNeeds =
+    (image registers : List ℕ) (budget : ℕ) (work lent : List ℕ) (answer : Ran) (estimated : Estimated) →
+    answer ≡ run-reply (run-call image registers budget work .reply) → estimated ≡ needs-reply (needs image lent .answer) →
+    ((i : ℕ) → i < length registers → getD registers i 0 < 18446744073709551616) → MarksWithin (marks-in answer) estimated

@@ -10,10 +10,15 @@ use Rattle.rules.specs.paper.Tree.{Root}
 use Rattle.rules.specs.paper.Checker.{Passed}
 use Rattle.rules.specs.paper.States.{Value, integer, truth, location, Environment, Store, val, Item, State, store-of}
 use Rattle.rules.specs.paper.Run.{Ending, ended, stopped, lost, run}
+use Rattle.rules.specs.paper.Needs.{Sizes}
+use Rattle.rules.specs.paper.HighMarks.{high-marks}
 use Rattle.rules.specs.paper.Engine.{number, truth-of, cell, nothing, Answer, outcome, refused, Reply, registers-from, Called, check-image, passed, finish, run-checked, start, engine}
 use Rattle.integers.specs.Words.{word-of, integers-of, words-of}
 use Rattle.machine.specs.Steps.{Stands, Holds}
 use Rattle.machine.specs.declared.Machine.{Machine}
+use Rattle.automaton.specs.Runs.{marks-of}
+use Rattle.automaton.specs.declared.meter.HighMarks.{HighMarks}
+use Rattle.automaton.specs.declared.meter.Record.{Record}
 use Rattle.automaton.specs.declared.Ending as Endings
 use Rattle.automaton.specs.declared.Ending.the-variants.{Ended, Stopped}
 use Rattle.reader.specs.Stored.{RootAt}
@@ -21,16 +26,21 @@ use Rattle.reader.specs.Put.{KeptBeyond}
 use Rattle.calls.specs.declared.Ran.{Ran}
 use Rattle.calls.specs.declared.Ran.the-variants.{Number, Truth, Location, Nothing, Refused}
 
--- The value that is left, or none, with the steps; or the refusal's number with its place and the steps made.
-abbrev pub ran : Answer → (steps : ℕ) → Ran
-ran (outcome (number z)) k = Number (word-of z) k
-ran (outcome (truth-of b)) k = Truth (truth-word b) k
-ran (outcome (cell l)) k = Location l k
-ran (outcome nothing) k = Nothing k
-ran (refused x p) k = Refused (refusal-number x) p k
+-- The value that is left, with the steps and the marks; or none; or the refusal's number with its place, the steps made and the marks.
+abbrev pub value-ran : Value → (steps : ℕ) → HighMarks → Ran
+value-ran (integer z) k h = Number (word-of z) k h
+value-ran (truth b) k h = Truth (truth-word b) k h
+value-ran (location l) k h = Location l k h
+
+abbrev pub ran : Answer → (steps : ℕ) → HighMarks → Ran
+ran (outcome (number z)) k h = Number (word-of z) k h
+ran (outcome (truth-of b)) k h = Truth (truth-word b) k h
+ran (outcome (cell l)) k h = Location l k h
+ran (outcome nothing) k h = Nothing k h
+ran (refused x p) k h = Refused (refusal-number x) p k h
 
 abbrev pub run-reply : Reply → Ran
-run-reply r = ran (r .answer) (r .steps)
+run-reply r = ran (r .answer) (r .steps) (marks-of (r .most))
 
 -- The engine's call on registers that are held as words.
 abbrev pub run-call : (image registers : List ℕ) (budget : ℕ) (work : List ℕ) → Called
@@ -44,18 +54,18 @@ pub record RanAs (c : Called) (answer : Ran) (registers work : List ℕ) : Type 
 
 -- ---- The run of a tree that stands in the work words.
 
--- How it ends, the registers it leaves, and the machine's last state.
-pub record ExecutedEnd (wanted : Machine → Endings.Ending) (σ : State) (count : ℕ) (answer : Endings.Ending) (registers before after : List ℕ) : Type 0 where
+-- How it ends with these marks, the registers it leaves, and the machine's last state.
+pub record ExecutedEnd (wanted : Record → Endings.Ending) (most : Sizes) (σ : State) (count : ℕ) (answer : Endings.Ending) (registers before after : List ℕ) : Type 0 where
   pub machine : Machine
-  pub answer-is : answer ≡ wanted machine
+  pub answer-is : answer ≡ wanted (record { machine = machine; marks = marks-of most })
   pub holds : Holds after machine σ
   pub registers-are : registers ≡ words-of (registers-from 0 count (store-of σ))
   pub beyond : KeptBeyond work-words before after
 
-abbrev pub ExecuteAnswer : Ending → (count : ℕ) → Endings.Ending → (registers before after : List ℕ) → Type 0
-ExecuteAnswer (ended k σ) count answer registers before after = ExecutedEnd (λ m. Ended k m) σ count answer registers before after
-ExecuteAnswer (stopped x k σ) count answer registers before after = ExecutedEnd (λ m. Stopped (reason-number x) k m) σ count answer registers before after
-ExecuteAnswer (lost k σ) count answer registers before after = ⊥
+abbrev pub ExecuteAnswer : (most : Sizes) → Ending → (count : ℕ) → Endings.Ending → (registers before after : List ℕ) → Type 0
+ExecuteAnswer most (ended k σ) count answer registers before after = ExecutedEnd (λ last. Ended k last) most σ count answer registers before after
+ExecuteAnswer most (stopped x k σ) count answer registers before after = ExecutedEnd (λ last. Stopped (reason-number x) k last) most σ count answer registers before after
+ExecuteAnswer most (lost k σ) count answer registers before after = ⊥
 
 -- A tree of so many nodes that the checker passed, as an expression of some code or as a command, stands in the work words.
 abbrev pub TreeStands : (count : ℕ) (work : List ℕ) (nodes : ℕ) → Type 0
@@ -68,7 +78,7 @@ TreeStandsAs count a work nodes = (image : List ℕ) × (t : Root) × (check-ima
 abbrev pub ExecutesTree : (registers : List ℕ) (budget nodes : ℕ) → Endings.Ending → (last before after : List ℕ) → Type 0
 ExecutesTree registers budget nodes answer last before after =
     (image : List ℕ) (t : Root) (a : Passed) → check-image image ≡ passed (length registers) t a → RootAt before nodes t →
-    ExecuteAnswer (run budget 0 (start (length registers) t (integers-of registers))) (length registers) answer last before after
+    ExecuteAnswer (high-marks budget (start (length registers) t (integers-of registers))) (run budget 0 (start (length registers) t (integers-of registers))) (length registers) answer last before after
 
 -- A call's reply and registers, with the words behind the first 8,192 as they were.
 pub record Performed (c : Called) (r : Ran) (registers before after : List ℕ) : Type 0 where
@@ -78,7 +88,7 @@ pub record Performed (c : Called) (r : Ran) (registers before after : List ℕ) 
 
 -- The run of a tree that the checker passed, from its first state to what the run leaves.
 abbrev pub RunOf : (registers : List ℕ) → Root → (budget : ℕ) → Called
-RunOf registers t budget = finish (length registers) [] (run budget 0 (start (length registers) t (integers-of registers)))
+RunOf registers t budget = finish (length registers) [] (high-marks budget (start (length registers) t (integers-of registers))) (run budget 0 (start (length registers) t (integers-of registers)))
 
 -- Every tree passed so that stands in the work words is run from the registers.
 abbrev pub RunsTreeAs : Passed → (registers : List ℕ) (budget nodes : ℕ) → Ran → (last before after : List ℕ) → Type 0

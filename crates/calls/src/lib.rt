@@ -16,6 +16,8 @@ use crate::perform::run_image;
 use crate::print::print_image;
 use crate::refusals::REFUSED_BUDGET;
 use crate::refusals::REFUSED_WORK;
+use automaton::meter::HighMarks;
+use automaton::meter::no_marks;
 use checker::COMMAND;
 use loader::Loaded;
 use loader::WORK_WORDS;
@@ -50,14 +52,14 @@ pub enum Printed {
     Refused(u64, usize),
 }
 
-// What a run answers: the word of the number, truth or location that is left, or nothing, with the steps; or a refusal with its place and
-// the steps made.
+// What a run answers: the word of the number, truth or location that is left, or nothing, with the steps and the high marks; or a refusal with
+// its place, the steps made and the high marks.
 pub enum Ran {
-    Number(u64, u64),
-    Truth(u64, u64),
-    Location(u64, u64),
-    Nothing(u64),
-    Refused(u64, usize, u64),
+    Number(u64, u64, HighMarks),
+    Truth(u64, u64, HighMarks),
+    Location(u64, u64, HighMarks),
+    Nothing(u64, HighMarks),
+    Refused(u64, usize, u64, HighMarks),
 }
 
 // By `check-exact` (rules, ImageExact.antt) an image passes here exactly when it meets the paper's shape, scope and type rules.
@@ -120,10 +122,10 @@ pub fn run(image: &[u32], registers: &mut [u64], budget: u64, work: &mut [u64]) 
     ensures { λ r. ⌜ RanAs (run-call (now (image .entry)) (now (registers .entry)) budget (now (work .entry))) r (now (registers .exit)) (now (work .exit)) ⌝ }
 {
     if work.len() < WORK_WORDS {
-        return Ran::Refused(REFUSED_WORK, 0, 0);
+        return Ran::Refused(REFUSED_WORK, 0, 0, no_marks());
     }
     if MOST_BUDGET < budget {
-        return Ran::Refused(REFUSED_BUDGET, 0, 0);
+        return Ran::Refused(REFUSED_BUDGET, 0, 0, no_marks());
     }
     let answer = run_image(image, registers, budget, work);
     clear(work);

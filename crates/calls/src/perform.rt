@@ -5,13 +5,14 @@ ghost use lib.ListN.{length};
 ghost use Rattle.rules.specs.paper.Limits.{work-words};
 ghost use Rattle.rules.specs.paper.Checker.{expression-of-code, a-command};
 ghost use Rattle.rules.specs.paper.States.{Value};
-ghost use Rattle.rules.specs.paper.Engine.{outcome, outcome-of-value};
-ghost use Rattle.calls.specs.Runs.{ran, TreeStands, TreeStandsAs, ExecutesTree, RunsTreeAs, Performed, run-of-image, LeftAs};
+ghost use Rattle.calls.specs.Runs.{value-ran, TreeStands, TreeStandsAs, ExecutesTree, RunsTreeAs, Performed, run-of-image, LeftAs};
 use crate::Ran;
 use crate::refusals::REFUSED_REGISTERS;
 use automaton::Ending;
 use automaton::ends::take_registers;
 use automaton::ends::value_left;
+use automaton::meter::HighMarks;
+use automaton::meter::no_marks;
 use automaton::start::start;
 use checker::COMMAND;
 use loader::Loaded;
@@ -31,18 +32,18 @@ fn execute(registers: &mut [u64], budget: u64, work: &mut [u64], nodes: usize) -
 }
 
 // The value that a run left, by the root's code.
-fn result(work: &[u64], last: Machine, code: usize, steps: u64) -> Ran
+fn result(work: &[u64], last: Machine, code: usize, steps: u64, marks: HighMarks) -> Ran
     requires { ⌜ ((v : Value) × LeftAs (now work) last code v) ⌝ }
-    ensures { λ r. ⌜ ((v : Value) → LeftAs (now (work .entry)) last code v → r ≡ ran (outcome (outcome-of-value v)) steps) ⌝ }
+    ensures { λ r. ⌜ ((v : Value) → LeftAs (now (work .entry)) last code v → r ≡ value-ran v steps marks) ⌝ }
 {
     let word = value_left(work, last);
     if code == 0 {
-        return Ran::Number(word, steps);
+        return Ran::Number(word, steps, marks);
     }
     if code == 1 {
-        return Ran::Truth(word, steps);
+        return Ran::Truth(word, steps, marks);
     }
-    Ran::Location(word, steps)
+    Ran::Location(word, steps, marks)
 }
 
 // An expression of this code.
@@ -59,8 +60,15 @@ fn run_expression(
 {
     let ending = execute(registers, budget, work, nodes);
     match ending {
-        Ending::Ended(steps, last) => result(work, last, code, steps),
-        Ending::Stopped(reason, steps, last) => Ran::Refused(reason, 0, steps),
+        Ending::Ended(steps, last) => {
+            let machine = last.machine;
+            let marks = last.marks;
+            result(work, machine, code, steps, marks)
+        }
+        Ending::Stopped(reason, steps, last) => {
+            let marks = last.marks;
+            Ran::Refused(reason, 0, steps, marks)
+        }
     }
 }
 
@@ -72,8 +80,14 @@ fn run_command(registers: &mut [u64], budget: u64, work: &mut [u64], nodes: usiz
 {
     let ending = execute(registers, budget, work, nodes);
     match ending {
-        Ending::Ended(steps, last) => Ran::Nothing(steps),
-        Ending::Stopped(reason, steps, last) => Ran::Refused(reason, 0, steps),
+        Ending::Ended(steps, last) => {
+            let marks = last.marks;
+            Ran::Nothing(steps, marks)
+        }
+        Ending::Stopped(reason, steps, last) => {
+            let marks = last.marks;
+            Ran::Refused(reason, 0, steps, marks)
+        }
     }
 }
 
@@ -86,13 +100,13 @@ pub(crate) fn run_image(image: &[u32], registers: &mut [u64], budget: u64, work:
     match loaded {
         Loaded::Passed(number, count, nodes) => {
             if registers.len() != count {
-                return Ran::Refused(REFUSED_REGISTERS, 0, 0);
+                return Ran::Refused(REFUSED_REGISTERS, 0, 0, no_marks());
             }
             if number == COMMAND {
                 return run_command(registers, budget, work, nodes);
             }
             run_expression(registers, budget, work, nodes, number)
         }
-        Loaded::Refused(number, place) => Ran::Refused(number, place, 0),
+        Loaded::Refused(number, place) => Ran::Refused(number, place, 0, no_marks()),
     }
 }

@@ -10,6 +10,7 @@ use borrow.Author.Tests.{le-ltb, lt-ltb, le-leb, lt-leb, eq-eqb, ne-eqb}
 use Rattle.rules.specs.paper.Limits.{most-registers, work-words, most-budget}
 use Rattle.rules.specs.paper.Refusals.{refusal-number}
 use Rattle.rules.specs.paper.Refusals as Refusals
+use Rattle.rules.specs.paper.HighMarks.{no-high-marks}
 use Rattle.rules.specs.paper.Engine.{engine, refusing, refused}
 use Rattle.integers.specs.Words.{integer-of, integers-of, words-of}
 use Rattle.little_endian.specs.Numbers.{numbers, bytes-of-words}
@@ -73,18 +74,18 @@ module _ (image bytes : List ℕ) (budget : ℕ) (work : List ℕ) where
   -- ---- 22 and 21: nothing is touched.
 
   untouched : (x : Refusals.Refusal) (r : RunReply) → run-call-registers image bytes budget work ≡ refusing x 0 (register-values bytes) work →
-      RunReplies (record { answer = refused x 0; steps = 0 }) r → AllBytes bytes → LeavesBytes r bytes work
+      RunReplies (record { answer = refused x 0; steps = 0; most = no-high-marks }) r → AllBytes bytes → LeavesBytes r bytes work
   untouched x r e q low =
       subst (λ c. RunCalled (register-bytes bytes) c r bytes work) (sym e) (record { reply-is = q; registers-are = sym (registers-kept bytes low); work-is = refl })
 
-  pub work-refused : length work < work-words → AllBytes bytes → LeavesBytes (record { refusal = 22; outcome = 0; value = 0; place = 0; steps = 0 }) bytes work
+  pub work-refused : length work < work-words → AllBytes bytes → LeavesBytes (record { refusal = 22; outcome = 0; value = 0; place = 0; steps = 0; cells = 0; bindings = 0; values = 0; control = 0 }) bytes work
   unfolding refusal-number
   work-refused h low =
       untouched Refusals.Work _ (unfold engine in (rw (lt-ltb (length work) work-words h)))
-      (record { refusal-is = refl; outcome-is = refl; value-is = refl; place-is = refl; steps-are = refl }) low
+      (record { refusal-is = refl; outcome-is = refl; value-is = refl; place-is = refl; steps-are = refl; cells-are = refl; bindings-are = refl; values-are = refl; control-is = refl }) low
 
-  pub budget-refused : work-words ≤ length work → most-budget < budget → AllBytes bytes → LeavesBytes (record { refusal = 21; outcome = 0; value = 0; place = 0; steps = 0 }) bytes work
+  pub budget-refused : work-words ≤ length work → most-budget < budget → AllBytes bytes → LeavesBytes (record { refusal = 21; outcome = 0; value = 0; place = 0; steps = 0; cells = 0; bindings = 0; values = 0; control = 0 }) bytes work
   unfolding refusal-number
   budget-refused room h low =
       untouched Refusals.Budget _ (unfold engine in (rw (le-ltb (length work) work-words room, lt-leb budget most-budget h)))
-      (record { refusal-is = refl; outcome-is = refl; value-is = refl; place-is = refl; steps-are = refl }) low
+      (record { refusal-is = refl; outcome-is = refl; value-is = refl; place-is = refl; steps-are = refl; cells-are = refl; bindings-are = refl; values-are = refl; control-is = refl }) low

@@ -5,8 +5,10 @@ use mathlib.Core.List.{List}
 use lib.IntN.{ℤ}
 use Rattle.rules.specs.paper.Refusals.{refusal-number}
 use Rattle.rules.specs.claims.Listing.{truth-word}
+use Rattle.rules.specs.paper.Needs.{control, values, cells, bindings}
 use Rattle.rules.specs.paper.Engine.{CheckAnswer, root-code, root-command, not-passed, number, truth-of, cell, nothing, Answer, outcome, refused, Reply, Called}
 use Rattle.integers.specs.Words.{word-of}
+use Rattle.automaton.specs.declared.meter.HighMarks.{HighMarks}
 use Rattle.engine.specs.declared.CheckReply.{CheckReply}
 use Rattle.engine.specs.declared.RunReply.{RunReply}
 
@@ -36,7 +38,7 @@ pub record Replies (a : CheckAnswer) (r : CheckReply) : Type 0 where
 -- ---- A run.
 
 -- The refusal, 0 where the run ends; the kind of the outcome, 1 for a number, 2 for a truth, 3 for a cell and
--- 0 for none; its value; the place; and the steps.
+-- 0 for none; its value; the place; the steps; and the high marks.
 abbrev pub run-refusal : Answer → ℕ
 run-refusal (outcome o) = 0
 run-refusal (refused x p) = refusal-number x
@@ -65,6 +67,15 @@ pub record RunReplies (r : Reply) (reply : RunReply) : Type 0 where
   pub value-is : reply .value ≡ run-value (r .answer)
   pub place-is : reply .place ≡ run-place (r .answer)
   pub steps-are : reply .steps ≡ r .steps
+  pub cells-are : reply .cells ≡ r .most cells
+  pub bindings-are : reply .bindings ≡ r .most bindings
+  pub values-are : reply .values ≡ r .most values
+  pub control-is : reply .control ≡ r .most control
+
+-- The fields, from a run's marks as the code has them.
+abbrev pub in-fields : (refusal outcome value place steps : ℕ) → HighMarks → RunReply
+in-fields x o v p k h =
+    record { refusal = x; outcome = o; value = v; place = p; steps = k; cells = h .cells; bindings = h .bindings; values = h .values; control = h .control }
 
 -- What a run answers to a C host and leaves: the call's reply, its registers laid out as words or bytes, and its work words.
 pub record RunCalled (layout : List ℤ → List ℕ) (c : Called) (reply : RunReply) (registers work : List ℕ) : Type 0 where

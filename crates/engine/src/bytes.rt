@@ -119,6 +119,10 @@ pub extern "C" fn pi_run_bytes(
             value: 0,
             place: 0,
             steps: 0,
+            cells: 0,
+            bindings: 0,
+            values: 0,
+            control: 0,
         };
     }
     if MOST_BUDGET < budget {
@@ -128,6 +132,10 @@ pub extern "C" fn pi_run_bytes(
             value: 0,
             place: 0,
             steps: 0,
+            cells: 0,
+            bindings: 0,
+            values: 0,
+            control: 0,
         };
     }
     let mut words = [0u32; MOST_IMAGE_WORDS];

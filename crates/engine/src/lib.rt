@@ -7,8 +7,9 @@ ghost use mathlib.Core.Path.{_≡_};
 ghost use Rattle.rules.specs.paper.Engine.{checker, needs};
 ghost use Rattle.integers.specs.Words.{words-of};
 ghost use Rattle.calls.specs.Runs.{run-call};
-ghost use Rattle.engine.specs.Replies.{Replies, RunCalled};
+ghost use Rattle.engine.specs.Replies.{Replies, in-fields, RunCalled};
 ghost use Rattle.engine.specs.NeedsReplies.{NeedsReplied};
+use automaton::meter::HighMarks;
 use calls::Checked;
 use calls::Estimated;
 use calls::Ran;
@@ -38,7 +39,7 @@ pub struct NeedsReply {
 }
 
 // A run's answer for a C host: refusal 0 where the run ends, and then the outcome is 1 for a number, 2 for a truth, 3 for a cell and 0
-// for none.
+// for none. The high marks are 0 for refusals 1 to 22.
 #[repr(C)]
 pub struct RunReply {
     pub refusal: u64,
@@ -46,6 +47,10 @@ pub struct RunReply {
     pub value: u64,
     pub place: u64,
     pub steps: u64,
+    pub cells: u64,
+    pub bindings: u64,
+    pub values: u64,
+    pub control: u64,
 }
 
 // `check` for a C host.
@@ -115,6 +120,30 @@ pub extern "C" fn pi_needs(image: &[u32], work: &mut [u64]) -> NeedsReply
     }
 }
 
+// A run's answer with its marks, each in a field of its own.
+fn run_reply(
+    refusal: u64,
+    outcome: u64,
+    value: u64,
+    place: u64,
+    steps: u64,
+    marks: HighMarks,
+) -> RunReply
+    ensures { λ r. ⌜ r ≡ in-fields refusal outcome value place steps marks ⌝ }
+{
+    RunReply {
+        refusal,
+        outcome,
+        value,
+        place,
+        steps,
+        cells: marks.cells as u64,
+        bindings: marks.bindings as u64,
+        values: marks.values as u64,
+        control: marks.control as u64,
+    }
+}
+
 // `run` for a C host.
 #[no_mangle]
 pub extern "C" fn pi_run(
@@ -127,40 +156,12 @@ pub extern "C" fn pi_run(
 {
     let answer = run(image, registers, budget, work);
     match answer {
-        Ran::Number(word, steps) => RunReply {
-            refusal: 0,
-            outcome: 1,
-            value: word,
-            place: 0,
-            steps,
-        },
-        Ran::Truth(word, steps) => RunReply {
-            refusal: 0,
-            outcome: 2,
-            value: word,
-            place: 0,
-            steps,
-        },
-        Ran::Location(word, steps) => RunReply {
-            refusal: 0,
-            outcome: 3,
-            value: word,
-            place: 0,
-            steps,
-        },
-        Ran::Nothing(steps) => RunReply {
-            refusal: 0,
-            outcome: 0,
-            value: 0,
-            place: 0,
-            steps,
-        },
-        Ran::Refused(number, place, steps) => RunReply {
-            refusal: number,
-            outcome: 0,
-            value: 0,
-            place: place as u64,
-            steps,
-        },
+        Ran::Number(word, steps, marks) => run_reply(0, 1, word, 0, steps, marks),
+        Ran::Truth(word, steps, marks) => run_reply(0, 2, word, 0, steps, marks),
+        Ran::Location(word, steps, marks) => run_reply(0, 3, word, 0, steps, marks),
+        Ran::Nothing(steps, marks) => run_reply(0, 0, 0, 0, steps, marks),
+        Ran::Refused(number, place, steps, marks) => {
+            run_reply(number, 0, 0, place as u64, steps, marks)
+        }
     }
 }

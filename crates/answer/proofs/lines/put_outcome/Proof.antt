@@ -64,31 +64,31 @@ same-length : tie.Need-same-length
 same-length c = search needs
 
 returns : tie.Need-returns
-returns c = number-text _ _ _ _ _ _ (c .before .before .before .before .before .before .answer .given .1) (c .before .before .put-labelled-integer .ensures)
+returns c = number-text _ _ _ _ _ _ _ (c .before .before .before .before .before .before .answer .given .1) (c .before .before .put-labelled-integer .ensures)
 
 same-length-2 : tie.Need-same-length-2
 same-length-2 c = search needs
 
 returns-2 : tie.Need-returns-2
-returns-2 c = truth-text _ _ _ _ _ _ (c .before .before .before .before .before .before .answer2 .given .1) (c .before .before .put-labelled .ensures)
+returns-2 c = truth-text _ _ _ _ _ _ _ (c .before .before .before .before .before .before .answer2 .given .1) (c .before .before .put-labelled .ensures)
 
 same-length-3 : tie.Need-same-length-3
 same-length-3 c = search needs
 
 returns-3 : tie.Need-returns-3
-returns-3 c = cell-text _ _ _ _ _ _ (c .before .before .before .before .before .before .answer3 .given .1) (c .before .before .put-labelled2 .ensures)
+returns-3 c = cell-text _ _ _ _ _ _ _ (c .before .before .before .before .before .before .answer3 .given .1) (c .before .before .put-labelled2 .ensures)
 
 same-length-4 : tie.Need-same-length-4
 same-length-4 c = search needs
 
 returns-4 : tie.Need-returns-4
-returns-4 c = none-text _ _ _ _ _ (c .before .before .before .before .before .before .answer4 .given .1) (c .before .before .put .ensures)
+returns-4 c = none-text _ _ _ _ _ _ (c .before .before .before .before .before .before .answer4 .given .1) (c .before .before .put .ensures)
 
 same-length-5 : tie.Need-same-length-5
 same-length-5 c = search needs
 
 returns-5 : tie.Need-returns-5
-returns-5 c = refused-text _ _ _ _ _ _ _ _ _ (c .before .before .before .before .before .before .before .before .before .before .before .answer5 .given .1) (c .before .before .before .before .before .before .before .put-labelled3 .ensures) (c .before .before .put-labelled4 .ensures)
+returns-5 c = refused-text _ _ _ _ _ _ _ _ _ _ (c .before .before .before .before .before .before .before .before .before .before .before .answer5 .given .1) (c .before .before .before .before .before .before .before .put-labelled3 .ensures) (c .before .before .put-labelled4 .ensures)
 
 pub put-outcome-spec : {M : Type 1} → statement M
 put-outcome-spec =

@@ -4,6 +4,7 @@ use denote.Ref.{now}
 use lib.ListN.{length}
 use Rattle.rules.specs.paper.Checker.{expression-of-code, a-command}
 use Rattle.rules.specs.paper.Run.{run}
+use Rattle.rules.specs.paper.HighMarks.{high-marks}
 use Rattle.rules.specs.paper.Engine as Rules
 use Rattle.integers.specs.Words.{integers-of}
 use Rattle.calls.proofs.ExecuteLaws.{ends-well}
@@ -24,13 +25,13 @@ enum-known-ending c = search needs
 
 result-requires : tie.Need-result-requires
 result-requires c κs =
-    let start = c .before .before .before .before .before .before .before .before .before .before .before .before .before in
-    let known = c .before .before .before .before .before .before .before .before .before .before .before .before .slice-known .given in
+    let start = c .before .before .before .before .before .before .before .before .before .before .before .before .before .before .before in
+    let known = c .before .before .before .before .before .before .before .before .before .before .before .before .before .before .slice-known .given in
     let g = start .pre .1 in
-    let done = c .before .before .before .before .before .before .before .before .execute in
+    let done = c .before .before .before .before .before .before .before .before .before .before .execute in
     let end =
-    value-end (start .args .budget) (Rules.start (length (now (start .args .registers))) (g .1) (integers-of (now (start .args .registers)))) (length (now (start .args .registers))) (start .args .code) (run (start .args .budget) 0 (Rules.start (length (now (start .args .registers))) (g .1) (integers-of (now (start .args .registers)))))
-    (ends-well (g .0) (now (start .args .registers)) (g .1) (expression-of-code (start .args .code)) (g .2) (λ i h. known i .fits) (start .args .budget)) _ _ _ _ _ _ (done .ensures (g .0) (g .1) (expression-of-code (start .args .code)) (g .2) (g .3)) (c .before .before .ending .given .1) in
+    value-end (start .args .budget) (Rules.start (length (now (start .args .registers))) (g .1) (integers-of (now (start .args .registers)))) (length (now (start .args .registers))) (start .args .code) (high-marks (start .args .budget) (Rules.start (length (now (start .args .registers))) (g .1) (integers-of (now (start .args .registers))))) (run (start .args .budget) 0 (Rules.start (length (now (start .args .registers))) (g .1) (integers-of (now (start .args .registers)))))
+    (ends-well (g .0) (now (start .args .registers)) (g .1) (expression-of-code (start .args .code)) (g .2) (λ i h. known i .fits) (start .args .budget)) _ _ _ _ _ _ (done .ensures (g .0) (g .1) (expression-of-code (start .args .code)) (g .2) (g .3)) (c .before .before .before .before .ending .given .1) in
     (end .left, end .left-as)
 
 enum-known-ending-2 : tie.Need-enum-known-ending-2
@@ -44,13 +45,13 @@ same-length-2 c = search needs
 
 returns : tie.Need-returns
 returns c image t passes stands =
-    let start = c .before .before .before .before .before .before .before .before .before .before .before .before .before .before in
-    let known = c .before .before .before .before .before .before .before .before .before .before .before .before .before .slice-known .given in
-    let done = c .before .before .before .before .before .before .before .before .before .execute in
+    let start = c .before .before .before .before .before .before .before .before .before .before .before .before .before .before .before .before in
+    let known = c .before .before .before .before .before .before .before .before .before .before .before .before .before .before .before .slice-known .given in
+    let done = c .before .before .before .before .before .before .before .before .before .before .before .execute in
     let end =
-    value-end (start .args .budget) (Rules.start (length (now (start .args .registers))) t (integers-of (now (start .args .registers)))) (length (now (start .args .registers))) (start .args .code) (run (start .args .budget) 0 (Rules.start (length (now (start .args .registers))) t (integers-of (now (start .args .registers)))))
-    (ends-well image (now (start .args .registers)) t (expression-of-code (start .args .code)) passes (λ i h. known i .fits) (start .args .budget)) _ _ _ _ _ _ (done .ensures image t (expression-of-code (start .args .code)) passes stands) (c .before .before .before .ending .given .1) in
-    value-performed (length (now (start .args .registers))) (run (start .args .budget) 0 (Rules.start (length (now (start .args .registers))) t (integers-of (now (start .args .registers))))) _ _ _ _ _ _ _ _ (done .ensures image t (expression-of-code (start .args .code)) passes stands) (c .before .before .before .ending .given .1) end (c .result .ensures (end .left) (end .left-as))
+    value-end (start .args .budget) (Rules.start (length (now (start .args .registers))) t (integers-of (now (start .args .registers)))) (length (now (start .args .registers))) (start .args .code) (high-marks (start .args .budget) (Rules.start (length (now (start .args .registers))) t (integers-of (now (start .args .registers))))) (run (start .args .budget) 0 (Rules.start (length (now (start .args .registers))) t (integers-of (now (start .args .registers)))))
+    (ends-well image (now (start .args .registers)) t (expression-of-code (start .args .code)) passes (λ i h. known i .fits) (start .args .budget)) _ _ _ _ _ _ (done .ensures image t (expression-of-code (start .args .code)) passes stands) (c .before .before .before .before .before .ending .given .1) in
+    value-performed (length (now (start .args .registers))) (high-marks (start .args .budget) (Rules.start (length (now (start .args .registers))) t (integers-of (now (start .args .registers))))) (run (start .args .budget) 0 (Rules.start (length (now (start .args .registers))) t (integers-of (now (start .args .registers))))) _ _ _ _ _ _ _ _ (done .ensures image t (expression-of-code (start .args .code)) passes stands) (c .before .before .before .before .before .ending .given .1) end (c .result .ensures (end .left) (end .left-as))
 
 same-length-3 : tie.Need-same-length-3
 same-length-3 c = search needs
@@ -60,9 +61,9 @@ same-length-4 c = search needs
 
 returns-2 : tie.Need-returns-2
 returns-2 c image t passes stands =
-    let start = c .before .before .before .before .before .before .before .before .before .before .before .before in
-    let done = c .before .before .before .before .before .before .before .execute in
-    stopped-performed (length (now (start .args .registers))) (run (start .args .budget) 0 (Rules.start (length (now (start .args .registers))) t (integers-of (now (start .args .registers))))) _ _ _ _ _ _ _ (done .ensures image t (expression-of-code (start .args .code)) passes stands) (c .before .ending2 .given .1)
+    let start = c .before .before .before .before .before .before .before .before .before .before .before .before .before in
+    let done = c .before .before .before .before .before .before .before .before .execute in
+    stopped-performed (length (now (start .args .registers))) (high-marks (start .args .budget) (Rules.start (length (now (start .args .registers))) t (integers-of (now (start .args .registers))))) (run (start .args .budget) 0 (Rules.start (length (now (start .args .registers))) t (integers-of (now (start .args .registers))))) _ _ _ _ _ _ _ (done .ensures image t (expression-of-code (start .args .code)) passes stands) (c .before .before .ending2 .given .1)
 
 pub run-expression-spec : {M : Type 1} → statement M
 run-expression-spec =

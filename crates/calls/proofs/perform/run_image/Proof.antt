@@ -9,6 +9,7 @@ use Rattle.calls.proofs.perform.run_image.Statement.{statement}
 use Rattle.calls.proofs.perform.run_image.Tie as tie
 use Rattle.calls.proofs.perform.run_image.Reads as reads
 use Rattle.calls.proofs.perform.run_image.Lts as lts
+use Rattle.automaton.proofs.meter.no_marks.Reads as no-marks-reads
 use Rattle.calls.proofs.perform.run_command.Reads as run-command-reads
 use Rattle.calls.proofs.perform.run_expression.Reads as run-expression-reads
 use Rattle.loader.proofs.load.Reads as load-reads
@@ -19,15 +20,18 @@ load-requires c κs = search needs
 enum-known-loaded : tie.Need-enum-known-loaded
 enum-known-loaded c = search needs
 
+no-marks-requires : tie.Need-no-marks-requires
+no-marks-requires c κs = search needs
+
 same-length : tie.Need-same-length
 same-length c = search needs
 
 returns : tie.Need-returns
 returns c =
-    let start = c .before .before .before .before .before .before .before .before .before .before .before in
-    let known = c .before .before .before .before .before .before .before .before .before .slice-known .given in
-    let root = found-root _ _ _ _ (c .before .before .before .before .before .before .load .ensures) _ _ _ (c .before .before .loaded .given .1) in
-    count-refused _ (now (start .args .registers)) _ _ _ _ _ _ (root .found) (λ i h. known i .fits) (c .if1 .taken)
+    let start = c .before .before .before .before .before .before .before .before .before .before .before .before in
+    let known = c .before .before .before .before .before .before .before .before .before .before .slice-known .given in
+    let root = found-root _ _ _ _ (c .before .before .before .before .before .before .before .load .ensures) _ _ _ (c .before .before .before .loaded .given .1) in
+    count-refused _ (now (start .args .registers)) _ _ _ _ _ _ (root .found) (λ i h. known i .fits) (c .before .if1 .taken) _ (c .no-marks .ensures)
 
 run-command-requires : tie.Need-run-command-requires
 run-command-requires c κs =
@@ -70,14 +74,17 @@ returns-3 c =
     let equal = c .before .before .before .before .before .before .before .before .if1 .left in
     run-performed _ (now (start .args .registers)) _ _ _ (start .args .budget) _ _ found _ _ _ equal (c .before .before .before .before .run-expression .ensures _ (found .tree) (counted _ (now (start .args .registers)) _ _ _ (start .args .budget) _ _ found equal) (found .stands))
 
+no-marks-requires-2 : tie.Need-no-marks-requires-2
+no-marks-requires-2 c κs = search needs
+
 same-length-6 : tie.Need-same-length-6
 same-length-6 c = search needs
 
 returns-4 : tie.Need-returns-4
 returns-4 c =
-    let start = c .before .before .before .before .before .before .before .before .before .before in
-    let known = c .before .before .before .before .before .before .before .before .slice-known .given in
-    image-refused _ _ _ _ (c .before .before .before .before .before .load .ensures) (now (start .args .registers)) _ _ _ (λ i h. known i .fits) (c .before .loaded2 .given .1)
+    let start = c .before .before .before .before .before .before .before .before .before .before .before in
+    let known = c .before .before .before .before .before .before .before .before .before .slice-known .given in
+    image-refused _ _ _ _ (c .before .before .before .before .before .before .load .ensures) (now (start .args .registers)) _ _ _ (λ i h. known i .fits) (c .before .before .loaded2 .given .1) _ (c .no-marks2 .ensures)
 
 pub run-image-spec : {M : Type 1} → statement M
 run-image-spec =
@@ -85,6 +92,7 @@ run-image-spec =
     (tie.spec
     load-requires
     enum-known-loaded
+    no-marks-requires
     same-length
     returns
     run-command-requires
@@ -93,6 +101,7 @@ run-image-spec =
     returns-2
     run-expression-requires
     enum-known-loaded-2
+    no-marks-requires-2
     same-length-4
     same-length-5
     returns-3
