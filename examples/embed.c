@@ -42,5 +42,8 @@ int main(void)
     if (ran.outcome == PI_OUTCOME_NUMBER)
         printf("number %" PRId64 "\n", ran.value);
     printf("steps %" PRIu64 "\n", ran.steps);
+    // The most cells, bindings, value entries and control entries of the run.
+    printf("most %" PRIu64 " %" PRIu64 " %" PRIu64 " %" PRIu64 "\n",
+           ran.cells, ran.bindings, ran.values, ran.control);
     return 0;
 }

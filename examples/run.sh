@@ -1,6 +1,6 @@
 #!/usr/bin/env bash
 # Makes the image of each sample routine, runs it, and compares with the output stored beside it; works out its needs and
-# its page and compares with those stored; and holds the price list and the annex to them.
+# its page and compares with those stored; and holds the price list, the annex and the service screen to them.
 # A part that cannot run counts as failed. The last line is 'N passed, M failed'; the exit status is 0 only when M is 0.
 set -u
 
@@ -8,7 +8,7 @@ help='usage: examples/run.sh [PROGRAM [ARGUMENT..]]
 
 Runs every sample routine and compares what PROGRAM prints with what is stored;
 and compares the needs and the page of each, which the image tool prints, the
-price list and the annex.
+price list, the annex and the service screen.
 PROGRAM reads an image and its starting values from standard input. It is
 target/bin/pirun if none is named; another one is the second interpreter:
   examples/run.sh tests/second/target/release/second program
@@ -115,6 +115,34 @@ annex_as_stored() {
     sed '1,/^node /d' examples/annex.out | diff "examples/$name.page" - && readme_shows examples/annex.out
 }
 
+# The high marks of a run, each as MARK/FIGURE: the figures are those stored of the routine, 0 where it has none, and no
+# mark is above its figure.
+marks_within_needs() { # NAME CELLS BINDINGS VALUES CONTROL
+    local size figure needs=examples/$1.needs
+    for size in cells="$2" bindings="$3" values="$4" control="$5"; do
+        figure=$(sed -n "s/^${size%%=*} //p" "$needs")
+        [ "${size#*/}" = "${figure:-0}" ] || { echo "$1: $size, and $needs has ${figure:-none}"; return 1; }
+        size=${size#*=}
+        [ "${size%/*}" -le "${size#*/}" ] || { echo "$1: $size"; return 1; }
+    done
+}
+
+# The service screen, which a C program prints too: the first run of each routine has the answer, the steps and the high
+# marks that are stored, every run the figures; and README.md shows it.
+service_screen_as_stored() {
+    local name run steps cells bindings values control answer first=0
+    while read -r name run steps cells bindings values control answer; do
+        [ "$name" = limit ] && continue
+        marks_within_needs "$name" "$cells" "$bindings" "$values" "$control" || return
+        [ "$run" = 1 ] || continue
+        first=$((first + 1))
+        [ "$answer" != ended ] || answer=none
+        printf '%s\n' "$answer" "steps $steps" "most ${cells%/*} ${bindings%/*} ${values%/*} ${control%/*}" |
+            diff <(head -n 3 "examples/$name.out") - || return
+    done < <(sed 1d examples/service_screen.out)
+    [ "$first" -gt 0 ] && readme_shows examples/service_screen.out
+}
+
 one_check() { # NAME COMMAND..
     local name=$1
     shift
@@ -134,6 +162,7 @@ for name in $(basename -a examples/*.pi examples/*.values examples/*.needs examp
 done
 one_check 'price list' price_list_as_stored
 one_check annex annex_as_stored
+one_check 'service screen' service_screen_as_stored
 
 echo "$passed passed, $failed failed"
 [ "$failed" -eq 0 ]

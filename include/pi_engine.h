@@ -56,13 +56,17 @@
  *         if (ran.outcome == PI_OUTCOME_NUMBER)
  *             printf("number %" PRId64 "\n", ran.value);
  *         printf("steps %" PRIu64 "\n", ran.steps);
+ *         // The most cells, bindings, value entries and control entries of the run.
+ *         printf("most %" PRIu64 " %" PRIu64 " %" PRIu64 " %" PRIu64 "\n",
+ *                ran.cells, ran.bindings, ran.values, ran.control);
  *         return 0;
  *     }
  *
- * It prints `number 25` and `steps 7`. A run checks the image itself, so a host calls pi_check only
- * to know beforehand whether an image passes, pi_needs only to know beforehand how much room and how
- * many steps its runs may take (examples/price_list.c), and pi_page only to print the tree, as on the
- * annex of a contract (examples/annex.c).
+ * It prints `number 25`, `steps 7` and `most 0 0 3 4`. A run checks the image itself, so a host calls
+ * pi_check only to know beforehand whether an image passes, pi_needs only to know beforehand how much
+ * room and how many steps its runs may take (examples/price_list.c), and pi_page only to print the
+ * tree, as on the annex of a contract (examples/annex.c). How near a run came to those needs is shown
+ * by examples/service_screen.c.
  *
  * What holds of every call:
  *
@@ -95,10 +99,10 @@ extern "C" {
  * The version of this header and of the library it was delivered with. What the three numbers mean,
  * and what changed in which version, is in CHANGELOG.md. PI_VERSION_NUMBER is for #if.
  */
-#define PI_VERSION_MAJOR 7
+#define PI_VERSION_MAJOR 8
 #define PI_VERSION_MINOR 0
-#define PI_VERSION_PATCH 1
-#define PI_VERSION "7.0.1"
+#define PI_VERSION_PATCH 0
+#define PI_VERSION "8.0.0"
 #define PI_VERSION_NUMBER (PI_VERSION_MAJOR * 10000 + PI_VERSION_MINOR * 100 + PI_VERSION_PATCH)
 
 /* The work words of 64 bits that a call needs. */
@@ -215,12 +219,13 @@ typedef enum PiCode {
  * repeats one. The place of 1, 2 and 20 to 41 is 0 and means no node, so look at the refusal first.
  *
  * More exactly: 1 is fewer than 2 words, or a length other than 2 + 2n (in bytes: see below); 6 is
- * depth 65; 14 is no function, or one with another count of Formals; 21 and 22 touch nothing. With
- * 30 to 36 a step is withheld, and the reply has the steps that were made before it; with 30 they
- * equal the budget and the routine has not ended. If several of 30 to 36 hold of a step, the first in
- * the order 30, 31, 32, 33, 34, 36, 35 is told: of two full stacks control is named. 40 comes from
- * pi_needs alone: no Loop is in the tree, and the most steps of its runs come out above 1,000,000. 41
- * comes from pi_page alone: the image passes, and the lent page is shorter than PI_PAGE_BYTES(n).
+ * depth 65; 14 is no function, or one with another count of Formals; 21 and 22 touch nothing. With 30
+ * to 36 a step is withheld, and the reply has the steps that were made before it and the high marks up
+ * to it; with 30 the steps equal the budget and the routine has not ended. If several of 30 to 36 hold
+ * of a step, the first in the order 30, 31, 32, 33, 34, 36, 35 is told: of two full stacks control is
+ * named. 40 comes from pi_needs alone: no Loop is in the tree, and the most steps of its runs come out
+ * above 1,000,000. 41 comes from pi_page alone: the image passes, and the lent page is shorter than
+ * PI_PAGE_BYTES(n).
  */
 #define PI_REFUSAL_LIST(ROW) \
     /* Caused by the maker of the image. */ \
@@ -275,13 +280,26 @@ typedef struct PiCheckReply {
     uint64_t place;   /* the refusal's place; 0 where the image passes */
 } PiCheckReply;
 
-/* What a run answers: five 64-bit words. */
+/*
+ * What a run answers: nine 64-bit words. The last four are its high marks: the most live cells, live
+ * bindings, value entries and control entries over all states that it has reached, the one before its
+ * first step included. A withheld step's state is not reached: with refusals 30 to 36 the marks are
+ * those of the states before it, and with 1 to 22 all four are 0. No mark is above its limit,
+ * PI_MOST_CELLS, PI_MOST_BINDINGS, PI_MOST_VALUES or PI_MOST_CONTROL, nor above its figure, where
+ * pi_needs gives figures for the same image. In the first state of a run the registers are its cells
+ * and bindings, no value is there, and the root is the one entry of control, or none where there is
+ * no node.
+ */
 typedef struct PiRunReply {
-    uint64_t refusal; /* a PiRefusal: PI_REFUSAL_NONE where the run ends */
-    uint64_t outcome; /* a PiOutcome: what is left; PI_OUTCOME_NONE where it is refused */
-    int64_t value;    /* the number, the truth or the cell's number; else 0 */
-    uint64_t place;   /* the refusal's place; 0 where the run ends */
-    uint64_t steps;   /* the steps made; 0 for refusals 1 to 22 */
+    uint64_t refusal;  /* a PiRefusal: PI_REFUSAL_NONE where the run ends */
+    uint64_t outcome;  /* a PiOutcome: what is left; PI_OUTCOME_NONE where it is refused */
+    int64_t value;     /* the number, the truth or the cell's number; else 0 */
+    uint64_t place;    /* the refusal's place; 0 where the run ends */
+    uint64_t steps;    /* the steps made; 0 for refusals 1 to 22 */
+    uint64_t cells;    /* the most live cells, the registers among them; 0 for refusals 1 to 22 */
+    uint64_t bindings; /* the most live bindings, the registers among them; 0 likewise */
+    uint64_t values;   /* the most entries on the value stack; 0 likewise */
+    uint64_t control;  /* the most entries on the control stack; 0 likewise */
 } PiRunReply;
 
 /*
@@ -318,7 +336,7 @@ PiCheckReply pi_check(const uint32_t *image, size_t image_length,
  * are changed in place. Tested in this order: the work words (22), the budget (21), the image (1 to
  * 14), the count of registers (20); then the steps are made (30 to 36). The run of an image with no
  * node ends with PI_OUTCOME_NONE in 0 steps and leaves the registers as they are, with any budget up
- * to the greatest, 0 included.
+ * to the greatest, 0 included; its high marks are cells r, bindings r, values 0, control 0.
  */
 PiRunReply pi_run(const uint32_t *image, size_t image_length,
                   int64_t *registers, size_t registers_length,
@@ -348,10 +366,11 @@ PiRunReply pi_run_bytes(const uint8_t *image, size_t image_length,
  * as run; how often it is run takes no more room, but leaves the steps open. A function adds what its
  * Blk needs wherever it is called, and where it is not called its Bind alone. So:
  *
- * - No run passes a figure. With the four figures of room within their limits no run is refused with
- *   33 to 36, and with a budget of the steps, where they are not open, none is refused with 30.
+ * - No run passes a figure, neither by a high mark nor by its steps. With the four figures of room
+ *   within their limits no run is refused with 33 to 36, and with a budget of the steps, where they are
+ *   not open, none is refused with 30.
  * - The figures are reached: each by some choice of the tests' truths. In a tree without Loop and Cond
- *   every run that ends reaches all of them, and its steps are the figure.
+ *   every run that ends reaches all of them: its high marks are the figures, and so are its steps.
  * - A Loop anywhere in the tree, be it in a function that is never called, leaves the steps open.
  *
  * Tested in this order: the work words (22), the image (1 to 14), and where no Loop is in the tree the

@@ -11,8 +11,8 @@ The first runs PROGRAM, target/bin/pirun if none is named, on standard input and
 writes its answer to standard output if it is whole, and else nothing. The second
 tells whether ANSWER is the whole answer to INPUT; both are files.
 
-An answer is whole if it ends with a newline and has 2 lines where it is a refusal
-from 1 to 22, and otherwise 2 lines and one for each register.
+An answer is whole if it ends with a newline and has 3 lines where it is a refusal
+from 1 to 22, and otherwise 3 lines and one for each register.
 
 Exit status: 0 the answer is whole, and a refusal is an answer; 1 it is not, or a
 stream failed; 2 the command line is wrong, or there is no program."
@@ -34,12 +34,12 @@ registers_of() { # INPUT
 
 # Whether this is all of the answer to the input.
 is_whole() { # INPUT ANSWER
-    local outcome number lines registers wanted=2
+    local outcome number lines registers wanted=3
     [ -s "$2" ] && [ "$(tail -c 1 "$2" | od -An -tu1 | tr -d ' ')" = 10 ] || return 1
     read -r outcome number _ <"$2"
     registers=$(registers_of "$1")
     if [ "$outcome" != refused ] || [ "$number" -ge "$first_of_the_run" ] 2>/dev/null; then
-        wanted=$((2 + ${registers:-0}))
+        wanted=$((3 + ${registers:-0}))
     fi
     lines=$(wc -l <"$2")
     [ "$lines" -eq "$wanted" ]

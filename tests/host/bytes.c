@@ -5,7 +5,9 @@
 #include "tests.h"
 
 #include "buffers.h"
+#include "cases.h"
 #include "random.h"
+#include "replies.h"
 #include "report.h"
 #include "trees.h"
 
@@ -123,13 +125,19 @@ static PiRunReply call_run_bytes(const ByteCall *call, uint8_t *left)
     return reply;
 }
 
-/* The answer of a call that is refused by its lengths. */
-static void answered(const char *what, uint64_t refusal, uint64_t place, uint64_t steps,
-                     uint64_t expected)
+/* The replies of calls that are refused by their lengths. */
+static void check_refused(const PiCheckReply *reply, uint64_t refusal)
 {
-    if (refusal != expected || place != 0 || steps != 0)
-        test_fault("%s: refusal %" PRIu64 " at %" PRIu64 " in place of %" PRIu64, what, refusal,
-                   place, expected);
+    if (reply->refusal != refusal || reply->value != 0 || reply->place != 0)
+        test_fault("check of bytes: refusal %" PRIu64 " at %" PRIu64 " in place of %" PRIu64,
+                   reply->refusal, reply->place, refusal);
+}
+
+static void run_refused(const PiRunReply *reply, uint64_t refusal)
+{
+    const PiRunReply expected = REFUSED_BEFORE(refusal, 0);
+
+    same_reply("run of bytes and what is expected", reply, &expected);
 }
 
 /* The word form's call on the same bytes; registers that make no whole number are left out. */
@@ -161,9 +169,9 @@ static uint64_t compare(const ByteCall *call)
     Ran ran, bytes_ran;
 
     if (expected != PI_REFUSAL_NONE) {
-        answered("run of bytes", reply.refusal, reply.place, reply.steps, expected);
+        run_refused(&reply, expected);
         if (expected != PI_REFUSAL_BUDGET)
-            answered("check of bytes", checked.refusal, checked.place, 0, expected);
+            check_refused(&checked, expected);
         return reply.refusal;
     }
     same = word_call(call, same_words, values);
@@ -174,7 +182,7 @@ static uint64_t compare(const ByteCall *call)
                    " at %" PRIu64,
                    checked.refusal, checked.place, words_checked.refusal, words_checked.place);
     if (checked.refusal == PI_REFUSAL_NONE && call->registers_length != 8 * (size_t)same_words[1]) {
-        answered("run of bytes", reply.refusal, reply.place, reply.steps, PI_REFUSAL_REGISTERS);
+        run_refused(&reply, PI_REFUSAL_REGISTERS);
         return reply.refusal;
     }
     ran = call_run(&same);
@@ -350,6 +358,7 @@ void test_bytes(size_t count, uint64_t seed)
     test_calls_in_bytes("the paper's cases in bytes", paper_calls(), paper_call);
     test_calls_in_bytes("Conds in bytes", choice_calls(), choice_call);
     test_calls_in_bytes("quotients in bytes", division_calls(), division_call);
+    test_calls_in_bytes("high marks in bytes", marks_calls(), marks_call);
     test_byte_lengths();
     test_no_routine_in_bytes();
     test_bytes_by_chance(count, seed);

@@ -183,14 +183,7 @@ void same_run(const char *what, const Ran *one, const Ran *other, size_t registe
 {
     size_t index;
 
-    if (one->reply.refusal != other->reply.refusal || one->reply.outcome != other->reply.outcome ||
-        one->reply.value != other->reply.value || one->reply.place != other->reply.place ||
-        one->reply.steps != other->reply.steps)
-        test_fault("%s: refusal %" PRIu64 " at %" PRIu64 ", value %" PRId64 ", steps %" PRIu64
-                   " and refusal %" PRIu64 " at %" PRIu64 ", value %" PRId64 ", steps %" PRIu64,
-                   what, one->reply.refusal, one->reply.place, one->reply.value, one->reply.steps,
-                   other->reply.refusal, other->reply.place, other->reply.value,
-                   other->reply.steps);
+    same_reply(what, &one->reply, &other->reply);
     for (index = 0; index < registers_length; index += 1) {
         if (one->left[index] != other->left[index])
             test_fault("%s: register %lu is %" PRId64 " and %" PRId64, what, (unsigned long)index,
@@ -241,8 +234,9 @@ static void fits_the_check(const Call *call, const Ran *ran)
 }
 
 /*
- * The same run at other budgets: the steps made are just enough, and one less is too few. Where none
- * is made no budget is.
+ * The same run at other budgets: the steps made are just enough, and one less is too few. Cut off there
+ * it has no high mark above these, and where a step was withheld just these. Where none is made no budget
+ * is.
  */
 static void fits_other_budgets(const Call *call, const Ran *ran)
 {
@@ -263,6 +257,10 @@ static void fits_other_budgets(const Call *call, const Ran *ran)
             test_fault("budget %" PRIu64 " of %" PRIu64 " gives refusal %" PRIu64 " after %" PRIu64
                        " steps",
                        other.budget, other.budget + 1, again.reply.refusal, again.reply.steps);
+        if (!marks_are_within(&again.reply, &ran->reply) ||
+            (!ended && !marks_are_within(&ran->reply, &again.reply)))
+            test_fault("a step less: " RUN_FORMAT " and " RUN_FORMAT, RUN_ARGUMENTS(&again.reply),
+                       RUN_ARGUMENTS(&ran->reply));
     }
 }
 

@@ -27,12 +27,16 @@ typedef struct Case {
 #define TREE(nodes) nodes, sizeof(nodes) / sizeof(nodes)[0]
 #define NODES(...) TREE(((const Node[]){__VA_ARGS__}))
 
-/* The budget, the code and the replies of most cases. */
+/* The budget and the code of most cases. */
 #define MOST PI_MOST_BUDGET
 #define COMMAND PI_CODE_COMMAND
-#define NUMBER(value, steps) {0, PI_OUTCOME_NUMBER, value, 0, steps}
-#define NONE(steps) {0, PI_OUTCOME_NONE, 0, 0, steps}
-#define REFUSED(number, place, steps) {number, PI_OUTCOME_NONE, 0, place, steps}
+
+/* The high marks of a run; and the replies of most cases, with none of them for refusals 1 to 22. */
+#define MARKS(cells, bindings, values, control) cells, bindings, values, control
+#define NUMBER(value, steps, marks) {0, PI_OUTCOME_NUMBER, value, 0, steps, marks}
+#define NONE(steps, marks) {0, PI_OUTCOME_NONE, 0, 0, steps, marks}
+#define REFUSED(number, place, steps, marks) {number, PI_OUTCOME_NONE, 0, place, steps, marks}
+#define REFUSED_BEFORE(number, place) REFUSED(number, place, 0, MARKS(0, 0, 0, 0))
 
 /* Writes the image of a case; its call. */
 Call case_call(const Case *the_case, uint32_t *image);

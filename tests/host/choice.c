@@ -100,39 +100,48 @@ static const Node dividing_test[] = {
 
 /* A tree with one register that is refused before its run. */
 #define FAULT(name, number, place, ...) \
-    {name, NODES(__VA_ARGS__), 1, {5}, MOST, 0, REFUSED(number, place, 0), {5}}
+    {name, NODES(__VA_ARGS__), 1, {5}, MOST, 0, REFUSED_BEFORE(number, place), {5}}
 
 static const Case cases[] = {
-    {"Cond, true", TREE(below_five), 2, {4, 9}, MOST, COMMAND, NONE(9), {4, 1}},
-    {"Cond, false", TREE(below_five), 2, {5, 9}, MOST, COMMAND, NONE(9), {5, 2}},
-    {"Cond, budget 0", TREE(below_five), 2, {4, 9}, 0, COMMAND, REFUSED(30, 0, 0), {4, 9}},
-    {"Cond, no step left at its mark", TREE(below_five), 2, {4, 9}, 5, COMMAND, REFUSED(30, 0, 5),
+    {"Cond, true", TREE(below_five), 2, {4, 9}, MOST, COMMAND, NONE(9, MARKS(2, 2, 3, 4)), {4, 1}},
+    {"Cond, false", TREE(below_five), 2, {5, 9}, MOST, COMMAND, NONE(9, MARKS(2, 2, 3, 4)), {5, 2}},
+    {"Cond, budget 0", TREE(below_five), 2, {4, 9}, 0, COMMAND, REFUSED(30, 0, 0, MARKS(2, 2, 0, 1)),
      {4, 9}},
+    {"Cond, no step left at its mark", TREE(below_five), 2, {4, 9}, 5, COMMAND,
+     REFUSED(30, 0, 5, MARKS(2, 2, 3, 4)), {4, 9}},
     {"Cond, no step left for its command", TREE(below_five), 2, {4, 9}, 6, COMMAND,
-     REFUSED(30, 0, 6), {4, 9}},
+     REFUSED(30, 0, 6, MARKS(2, 2, 3, 4)), {4, 9}},
     {"Cond, true written out", NODES(COND, TRUE, SET(0, 7), SET(0, 8)), 1, {5}, MOST, COMMAND,
-     NONE(6), {7}},
+     NONE(6, MARKS(1, 1, 2, 2)), {7}},
     {"Cond, false written out", NODES(COND, FALSE, SET(0, 7), SET(0, 8)), 1, {5}, MOST, COMMAND,
-     NONE(6), {8}},
-    {"Cond in the second command, not reached", TREE(sign), 2, {-7, 9}, MOST, COMMAND, NONE(9),
-     {-7, 1}},
-    {"Cond in the second command, true", TREE(sign), 2, {0, 9}, MOST, COMMAND, NONE(15), {0, 2}},
-    {"Cond in the second command, false", TREE(sign), 2, {7, 9}, MOST, COMMAND, NONE(15), {7, 3}},
-    {"Cond in the first command, true", TREE(both), 2, {10, 9}, MOST, COMMAND, NONE(15), {10, 1}},
-    {"Cond in the first command, false", TREE(both), 2, {9, 9}, MOST, COMMAND, NONE(15), {9, 2}},
-    {"Cond in the first command, not reached", TREE(both), 2, {0, 9}, MOST, COMMAND, NONE(9),
-     {0, 3}},
-    {"Cond in a Loop", TREE(rounds), 2, {5, 0}, MOST, COMMAND, NONE(131), {0, 32}},
-    {"Cond in a function", TREE(function), 2, {0, 0}, MOST, COMMAND, NONE(46), {3, 6}},
-    {"Cond with a Blk, true", TREE(block), 1, {5}, MOST, COMMAND, NONE(27), {6}},
-    {"Cond with a Blk, false", TREE(block), 1, {-5}, MOST, COMMAND, NONE(16), {7}},
-    {"Cond, zero divisor not taken", TREE(guarded), 2, {0, 9}, MOST, COMMAND, NONE(9), {0, 0}},
-    {"Cond, divisor taken", TREE(guarded), 2, {7, 9}, MOST, COMMAND, NONE(12), {7, 14}},
-    {"Cond, zero divisor taken", TREE(unguarded), 2, {0, 9}, MOST, COMMAND, REFUSED(31, 0, 10),
-     {0, 9}},
-    {"Cond, divisor not taken", TREE(unguarded), 2, {7, 9}, MOST, COMMAND, NONE(9), {7, 0}},
+     NONE(6, MARKS(1, 1, 2, 2)), {8}},
+    {"Cond in the second command, not reached", TREE(sign), 2, {-7, 9}, MOST, COMMAND,
+     NONE(9, MARKS(2, 2, 3, 4)), {-7, 1}},
+    {"Cond in the second command, true", TREE(sign), 2, {0, 9}, MOST, COMMAND,
+     NONE(15, MARKS(2, 2, 3, 4)), {0, 2}},
+    {"Cond in the second command, false", TREE(sign), 2, {7, 9}, MOST, COMMAND,
+     NONE(15, MARKS(2, 2, 3, 4)), {7, 3}},
+    {"Cond in the first command, true", TREE(both), 2, {10, 9}, MOST, COMMAND,
+     NONE(15, MARKS(2, 2, 3, 4)), {10, 1}},
+    {"Cond in the first command, false", TREE(both), 2, {9, 9}, MOST, COMMAND,
+     NONE(15, MARKS(2, 2, 3, 4)), {9, 2}},
+    {"Cond in the first command, not reached", TREE(both), 2, {0, 9}, MOST, COMMAND,
+     NONE(9, MARKS(2, 2, 3, 4)), {0, 3}},
+    {"Cond in a Loop", TREE(rounds), 2, {5, 0}, MOST, COMMAND, NONE(131, MARKS(2, 2, 3, 6)), {0, 32}},
+    {"Cond in a function", TREE(function), 2, {0, 0}, MOST, COMMAND, NONE(46, MARKS(3, 5, 9, 9)),
+     {3, 6}},
+    {"Cond with a Blk, true", TREE(block), 1, {5}, MOST, COMMAND, NONE(27, MARKS(2, 2, 5, 7)), {6}},
+    {"Cond with a Blk, false", TREE(block), 1, {-5}, MOST, COMMAND, NONE(16, MARKS(1, 1, 3, 5)), {7}},
+    {"Cond, zero divisor not taken", TREE(guarded), 2, {0, 9}, MOST, COMMAND,
+     NONE(9, MARKS(2, 2, 3, 4)), {0, 0}},
+    {"Cond, divisor taken", TREE(guarded), 2, {7, 9}, MOST, COMMAND, NONE(12, MARKS(2, 2, 3, 4)),
+     {7, 14}},
+    {"Cond, zero divisor taken", TREE(unguarded), 2, {0, 9}, MOST, COMMAND,
+     REFUSED(31, 0, 10, MARKS(2, 2, 3, 4)), {0, 9}},
+    {"Cond, divisor not taken", TREE(unguarded), 2, {7, 9}, MOST, COMMAND, NONE(9, MARKS(2, 2, 3, 4)),
+     {7, 0}},
     {"Cond, zero divisor in its test", TREE(dividing_test), 2, {0, 9}, MOST, COMMAND,
-     REFUSED(31, 0, 5), {0, 9}},
+     REFUSED(31, 0, 5, MARKS(2, 2, 3, 6)), {0, 9}},
 
     /* Scope and types: the children left to right, and then the test's code. */
     FAULT("Cond, test is an integer", 11, 0, COND, {PI_KIND_NUM, 1}, SET(0, 7), SET(0, 8)),
@@ -183,22 +192,26 @@ Call choice_call(size_t index, uint32_t *image)
     return case_call(&cases[index], image);
 }
 
-/* The run of a tree with one register: its refusal, or none, and what the register is left at. */
-static void expect(const Tree *tree, uint64_t refusal, uint64_t place, uint64_t steps, int64_t left)
+/* The run of a tree with one register: its reply, and what the register is left at. */
+static void expect(const Tree *tree, const PiRunReply *reply, int64_t left)
 {
     static const int64_t starts[] = {5};
     static uint32_t image[IMAGE_ROOM];
-    const PiRunReply reply = REFUSED(refusal, place, steps);
     Call call = tree_call(tree, starts, image);
 
-    expect_run(&call, &reply, &left);
+    expect_run(&call, reply, &left);
 }
 
 /* Conds down to depth 64 and 65, below the first command and below the second. */
 static void test_levels(void)
 {
     /* Where the first node of depth 65 stands: it is in the innermost Cond's first command. */
-    static const uint64_t places[] = {62 * 4 + 3, 62 * 2 + 3};
+    static const PiRunReply refused[] = {
+        REFUSED_BEFORE(PI_REFUSAL_DEPTH, 62 * 4 + 3),
+        REFUSED_BEFORE(PI_REFUSAL_DEPTH, 62 * 2 + 3),
+    };
+    /* Each Cond is gone from both stacks when its command comes up. */
+    static const PiRunReply ended = NONE(62 * 3 + 3, MARKS(1, 1, 2, 2));
     static Tree tree;
     int truth;
 
@@ -206,9 +219,9 @@ static void test_levels(void)
         test_begin(truth ? "Conds in the first command, depth 64 and 65"
                          : "Conds in the second command, depth 64 and 65");
         tree_of_choices(&tree, PI_MOST_DEPTH - 2, truth);
-        expect(&tree, PI_REFUSAL_NONE, 0, 62 * 3 + 3, 7);
+        expect(&tree, &ended, 7);
         tree_of_choices(&tree, PI_MOST_DEPTH - 1, truth);
-        expect(&tree, PI_REFUSAL_DEPTH, places[truth], 0, 5);
+        expect(&tree, &refused[truth], 5);
         test_end();
     }
 }
@@ -230,18 +243,20 @@ static void put_in_sequence(Tree *tree, const Tree *first)
 /*
  * Towers with 511 entries on control when their Cond comes up, which its step makes 512; with a CSeq
  * around them it would make 513. In the second tower the value stack has 510 then, 511 with the Cond,
- * and 512 with its truth.
+ * and 512 with its truth, which a refused run does not come to.
  */
 static void test_limits(void)
 {
     static const struct {
         const char *name;
         Tower tower;
-        uint64_t ends_after;
-        uint64_t stops_after;
+        PiRunReply ends;
+        PiRunReply stops; /* with a CSeq around it */
     } towers[] = {
-        {"512 and 513 control entries at a Cond", {10, 1, 1, 0, 48, 1}, 2076, 601},
-        {"512 value entries too in a Cond's test", {15, 15, 1, 0, 17, 1}, 2511, 1486},
+        {"512 and 513 control entries at a Cond", {10, 1, 1, 0, 48, 1},
+         NONE(2076, MARKS(1, 21, 62, 512)), REFUSED(36, 0, 601, MARKS(1, 21, 61, 512))},
+        {"512 value entries too in a Cond's test", {15, 15, 1, 0, 17, 1},
+         NONE(2511, MARKS(1, 241, 512, 512)), REFUSED(36, 0, 1486, MARKS(1, 241, 511, 512))},
     };
     static Tree tower, around;
     size_t index;
@@ -249,9 +264,9 @@ static void test_limits(void)
     for (index = 0; index < COUNT(towers); index += 1) {
         test_begin(towers[index].name);
         tree_of_tower(&tower, &towers[index].tower);
-        expect(&tower, PI_REFUSAL_NONE, 0, towers[index].ends_after, 7);
+        expect(&tower, &towers[index].ends, 7);
         put_in_sequence(&around, &tower);
-        expect(&around, PI_REFUSAL_CONTROL, 0, towers[index].stops_after, 5);
+        expect(&around, &towers[index].stops, 5);
         test_end();
     }
 }

@@ -26,10 +26,12 @@ static const Node halving_to_0[] = {
     {PI_KIND_ASSIGN, 0}, HALF,
 };
 
+/* Whatever the quotient, the run has these high marks. */
+#define OF_A_DIV MARKS(2, 2, 2, 3)
 #define BY(name, left, right, number) \
-    {name, TREE(quotient), 2, {left, right}, MOST, 0, NUMBER(number, 4), {left, right}}
+    {name, TREE(quotient), 2, {left, right}, MOST, 0, NUMBER(number, 4, OF_A_DIV), {left, right}}
 #define NOT_BY(name, left, right, refusal) \
-    {name, TREE(quotient), 2, {left, right}, MOST, 0, REFUSED(refusal, 0, 3), {left, right}}
+    {name, TREE(quotient), 2, {left, right}, MOST, 0, REFUSED(refusal, 0, 3, OF_A_DIV), {left, right}}
 
 static const Case cases[] = {
     BY("7 by 2", 7, 2, 3),
@@ -54,10 +56,11 @@ static const Case cases[] = {
     NOT_BY("the lowest by -1", INT64_MIN, -1, 32),
     NOT_BY("-7 by 0", -7, 0, 31),
     NOT_BY("the lowest by 0", INT64_MIN, 0, 31),
-    {"halving 7", TREE(halving), 1, {7}, MOST, COMMAND, NONE(62), {0}},
-    {"halving -7", TREE(halving), 1, {-7}, MOST, COMMAND, NONE(62), {-1}},
-    {"halving 7 until 0", TREE(halving_to_0), 1, {7}, MOST, COMMAND, NONE(50), {0}},
-    {"halving -7 until 0", TREE(halving_to_0), 1, {-7}, 500, COMMAND, REFUSED(30, 0, 500), {-1}},
+    {"halving 7", TREE(halving), 1, {7}, MOST, COMMAND, NONE(62, MARKS(1, 1, 4, 6)), {0}},
+    {"halving -7", TREE(halving), 1, {-7}, MOST, COMMAND, NONE(62, MARKS(1, 1, 4, 6)), {-1}},
+    {"halving 7 until 0", TREE(halving_to_0), 1, {7}, MOST, COMMAND, NONE(50, MARKS(1, 1, 3, 5)), {0}},
+    {"halving -7 until 0", TREE(halving_to_0), 1, {-7}, 500, COMMAND,
+     REFUSED(30, 0, 500, MARKS(1, 1, 3, 5)), {-1}},
 };
 
 size_t division_calls(void)
@@ -97,7 +100,7 @@ static void test_pairs(void)
     for (index = 0; index < all * all; index += 1) {
         const size_t places[] = {index / all, index % all};
         size_t side;
-        PiRunReply reply = REFUSED(PI_REFUSAL_ZERO_DIVISOR, 0, 3);
+        PiRunReply reply = REFUSED(PI_REFUSAL_ZERO_DIVISOR, 0, 3, OF_A_DIV);
         Call call;
 
         for (side = 0; side < 2; side += 1) {
@@ -110,7 +113,7 @@ static void test_pairs(void)
         if (starts[0] == INT64_MIN && starts[1] == -1) {
             reply.refusal = PI_REFUSAL_OUT_OF_RANGE;
         } else if (starts[1] != 0) {
-            const PiRunReply ended = NUMBER(rounded_down(starts[0], starts[1]), 4);
+            const PiRunReply ended = NUMBER(rounded_down(starts[0], starts[1]), 4, OF_A_DIV);
 
             reply = ended;
         }

@@ -25,38 +25,36 @@ int has_kind(const Call *call, uint32_t kind)
     return 0;
 }
 
-/* The figure that a refusal for want of room is about, and its limit. */
-static uint64_t figure_of(const PiNeedsReply *needs, uint64_t refusal, uint64_t *limit)
-{
-    switch (refusal) {
-    case PI_REFUSAL_CELLS:
-        *limit = PI_MOST_CELLS;
-        return needs->cells;
-    case PI_REFUSAL_BINDINGS:
-        *limit = PI_MOST_BINDINGS;
-        return needs->bindings;
-    case PI_REFUSAL_VALUES:
-        *limit = PI_MOST_VALUES;
-        return needs->values;
-    default:
-        *limit = PI_MOST_CONTROL;
-        return needs->control;
-    }
-}
+/* A size of the states: a run's high mark, its figure, its limit, and the refusal beyond. */
+typedef struct Size {
+    const char *name;
+    uint64_t refusal;
+    uint64_t limit;
+    uint64_t figure;
+    uint64_t mark;
+} Size;
 
 /* The figures of room against how a run went. In a tree without Loop and Cond a run reaches all. */
 static void room_fits(const PiNeedsReply *needs, const PiRunReply *reply, int reaches_all)
 {
-    uint64_t refusal, figure, limit;
+    const Size sizes[] = {
+        {"cells", PI_REFUSAL_CELLS, PI_MOST_CELLS, needs->cells, reply->cells},
+        {"bindings", PI_REFUSAL_BINDINGS, PI_MOST_BINDINGS, needs->bindings, reply->bindings},
+        {"values", PI_REFUSAL_VALUES, PI_MOST_VALUES, needs->values, reply->values},
+        {"control", PI_REFUSAL_CONTROL, PI_MOST_CONTROL, needs->control, reply->control},
+    };
+    int ended = reply->refusal == PI_REFUSAL_NONE;
+    size_t index;
 
-    for (refusal = PI_REFUSAL_CELLS; refusal <= PI_REFUSAL_CONTROL; refusal += 1) {
-        figure = figure_of(needs, refusal, &limit);
-        if (reply->refusal == refusal && figure <= limit)
-            test_fault("a run is refused with %" PRIu64 ", and the figure is %" PRIu64, refusal,
-                       figure);
-        if (reply->refusal == PI_REFUSAL_NONE && reaches_all && figure > limit)
-            test_fault("a run ends, and the figure of refusal %" PRIu64 " is %" PRIu64, refusal,
-                       figure);
+    for (index = 0; index < sizeof sizes / sizeof sizes[0]; index += 1) {
+        const Size *size = &sizes[index];
+
+        if (reply->refusal == size->refusal && size->figure <= size->limit)
+            test_fault("a run is refused with %" PRIu64 ", and the figure is %" PRIu64,
+                       size->refusal, size->figure);
+        if (size->mark > size->figure || (ended && reaches_all && size->mark != size->figure))
+            test_fault("a run's high mark of %s is %" PRIu64 ", and the figure is %" PRIu64, size->name,
+                       size->mark, size->figure);
     }
 }
 

@@ -46,6 +46,8 @@ int main(int count, char **arguments)
     test_no_routine();
     test_choice();
     test_division();
+    test_marks();
+    test_marks_refused();
     test_needs();
     test_needed_steps();
     test_page();

@@ -5,6 +5,7 @@
 #include "tests.h"
 
 #include "cases.h"
+#include "replies.h"
 #include "report.h"
 
 #include <inttypes.h>
@@ -36,12 +37,16 @@ static Call call_of(uint32_t registers)
     return call;
 }
 
-/* The reply of a run: refused with this, or where that is 0 none; in 0 steps, the registers kept. */
+/*
+ * The reply of a run: refused with this, or where that is 0 none, with the registers as its high marks
+ * of cells and bindings; in 0 steps, the registers kept.
+ */
 static void expect(const Call *call, uint64_t refusal)
 {
-    const PiRunReply reply = REFUSED(refusal, 0, 0);
+    const PiRunReply refused = REFUSED_BEFORE(refusal, 0);
+    const PiRunReply none = NONE(0, MARKS(call->registers_length, call->registers_length, 0, 0));
 
-    expect_run(call, &reply, call->starts);
+    expect_run(call, refusal == PI_REFUSAL_NONE ? &none : &refused, call->starts);
 }
 
 static void expect_check(const Call *call, uint64_t refusal)
@@ -162,23 +167,17 @@ static void test_no_pointer(void)
 {
     static const uint32_t words[] = {0, 0};
     static const uint8_t bytes[] = {0, 0, 0, 0, 0, 0, 0, 0};
+    static const PiRunReply expected = NONE(0, MARKS(0, 0, 0, 0));
     static uint64_t work[PI_WORK_WORDS];
     size_t index;
 
     test_begin("no routine and no registers, no pointer");
     for (index = 0; index < COUNT(budgets); index += 1) {
-        PiRunReply replies[2];
-        size_t form;
+        PiRunReply reply = pi_run(words, COUNT(words), NULL, 0, budgets[index], work, PI_WORK_WORDS);
 
-        replies[0] = pi_run(words, COUNT(words), NULL, 0, budgets[index], work, PI_WORK_WORDS);
-        replies[1] = pi_run_bytes(bytes, COUNT(bytes), NULL, 0, budgets[index], work, PI_WORK_WORDS);
-        for (form = 0; form < COUNT(replies); form += 1) {
-            if (replies[form].refusal != PI_REFUSAL_NONE ||
-                replies[form].outcome != PI_OUTCOME_NONE || replies[form].value != 0 ||
-                replies[form].place != 0 || replies[form].steps != 0)
-                test_fault("run answers %" PRIu64 " after %" PRIu64 " steps",
-                           replies[form].refusal, replies[form].steps);
-        }
+        same_reply("run of words", &reply, &expected);
+        reply = pi_run_bytes(bytes, COUNT(bytes), NULL, 0, budgets[index], work, PI_WORK_WORDS);
+        same_reply("run of bytes", &reply, &expected);
     }
     test_end();
 }

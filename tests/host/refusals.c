@@ -2,15 +2,15 @@
  * Every refusal by its name with its place, which of two comes first, and the limits from both sides,
  * for a run; each check, needs and page of the same image are held to it (calls.c). Refusal 40 is in
  * needs_steps.c, and 41 in page_lengths.c.
- * The steps and heights of the towers are those of the second interpreter.
+ * The steps and high marks of the towers are those of the second interpreter.
  */
 #include "tests.h"
 
 #include "cases.h"
+#include "replies.h"
 #include "report.h"
 
 #include <inttypes.h>
-#include <string.h>
 
 #define COUNT(list) (sizeof(list) / sizeof(list)[0])
 
@@ -27,15 +27,24 @@ static Call call_of_tree(void)
     return tree_call(&tree, starts, image);
 }
 
-static void expect(const Call *call, uint64_t refusal, uint64_t place, uint64_t steps)
+static void expect(const Call *call, const PiRunReply *expected)
 {
     Ran ran = call_all(call);
 
-    if (ran.reply.refusal != refusal || ran.reply.place != place || ran.reply.steps != steps)
-        test_fault("refusal %" PRIu64 " at %" PRIu64 " after %" PRIu64 " steps, expected %" PRIu64
-                   " at %" PRIu64 " after %" PRIu64,
-                   ran.reply.refusal, ran.reply.place, ran.reply.steps, refusal, place, steps);
+    same_reply("the run and what is expected", &ran.reply, expected);
 }
+
+/* A refusal before the first step: no steps, no high marks. */
+static void expect_refused(const Call *call, uint64_t refusal, uint64_t place)
+{
+    const PiRunReply expected = REFUSED_BEFORE(refusal, place);
+
+    expect(call, &expected);
+}
+
+/* A register that is set to a number. */
+static const Node assignment[] = {{PI_KIND_ASSIGN, 0}, {PI_KIND_NUM, 1}};
+static const PiRunReply assigned = NONE(3, MARKS(1, 1, 2, 2));
 
 /* A refusal of the image, by a tree with 1 register. */
 typedef struct Faulty {
@@ -98,7 +107,7 @@ static void test_faulty_trees(void)
         test_begin(faulty[index].name);
         tree_list(&tree, 1, faulty[index].nodes, faulty[index].count);
         call = call_of_tree();
-        expect(&call, faulty[index].refusal, faulty[index].place, 0);
+        expect_refused(&call, faulty[index].refusal, faulty[index].place);
         test_end();
     }
 }
@@ -106,70 +115,75 @@ static void test_faulty_trees(void)
 /* Lengths, n and r; and which of them comes first. */
 static void test_lengths(void)
 {
-    static const Node nodes[] = {{PI_KIND_ASSIGN, 0}, {PI_KIND_NUM, 1}};
+    static const PiRunReply none = NONE(0, MARKS(0, 0, 0, 0));
     Call call;
     size_t length;
 
     test_begin("lengths");
-    tree_list(&tree, 1, nodes, COUNT(nodes));
+    tree_list(&tree, 1, assignment, COUNT(assignment));
     call = call_of_tree();
     for (length = 0; length <= 8; length += 1) {
         call.image_length = length;
-        expect(&call, length == 6 ? PI_REFUSAL_NONE : PI_REFUSAL_LENGTH, 0, length == 6 ? 3 : 0);
+        if (length == 6)
+            expect(&call, &assigned);
+        else
+            expect_refused(&call, PI_REFUSAL_LENGTH, 0);
     }
     test_end();
 
     test_begin("n and r");
-    tree_list(&tree, PI_MOST_REGISTERS + 1, nodes, COUNT(nodes));
+    tree_list(&tree, PI_MOST_REGISTERS + 1, assignment, COUNT(assignment));
     call = call_of_tree();
-    expect(&call, PI_REFUSAL_COUNTS, 0, 0);
+    expect_refused(&call, PI_REFUSAL_COUNTS, 0);
     /* Length 1 comes before n and r, and they before any other length. */
     call.image_length = 5;
-    expect(&call, PI_REFUSAL_COUNTS, 0, 0);
+    expect_refused(&call, PI_REFUSAL_COUNTS, 0);
     call.image_length = 1;
-    expect(&call, PI_REFUSAL_LENGTH, 0, 0);
-    tree_list(&tree, 0, nodes, 0);
+    expect_refused(&call, PI_REFUSAL_LENGTH, 0);
+    tree_clear(&tree, 0);
     call = call_of_tree();
-    expect(&call, PI_REFUSAL_NONE, 0, 0);
+    expect(&call, &none);
     image[0] = PI_MOST_NODES + 1;
-    expect(&call, PI_REFUSAL_COUNTS, 0, 0);
-    tree_list(&tree, PI_MOST_REGISTERS + 1, nodes, 0);
+    expect_refused(&call, PI_REFUSAL_COUNTS, 0);
+    tree_clear(&tree, PI_MOST_REGISTERS + 1);
     call = call_of_tree();
-    expect(&call, PI_REFUSAL_COUNTS, 0, 0);
+    expect_refused(&call, PI_REFUSAL_COUNTS, 0);
     test_end();
 }
 
 /* The host's own faults, and that a run tests 22, 21, the image, 20. */
 static void test_host_faults(void)
 {
-    static const Node nodes[] = {{PI_KIND_ASSIGN, 0}, {PI_KIND_NUM, 1}};
     static const uint64_t budgets[] = {PI_MOST_BUDGET + 1, UINT64_C(1) << 32, UINT64_MAX};
     static uint64_t work[PI_WORK_WORDS];
     Call call, fine;
     PiCheckReply checked;
     size_t index;
 
-    tree_list(&tree, 1, nodes, COUNT(nodes));
+    tree_list(&tree, 1, assignment, COUNT(assignment));
     fine = call_of_tree();
 
     test_begin("register slice");
     for (call = fine, index = 0; index < MOST_STARTS; index += 1) {
         call.registers_length = index;
-        expect(&call, index == 1 ? PI_REFUSAL_NONE : PI_REFUSAL_REGISTERS, 0, index == 1 ? 3 : 0);
+        if (index == 1)
+            expect(&call, &assigned);
+        else
+            expect_refused(&call, PI_REFUSAL_REGISTERS, 0);
     }
     test_end();
 
     test_begin("budget above the greatest");
     for (call = fine, index = 0; index < COUNT(budgets); index += 1) {
         call.budget = budgets[index];
-        expect(&call, PI_REFUSAL_BUDGET, 0, 0);
+        expect_refused(&call, PI_REFUSAL_BUDGET, 0);
     }
     test_end();
 
     test_begin("work slice too short");
     for (call = fine, index = 0; index < 3; index += 1) {
         call.work_length = index == 0 ? 0 : index == 1 ? 1 : PI_WORK_WORDS - 1;
-        expect(&call, PI_REFUSAL_WORK, 0, 0);
+        expect_refused(&call, PI_REFUSAL_WORK, 0);
         checked = call_check(&call);
         if (checked.refusal != PI_REFUSAL_WORK)
             test_fault("check answers %" PRIu64, checked.refusal);
@@ -179,13 +193,13 @@ static void test_host_faults(void)
     test_begin("order 22, 21, the image, 20");
     call = fine;
     call.registers_length = 2;
-    expect(&call, PI_REFUSAL_REGISTERS, 0, 0);
+    expect_refused(&call, PI_REFUSAL_REGISTERS, 0);
     call.image_length = 5;
-    expect(&call, PI_REFUSAL_LENGTH, 0, 0);
+    expect_refused(&call, PI_REFUSAL_LENGTH, 0);
     call.budget = PI_MOST_BUDGET + 1;
-    expect(&call, PI_REFUSAL_BUDGET, 0, 0);
+    expect_refused(&call, PI_REFUSAL_BUDGET, 0);
     call.work_length = PI_WORK_WORDS - 1;
-    expect(&call, PI_REFUSAL_WORK, 0, 0);
+    expect_refused(&call, PI_REFUSAL_WORK, 0);
     test_end();
 
     test_begin("no pointer where the length is 0");
@@ -207,6 +221,9 @@ static void test_host_faults(void)
 
 static void test_sizes(void)
 {
+    /* Not of Not of ..: each leaves its mark on control. An odd count of them makes true false. */
+    static const PiRunReply deepest = {0, PI_OUTCOME_TRUTH, 0, 0, 2 * 63 + 1, MARKS(0, 0, 1, 64)};
+    static const PiRunReply longest = NONE(666 + 3 * 667, MARKS(1, 1, 2, 11));
     Call call;
     size_t past;
 
@@ -215,9 +232,9 @@ static void test_sizes(void)
         tree_of_depth(&tree, PI_MOST_DEPTH + past);
         call = call_of_tree();
         if (past)
-            expect(&call, PI_REFUSAL_DEPTH, PI_MOST_DEPTH, 0);
+            expect_refused(&call, PI_REFUSAL_DEPTH, PI_MOST_DEPTH);
         else
-            expect(&call, PI_REFUSAL_NONE, 0, 2 * 63 + 1);
+            expect(&call, &deepest);
         test_end();
 
         test_begin(past ? "2,001 nodes" : "2,000 nodes");
@@ -226,9 +243,9 @@ static void test_sizes(void)
             tree_add(&tree, PI_KIND_NUM, 0);
         call = call_of_tree();
         if (past)
-            expect(&call, PI_REFUSAL_COUNTS, 0, 0);
+            expect_refused(&call, PI_REFUSAL_COUNTS, 0);
         else
-            expect(&call, PI_REFUSAL_NONE, 0, 666 + 3 * 667);
+            expect(&call, &longest);
         test_end();
     }
 }
@@ -240,24 +257,27 @@ static void test_single_steps(void)
     static const Node product[] = {
         {PI_KIND_MUL, 0}, {PI_KIND_NUM, UINT32_MAX}, {PI_KIND_NUM, UINT32_MAX},
     };
+    PiRunReply withheld = REFUSED(PI_REFUSAL_STEPS, 0, 3, MARKS(0, 0, 2, 3));
     Call call;
 
     test_begin("no step left");
     tree_list(&tree, 0, product, COUNT(product));
     call = call_of_tree();
     call.budget = 3;
-    expect(&call, PI_REFUSAL_STEPS, 0, 3);
+    expect(&call, &withheld);
     test_end();
 
     test_begin("too great a product");
     call.budget = 4;
-    expect(&call, PI_REFUSAL_OUT_OF_RANGE, 0, 3);
+    withheld.refusal = PI_REFUSAL_OUT_OF_RANGE;
+    expect(&call, &withheld);
     test_end();
 
     test_begin("zero divisor");
     tree_list(&tree, 0, divided, COUNT(divided));
     call = call_of_tree();
-    expect(&call, PI_REFUSAL_ZERO_DIVISOR, 0, 3);
+    withheld.refusal = PI_REFUSAL_ZERO_DIVISOR;
+    expect(&call, &withheld);
     test_end();
 }
 
@@ -267,36 +287,43 @@ static void test_limits(void)
     static const struct {
         const char *name;
         Tower tower;
-        uint64_t refusal;
-        uint64_t steps;
+        PiRunReply reply;
     } towers[] = {
-        {"256 cells", {1, 15, 17, 1, 0, 0}, PI_REFUSAL_NONE, 2052},
-        {"a 257th cell", {1, 16, 16, 1, 0, 0}, PI_REFUSAL_CELLS, 2021},
-        {"512 bindings", {1, 30, 17, 0, 0, 0}, PI_REFUSAL_NONE, 3072},
-        {"a 513th binding", {2, 15, 17, 0, 0, 0}, PI_REFUSAL_BINDINGS, 3026},
-        {"512 value entries", {15, 15, 1, 0, 0, 0}, PI_REFUSAL_NONE, 1488},
-        {"a 513th value entry", {16, 14, 1, 0, 0, 0}, PI_REFUSAL_VALUES, 1229},
-        {"512 control entries", {10, 1, 1, 0, 48, 0}, PI_REFUSAL_NONE, 2073},
-        {"a 513th control entry", {11, 1, 1, 0, 44, 0}, PI_REFUSAL_CONTROL, 610},
-        /* A call has filled the value stack; its function's Blk would put 4 entries on control. */
-        {"a 513th value entry at a function's Blk", {13, 21, 1, 0, 22, 0}, PI_REFUSAL_VALUES, 1486},
-        {"a 513th entry on both stacks", {13, 21, 1, 0, 23, 0}, PI_REFUSAL_CONTROL, 1497},
+        {"256 cells", {1, 15, 17, 1, 0, 0}, NONE(2052, MARKS(256, 257, 67, 40))},
+        {"a 257th cell", {1, 16, 16, 1, 0, 0}, REFUSED(33, 0, 2021, MARKS(256, 257, 67, 40))},
+        {"512 bindings", {1, 30, 17, 0, 0, 0}, NONE(3072, MARKS(1, 512, 97, 54))},
+        {"a 513th binding", {2, 15, 17, 0, 0, 0}, REFUSED(34, 0, 3026, MARKS(1, 512, 101, 56))},
+        {"512 value entries", {15, 15, 1, 0, 0, 0}, NONE(1488, MARKS(1, 241, 512, 259))},
+        {"a 513th value entry", {16, 14, 1, 0, 0, 0}, REFUSED(35, 0, 1229, MARKS(1, 240, 512, 260))},
+        {"512 control entries", {10, 1, 1, 0, 48, 0}, NONE(2073, MARKS(1, 21, 62, 512))},
+        {"a 513th control entry", {11, 1, 1, 0, 44, 0}, REFUSED(36, 0, 610, MARKS(1, 23, 67, 512))},
+        /* A call has filled the value stack; its function's Blk would put 4 entries on control in
+           place of its own, so that the high mark there is 510. */
+        {"a 513th value entry at a function's Blk", {13, 21, 1, 0, 22, 0},
+         REFUSED(35, 0, 1486, MARKS(1, 245, 512, 499))},
+        {"a 513th entry on both stacks", {13, 21, 1, 0, 23, 0},
+         REFUSED(36, 0, 1497, MARKS(1, 245, 512, 510))},
         /* With two names a Blk has a DSeq. */
-        {"a 513th value entry in a second declaration", {15, 15, 2, 0, 0, 0}, PI_REFUSAL_VALUES, 2576},
-        {"a 513th control entry at a DSeq", {13, 1, 2, 0, 39, 0}, PI_REFUSAL_CONTROL, 692},
+        {"a 513th value entry in a second declaration", {15, 15, 2, 0, 0, 0},
+         REFUSED(35, 0, 2576, MARKS(1, 465, 512, 262))},
+        {"a 513th control entry at a DSeq", {13, 1, 2, 0, 39, 0},
+         REFUSED(36, 0, 692, MARKS(1, 38, 77, 510))},
     };
     size_t index;
     Call call;
 
     for (index = 0; index < COUNT(towers); index += 1) {
+        PiRunReply cut_off = towers[index].reply;
+
         test_begin(towers[index].name);
         tree_of_tower(&tree, &towers[index].tower);
         call = call_of_tree();
-        expect(&call, towers[index].refusal, 0, towers[index].steps);
-        /* Where no step is left either, that is said first. */
-        if (towers[index].refusal != PI_REFUSAL_NONE) {
-            call.budget = towers[index].steps;
-            expect(&call, PI_REFUSAL_STEPS, 0, towers[index].steps);
+        expect(&call, &towers[index].reply);
+        /* Where no step is left either, that is said first, with the same high marks. */
+        if (towers[index].reply.refusal != PI_REFUSAL_NONE) {
+            call.budget = towers[index].reply.steps;
+            cut_off.refusal = PI_REFUSAL_STEPS;
+            expect(&call, &cut_off);
         }
         test_end();
     }

@@ -115,9 +115,52 @@ static int steps_fit(const PiRunReply *reply, const Call *call)
     return reply->steps < call->budget;
 }
 
+static int is_no_mark(const PiRunReply *reply)
+{
+    return reply->cells == 0 && reply->bindings == 0 && reply->values == 0 && reply->control == 0;
+}
+
+/* Whether the size that a refusal is about was so near its limit that one step could pass it. */
+static int is_near_its_limit(const PiRunReply *reply)
+{
+    switch (reply->refusal) {
+    case PI_REFUSAL_CELLS: /* a step makes one cell at most */
+        return reply->cells == PI_MOST_CELLS;
+    case PI_REFUSAL_BINDINGS: /* a call binds its Formals at once */
+        return reply->bindings + PI_MOST_COUNT > PI_MOST_BINDINGS;
+    case PI_REFUSAL_VALUES: /* only a call's mark adds two, to an even count: two a block or call */
+        return reply->values == PI_MOST_VALUES;
+    case PI_REFUSAL_CONTROL: /* a Call puts its actuals and its mark in its own place */
+        return reply->control + PI_MOST_COUNT > PI_MOST_CONTROL;
+    default:
+        return 1;
+    }
+}
+
+/* Whether high marks may be those of a run of this image. */
+static int marks_fit(const PiRunReply *reply, const Call *call)
+{
+    uint64_t registers;
+
+    if (before_the_run(reply->refusal))
+        return is_no_mark(reply);
+    registers = call->image[1];
+    if (reply->cells < registers || reply->cells > PI_MOST_CELLS || reply->bindings < registers ||
+        reply->bindings > PI_MOST_BINDINGS || reply->values > PI_MOST_VALUES ||
+        reply->control > PI_MOST_CONTROL)
+        return 0;
+    /* Before the first step: the registers, and the root if there is one. */
+    if (reply->steps == 0)
+        return reply->cells == registers && reply->bindings == registers && reply->values == 0 &&
+               reply->control == (call->image[0] == 0 ? 0 : 1);
+    /* Whatever ends has had an entry on the value stack. */
+    return reply->control >= 1 && (reply->refusal != PI_REFUSAL_NONE || reply->values >= 1) &&
+           is_near_its_limit(reply);
+}
+
 void run_makes_sense(const PiRunReply *reply, const Call *call)
 {
-    int fits = steps_fit(reply, call);
+    int fits = steps_fit(reply, call) && marks_fit(reply, call);
 
     if (reply->refusal == PI_REFUSAL_NONE)
         fits = fits && reply->place == 0 && value_fits(reply);
@@ -126,7 +169,27 @@ void run_makes_sense(const PiRunReply *reply, const Call *call)
                reply->outcome == PI_OUTCOME_NONE && reply->value == 0 &&
                reply->place < places(reply->refusal, call);
     if (!fits)
-        test_fault("run answers refusal %" PRIu64 " at %" PRIu64 ", outcome %" PRIu64
-                   ", value %" PRId64 ", steps %" PRIu64,
-                   reply->refusal, reply->place, reply->outcome, reply->value, reply->steps);
+        test_fault("run answers what makes no sense: " RUN_FORMAT, RUN_ARGUMENTS(reply));
+}
+
+int is_same_reply(const PiRunReply *one, const PiRunReply *other)
+{
+    return one->refusal == other->refusal && one->outcome == other->outcome &&
+           one->value == other->value && one->place == other->place &&
+           one->steps == other->steps && one->cells == other->cells &&
+           one->bindings == other->bindings && one->values == other->values &&
+           one->control == other->control;
+}
+
+void same_reply(const char *what, const PiRunReply *one, const PiRunReply *other)
+{
+    if (!is_same_reply(one, other))
+        test_fault("%s: " RUN_FORMAT " and " RUN_FORMAT, what, RUN_ARGUMENTS(one),
+                   RUN_ARGUMENTS(other));
+}
+
+int marks_are_within(const PiRunReply *one, const PiRunReply *other)
+{
+    return one->cells <= other->cells && one->bindings <= other->bindings &&
+           one->values <= other->values && one->control <= other->control;
 }

@@ -183,6 +183,9 @@ all_parts() {
         'refused 11 at 0 (type: the node takes another type)'
     one_check 'annex is refused for its page' example_refused annex 's/PI_PAGE_BYTES(PI_MOST_NODES)/PI_PAGE_BYTES(11)/' \
         'refused 41 at 0 (short page: the page is shorter than 31 bytes a node)'
+    one_check 'service screen builds' gcc -std=c99 "${stricter[@]}" -o "$built/service_screen" \
+        examples/service_screen.c "$archive"
+    one_check 'service screen says what is stored' says_as_stored service_screen
     one_check 'page of the header' header_page
     one_check 'names of the header' header_names
     one_check 'usage of this script' usage_says

@@ -28,6 +28,14 @@ void test_division(void);
 size_t division_calls(void);
 Call division_call(size_t index, uint32_t *image);
 
+/* The high marks of runs; and the calls of some, for other tests. */
+void test_marks(void);
+size_t marks_calls(void);
+Call marks_call(size_t index, uint32_t *image);
+
+/* No high marks before the first step, and those at a limit. */
+void test_marks_refused(void);
+
 /* Needs of routines that are listed by hand, and of a given number of steps. */
 void test_needs(void);
 void test_needed_steps(void);

@@ -56,7 +56,8 @@ static void *work_alone(void *argument)
         registers[1] = worker->above;
         reply = pi_run(factorial, factorial_length, registers, 2, PI_MOST_BUDGET, worker->work,
                        PI_WORK_WORDS);
-        if (reply.refusal != PI_REFUSAL_NONE || registers[0] != worker->expected)
+        if (reply.refusal != PI_REFUSAL_NONE || registers[0] != worker->expected ||
+            reply.cells != 2 || reply.bindings != 2 || reply.values != 3 || reply.control != 6)
             worker->faults += 1;
         needs = pi_needs(factorial, factorial_length, worker->work, PI_WORK_WORDS);
         if (needs.refusal != PI_REFUSAL_NONE || needs.control != 6 || needs.values != 3 ||

@@ -21,15 +21,28 @@ pub const COMMAND: u64 = 8;
 /// run ended normally, the outcome is one of [`NONE`], [`NUMBER`], [`TRUTH`] and
 /// [`CELL`], the value is the number as a two's complement word, 0 or 1, the cell's
 /// number, or 0 for none, and the place is 0. Otherwise the paper's number and place,
-/// and outcome and value are 0.
+/// and outcome and value are 0. Then the steps made, and the high marks: the most cells,
+/// bindings, value entries and control entries over all states reached; steps and marks
+/// are 0 for 1 to 22.
 #[repr(C)]
-#[derive(Clone, Copy, Debug, PartialEq, Eq)]
+#[derive(Clone, Copy, Debug, Default, PartialEq, Eq)]
 pub struct RunReply {
     pub refusal: u64,
     pub outcome: u64,
     pub value: u64,
     pub place: u64,
     pub steps: u64,
+    pub cells: u64,
+    pub bindings: u64,
+    pub values: u64,
+    pub control: u64,
+}
+
+impl RunReply {
+    /// The high marks in the order of the program's line, `most C B V K`.
+    pub fn marks(&self) -> [u64; 4] {
+        [self.cells, self.bindings, self.values, self.control]
+    }
 }
 
 /// The outcomes of a run that ended normally.

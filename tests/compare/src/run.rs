@@ -28,20 +28,28 @@ impl Ran {
 
 /// The reply in the engine's numbers.
 pub fn reply_of(reply: Reply) -> RunReply {
-    let Reply { outcome, steps } = reply;
-    let ended = |outcome, value| RunReply { refusal: 0, outcome, value, place: 0, steps };
-    match outcome {
-        Outcome::Number(number) => ended(NUMBER, number as u64),
-        Outcome::Truth(truth) => ended(TRUTH, truth.into()),
-        Outcome::Cell(Location(number)) => ended(CELL, number.into()),
-        Outcome::None => ended(NONE, 0),
-        Outcome::Refused(Refusal { number, place }) => {
-            RunReply { refusal: number.into(), outcome: 0, value: 0, place: place.into(), steps }
-        }
+    let Reply { outcome, steps, marks } = reply;
+    let (refusal, outcome, value, place) = match outcome {
+        Outcome::Number(number) => (0, NUMBER, number as u64, 0),
+        Outcome::Truth(truth) => (0, TRUTH, truth.into(), 0),
+        Outcome::Cell(Location(number)) => (0, CELL, number.into(), 0),
+        Outcome::None => (0, NONE, 0, 0),
+        Outcome::Refused(Refusal { number, place }) => (number.into(), 0, 0, place.into()),
+    };
+    RunReply {
+        refusal,
+        outcome,
+        value,
+        place,
+        steps,
+        cells: marks.cells as u64,
+        bindings: marks.bindings as u64,
+        values: marks.values as u64,
+        control: marks.control as u64,
     }
 }
 
-/// A reply without its value, place and steps: the refusal, or 0, and the answer
+/// A reply without its value, place, steps and marks: the refusal, or 0, and the answer
 /// in words.
 pub fn in_words(reply: Reply) -> (u32, String) {
     match reply.outcome {
@@ -121,7 +129,8 @@ pub fn as_words(integers: &[i64]) -> Vec<u64> {
 
 /// A reply as the paper would say it, with its numbers.
 pub fn in_full(reply: RunReply) -> String {
-    let RunReply { refusal, outcome, value, place, steps } = reply;
+    let RunReply { refusal, outcome, value, place, steps, .. } = reply;
+    let [cells, bindings, values, control] = reply.marks();
     let words = match (refusal, outcome, value, place) {
         (0, NONE, 0, 0) => "none".to_string(),
         (0, NUMBER, number, 0) => format!("number {}", number as i64),
@@ -131,7 +140,7 @@ pub fn in_full(reply: RunReply) -> String {
         _ => "what is no reply".to_string(),
     };
     format!(
-        "{words}, steps {steps} \
+        "{words}, steps {steps}, most {cells} {bindings} {values} {control} \
          (refusal {refusal}, outcome {outcome}, value {value:#x}, place {place})"
     )
 }

@@ -12,7 +12,13 @@
 #endif
 HOLDS(version_is_text, sizeof PI_VERSION >= sizeof "0.0.0");
 HOLDS(check_reply_is_three_words, sizeof(PiCheckReply) == 3 * sizeof(uint64_t));
-HOLDS(run_reply_is_five_words, sizeof(PiRunReply) == 5 * sizeof(uint64_t));
+HOLDS(run_reply_is_nine_words, sizeof(PiRunReply) == 9 * sizeof(uint64_t));
+HOLDS(run_reply_in_order,
+      offsetof(PiRunReply, refusal) == 0 && offsetof(PiRunReply, outcome) == 8 &&
+          offsetof(PiRunReply, value) == 16 && offsetof(PiRunReply, place) == 24 &&
+          offsetof(PiRunReply, steps) == 32 && offsetof(PiRunReply, cells) == 40 &&
+          offsetof(PiRunReply, bindings) == 48 && offsetof(PiRunReply, values) == 56 &&
+          offsetof(PiRunReply, control) == 64);
 HOLDS(needs_reply_is_eight_words, sizeof(PiNeedsReply) == 8 * sizeof(uint64_t));
 HOLDS(needs_reply_in_order,
       offsetof(PiNeedsReply, refusal) == 0 && offsetof(PiNeedsReply, place) == 8 &&
@@ -86,27 +92,32 @@ int main(void)
         return 1;
     if (needs.refusal != checked.refusal || needs.place != checked.place || needs.steps != 0)
         return 2;
-    if (name_of(checked.refusal) == 0 || name_of(PI_REFUSAL_NONE) != 0)
+    if (ran.cells != 0 || ran.bindings != 0 || ran.values != 0 || ran.control != 0)
         return 3;
+    if (name_of(checked.refusal) == 0 || name_of(PI_REFUSAL_NONE) != 0)
+        return 4;
     checked = pi_check_bytes(bytes, PI_IMAGE_BYTES(1), work, PI_WORK_WORDS);
     ran = pi_run_bytes(bytes, PI_IMAGE_BYTES(1), 0, 0, PI_MOST_BUDGET, work, PI_WORK_WORDS);
     code = (PiCode)checked.value;
     outcome = (PiOutcome)ran.outcome;
     if (code != PI_CODE_INTEGER || outcome != PI_OUTCOME_NUMBER || ran.value != 7)
-        return 4;
+        return 5;
     /* Num 7 again, in words. */
     needs = pi_needs(number, PI_IMAGE_WORDS(1), work, PI_WORK_WORDS);
     if (needs.refusal != PI_REFUSAL_NONE || needs.control != 1 || needs.values != 1 ||
         needs.cells != 0 || needs.bindings != 0 || needs.steps != ran.steps || needs.open != 0)
-        return 5;
-    if (paged.refusal != PI_REFUSAL_UNBOUND || paged.place != 0 || page[0] != 0)
         return 6;
+    if (ran.cells != needs.cells || ran.bindings != needs.bindings || ran.values != needs.values ||
+        ran.control != needs.control)
+        return 7;
+    if (paged.refusal != PI_REFUSAL_UNBOUND || paged.place != 0 || page[0] != 0)
+        return 8;
     paged = pi_page(number, PI_IMAGE_WORDS(1), page, PI_PAGE_LINE_BYTES - 1, work, PI_WORK_WORDS);
     if (paged.refusal != PI_REFUSAL_SHORT_PAGE || name_of(paged.refusal) == 0 || page[0] != 0)
-        return 7;
+        return 9;
     paged = write_page(number, PI_IMAGE_WORDS(1), page, PI_PAGE_BYTES(1), work, PI_WORK_WORDS);
     if (paged.refusal != PI_REFUSAL_NONE || paged.place != 0 || page[24] != '7' ||
         page[PI_PAGE_LINE_BYTES - 1] != '\n' || page[PI_PAGE_LINE_BYTES] != 0)
-        return 8;
+        return 10;
     return 0;
 }

@@ -6,9 +6,10 @@ use image::needs::needs_of;
 use image::page::page_of;
 use image::parse::{parse, Listing};
 use image::print::print;
+use image::run::run_of;
 use image::show::show;
 use image::stored::split;
-use image::values::{missing, values};
+use image::values::{missing, values, values_or_none};
 use second::command_line::{arguments, asks_for_help, complain, write_out};
 use second::encode::program_input;
 use second::reader::read;
@@ -28,6 +29,11 @@ usage: image COMMAND FILE
   text FILE              an image as a text, which make turns into the same image
   find FILE              where in a text its routine is refused, or what it passes as
   find FILE NUMBER       where in a text the node of this number stands
+  run FILE VALUE..       runs a text's routine with a starting value for each register, by
+                         the second interpreter and with the program's budget of
+                         1,000,000 steps, and prints what the program prints: the
+                         outcome, `steps K`, `most C B V K` and the registers; or where
+                         the routine is refused
   needs FILE             what a text's routine needs at most before it is loaded: entries
                          of control and of values, cells, bindings, and steps, which are
                          open where it has a Loop; or where it is refused
@@ -53,11 +59,15 @@ In `refused N at P` the refusal's number is N, as `image refusals` lists them. F
 and 10 to 14, P is the number of a node, which show marks and find finds. If several of
 30 to 36 hold of a step, the first in the order 30, 31, 32, 33, 34, 36, 35 is told.
 
+In `most C B V K` C is the most live cells, B the most live bindings, V the most entries of
+the value stack and K the most of the control stack over all states of the run, the first
+included. The registers are among the cells and the bindings.
+
 Exit status: 0 where the command is done, a refusal shown too; 2 where the text or the
 command line is wrong or a stream fails.
 ";
 
-const COMMANDS: [&str; 7] = ["make", "show", "text", "find", "needs", "page", "refusals"];
+const COMMANDS: [&str; 8] = ["make", "show", "text", "find", "run", "needs", "page", "refusals"];
 
 /// What a command line gives: the output, and what is to be said beside it.
 struct Given {
@@ -90,6 +100,11 @@ fn answer(arguments: &[String]) -> Result<Given, String> {
         ["text", file] => text_again(file)?,
         ["find", file] => find_refusal(file, &listing(file)?),
         ["find", file, number] => find_node(file, &listing(file)?, number)?,
+        ["run", file, given @ ..] => {
+            let listing = listing(file)?;
+            let starts = values(file, listing.registers, given)?;
+            return Ok(Given { output: run_of(file, &listing, &starts), note: None });
+        }
         ["needs", file] => {
             let (output, note) = needs_of(file, &listing(file)?);
             return Ok(Given { output: output.into(), note });
@@ -111,7 +126,7 @@ fn listing(file: &str) -> Result<Listing, String> {
 
 fn make(file: &str, given: &[&str]) -> Result<Given, String> {
     let listing = listing(file)?;
-    let values = values(file, listing.registers, given)?;
+    let values = values_or_none(file, listing.registers, given)?;
     let note = if values.is_empty() { missing(file, listing.registers) } else { None };
     Ok(Given { output: program_input(&listing.image(), &values), note })
 }

@@ -1,11 +1,21 @@
-//! The starting values of a command line: one for each register, or none.
+//! The starting values of a command line: one for each register, or none where an image is
+//! made without them.
 
 use crate::files::named;
 
-/// The values, or what is wrong with them for the text in this file.
+/// One value for each register, or none; or what is wrong with them for the text in this
+/// file.
+pub fn values_or_none(file: &str, registers: u32, given: &[&str]) -> Result<Vec<i64>, String> {
+    match given {
+        [] => Ok(Vec::new()),
+        _ => values(file, registers, given),
+    }
+}
+
+/// One value for each register; or what is wrong with them for the text in this file.
 pub fn values(file: &str, registers: u32, given: &[&str]) -> Result<Vec<i64>, String> {
     let values = given.iter().map(|word| value(word)).collect::<Result<Vec<i64>, String>>()?;
-    if values.is_empty() || values.len() == registers as usize {
+    if values.len() == registers as usize {
         return Ok(values);
     }
     let has = format!("{} has {}", named(file), counted(registers as usize, "register"));

@@ -6,7 +6,7 @@
 //! other than 8r are 20.
 
 use crate::encode::register_bytes;
-use crate::engine::{self, Answer, Outcome, Reply, MOST_BUDGET, WORK_WORDS};
+use crate::engine::{self, Answer, Reply, MOST_BUDGET, WORK_WORDS};
 use crate::reader::Counts;
 use crate::refusal::{self, Refusal};
 use crate::tree::Routine;
@@ -36,7 +36,7 @@ pub fn run(image: &[u8], registers: &mut [u8], budget: u64, work_length: usize) 
             registers.copy_from_slice(&register_bytes(&values));
             reply
         }
-        Err(refusal) => Reply { outcome: Outcome::Refused(refusal), steps: 0 },
+        Err(refusal) => Reply::refused(refusal),
     }
 }
 

@@ -7,7 +7,7 @@ use crate::needs::{self, Needs};
 use crate::page::lines_of;
 use crate::reader;
 use crate::refusal::{self, Refusal};
-use crate::state::{State, ValueEntry};
+use crate::state::{Heights, State, ValueEntry};
 use crate::store::{Location, Value};
 use crate::tree::{Code, Routine};
 
@@ -26,11 +26,13 @@ pub enum Answer {
     Refused(Refusal),
 }
 
-/// The run's answer: an outcome or a refusal, and the steps made.
+/// The run's answer: an outcome or a refusal, the steps made, and the high marks: the
+/// most of each height over all states reached, the first included.
 #[derive(Clone, Copy, Debug, PartialEq, Eq)]
 pub struct Reply {
     pub outcome: Outcome,
     pub steps: u64,
+    pub marks: Heights,
 }
 
 #[derive(Clone, Copy, Debug, PartialEq, Eq)]
@@ -54,22 +56,22 @@ pub fn check(image: &[u32], work_length: usize) -> Answer {
     }
 }
 
-/// A run tests 22, 21, the image, 20, then steps. 1 to 22 report 0 steps and
-/// keep the registers; 30 to 36 report the steps made and leave the registers
-/// as before the withheld step.
+/// A run tests 22, 21, the image, 20, then steps. 1 to 22 report 0 steps and marks
+/// of 0, and keep the registers; 30 to 36 report the steps made and the marks until
+/// then, and leave the registers as before the withheld step.
 pub fn run(image: &[u32], registers: &mut [i64], budget: u64, work_length: usize) -> Reply {
     if work_length < WORK_WORDS {
-        return refused(Refusal::whole(refusal::WORK), 0);
+        return Reply::refused(Refusal::whole(refusal::WORK));
     }
     if budget > MOST_BUDGET {
-        return refused(Refusal::whole(refusal::BUDGET), 0);
+        return Reply::refused(Refusal::whole(refusal::BUDGET));
     }
     let routine = match pass(image) {
         Ok((routine, _)) => routine,
-        Err(refusal) => return refused(refusal, 0),
+        Err(refusal) => return Reply::refused(refusal),
     };
     if registers.len() != routine.registers as usize {
-        return refused(Refusal::whole(refusal::REGISTERS), 0);
+        return Reply::refused(Refusal::whole(refusal::REGISTERS));
     }
     run_passed(&routine, registers, budget)
 }
@@ -77,12 +79,15 @@ pub fn run(image: &[u32], registers: &mut [i64], budget: u64, work_length: usize
 /// The steps of a routine that has passed, over as many registers as it has.
 pub fn run_passed(routine: &Routine, registers: &mut [i64], budget: u64) -> Reply {
     let mut execution = Execution::start(routine, registers, budget);
-    let reason = execution.finish(|_| {});
+    // A withheld step's state is not reached, and so not looked at.
+    let mut marks = Heights::default();
+    let reason = execution.finish(|at| marks.raise(at.state().heights()));
     registers.copy_from_slice(&execution.state().registers(registers.len()));
-    match reason {
-        Some(reason) => refused(Refusal::whole(reason), execution.steps()),
-        None => Reply { outcome: outcome(execution.state()), steps: execution.steps() },
-    }
+    let outcome = match reason {
+        Some(reason) => Outcome::Refused(Refusal::whole(reason)),
+        None => outcome(execution.state()),
+    };
+    Reply { outcome, steps: execution.steps(), marks }
 }
 
 /// The needs alone test 22, then the image, then 40. This effort is made to find them.
@@ -129,6 +134,11 @@ impl Answer {
 }
 
 impl Reply {
+    /// A call refused before its first state: no steps, and no marks.
+    pub fn refused(refusal: Refusal) -> Reply {
+        Reply { outcome: Outcome::Refused(refusal), steps: 0, marks: Heights::default() }
+    }
+
     pub fn refusal(self) -> Option<Refusal> {
         match self.outcome {
             Outcome::Refused(refusal) => Some(refusal),
@@ -142,10 +152,6 @@ pub fn pass(image: &[u32]) -> Result<(Routine, Passed), Refusal> {
     let routine = reader::read(image)?;
     let passed = checker::judge(&routine)?;
     Ok((routine, passed))
-}
-
-fn refused(refusal: Refusal, steps: u64) -> Reply {
-    Reply { outcome: Outcome::Refused(refusal), steps }
 }
 
 /// The outcome of a run that ended normally: V is empty for a command, and where

@@ -100,11 +100,3 @@ pub fn reasons_of_room(after: Heights) -> [Option<u32>; 4] {
         over(after.values, MOST_VALUES, refusal::VALUES),
     ]
 }
-
-/// The most of each over all states of a run, the first included.
-pub fn high_marks(routine: &Routine, starts: &[i64], budget: u64) -> Heights {
-    let mut marks = Heights::default();
-    Execution::start(routine, starts, budget)
-        .finish(|execution| marks.raise(execution.state().heights()));
-    marks
-}

@@ -18,7 +18,10 @@ second: the second interpreter of the Π IR routine engine
 usage: second COMMAND [--hex]
 
   program                    standard input: an image and its starting values, as
-                             the program reads them; prints the program's output
+                             the program reads them; prints the program's output:
+                             the outcome, `steps K`, `most C B V K` with the most
+                             cells, bindings, value entries and control entries
+                             over all states of the run, and the registers
   run BUDGET                 the same at another budget
   check                      standard input: an image; prints `code C`, `command`
                              or `refused N at P`

@@ -48,13 +48,13 @@ pub enum Needs {
 
 /// Figures without a Loop.
 pub fn given(control: usize, values: usize, cells: usize, bindings: usize, steps: u64) -> Needs {
-    let room = Heights { cells, bindings, values, control };
+    let room = Heights::new(cells, bindings, values, control);
     Needs::Figures(Figures { room, steps: Steps::Most(steps) })
 }
 
 /// Figures with a Loop.
 pub fn open(control: usize, values: usize, cells: usize, bindings: usize) -> Needs {
-    let room = Heights { cells, bindings, values, control };
+    let room = Heights::new(cells, bindings, values, control);
     Needs::Figures(Figures { room, steps: Steps::Open })
 }
 

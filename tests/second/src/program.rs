@@ -6,6 +6,7 @@ use crate::engine::{run, Answer, Outcome, Reply, MOST_BUDGET, WORK_WORDS};
 use crate::needs::{Figures, Needs, Steps};
 use crate::reader::Counts;
 use crate::refusal::{self, Refusal};
+use crate::state::Heights;
 
 /// The program's whole output for these bytes of standard input.
 pub fn program(input: &[u8]) -> Vec<u8> {
@@ -42,10 +43,11 @@ fn split(input: &[u8]) -> Result<(Vec<u32>, Vec<i64>), u32> {
 }
 
 fn refused(number: u32) -> Reply {
-    Reply { outcome: Outcome::Refused(Refusal::whole(number)), steps: 0 }
+    Reply::refused(Refusal::whole(number))
 }
 
-/// One line each: the outcome, the steps, then each register unless 1 to 22.
+/// One line each: the outcome, the steps, the high marks, then each register unless 1
+/// to 22.
 pub fn print(reply: Reply, registers: &[i64]) -> Vec<u8> {
     let mut text = match reply.outcome {
         Outcome::Number(number) => format!("number {number}\n"),
@@ -55,6 +57,8 @@ pub fn print(reply: Reply, registers: &[i64]) -> Vec<u8> {
         Outcome::Refused(refusal) => refused_line(refusal),
     };
     text += &format!("steps {}\n", reply.steps);
+    let Heights { cells, bindings, values, control } = reply.marks;
+    text += &format!("most {cells} {bindings} {values} {control}\n");
     let silent = reply.refusal().is_some_and(|refusal| refusal::before_the_run(refusal.number));
     if !silent {
         for (index, value) in registers.iter().enumerate() {

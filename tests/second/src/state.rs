@@ -128,7 +128,8 @@ impl<'t> State<'t> {
     }
 }
 
-/// The four things that have a limit, counted in one state.
+/// The four things that have a limit, counted in one state; or the most of each over
+/// several states.
 #[derive(Clone, Copy, Debug, Default, PartialEq, Eq)]
 pub struct Heights {
     pub cells: usize,
@@ -138,11 +139,24 @@ pub struct Heights {
 }
 
 impl Heights {
+    /// In the order of the program's line, `most C B V K`.
+    pub const fn new(cells: usize, bindings: usize, values: usize, control: usize) -> Heights {
+        Heights { cells, bindings, values, control }
+    }
+
     /// Raise each to the other's where that is higher: high marks over states.
     pub fn raise(&mut self, other: Heights) {
         self.cells = self.cells.max(other.cells);
         self.bindings = self.bindings.max(other.bindings);
         self.values = self.values.max(other.values);
         self.control = self.control.max(other.control);
+    }
+
+    /// None is above the other's.
+    pub fn within(self, most: Heights) -> bool {
+        self.cells <= most.cells
+            && self.bindings <= most.bindings
+            && self.values <= most.values
+            && self.control <= most.control
     }
 }

@@ -15,6 +15,7 @@ use second::generate::random::Random;
 use second::generate::Case;
 use second::needs::Needs;
 pub use second::needs::{given, open};
+use second::state::Heights;
 use second::tree::{Place, Root};
 use second::Refusal;
 
@@ -63,9 +64,19 @@ pub fn outcome(root: impl Into<Root>, starts: &[i64]) -> (Outcome, u64) {
     (reply.outcome, reply.steps)
 }
 
-/// The refusal and the steps of a run withheld for this reason.
-pub fn withheld(number: u32, steps: u64) -> Reply {
-    Reply { outcome: refused(number, 0), steps }
+/// The reply of a run that ended normally with a command's outcome.
+pub fn ended(steps: u64, marks: Heights) -> Reply {
+    Reply { outcome: Outcome::None, steps, marks }
+}
+
+/// The reply of a run withheld for this reason.
+pub fn withheld(number: u32, steps: u64, marks: Heights) -> Reply {
+    Reply { outcome: refused(number, 0), steps, marks }
+}
+
+/// The reply to a call refused before its first step.
+pub fn not_run(number: u32, place: Place) -> Reply {
+    Reply { outcome: refused(number, place), steps: 0, marks: Heights::new(0, 0, 0, 0) }
 }
 
 pub fn refused(number: u32, place: Place) -> Outcome {

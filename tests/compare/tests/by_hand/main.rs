@@ -27,6 +27,8 @@ mod choices;
 mod division;
 #[path = "../../../second/tests/suite/limits.rs"]
 mod limits;
+#[path = "../../../second/tests/suite/marks.rs"]
+mod marks;
 #[path = "../../../second/tests/suite/need_functions.rs"]
 mod need_functions;
 #[path = "../../../second/tests/suite/need_limits.rs"]

@@ -40,6 +40,8 @@ command
     let needs = "control 0\nvalues 0\ncells 2\nbindings 2\nsteps 0\n";
     assert_eq!(text_said(&["needs", "-"], text.as_bytes()), needs);
     assert_eq!(text_said(&["page", "-"], text.as_bytes()), "");
+    let ran = "none\nsteps 0\nmost 2 2 0 0\nregister 0 -5\nregister 1 6\n";
+    assert_eq!(text_said(&["run", "-", "-5", "6"], text.as_bytes()), ran);
     let no_node = |number: &str| {
         let message = format!("standard input has no routine, so it has no node {number}");
         wrong(&["find", "-", number], text.as_bytes(), &message);
@@ -121,13 +123,14 @@ fn help_is_everywhere() {
     for arguments in [&["--help"], &["-h"]] {
         assert_eq!(text_said(arguments, &[]), help);
     }
-    for command in ["make", "show", "text", "find", "needs", "page", "refusals"] {
+    for command in ["make", "show", "text", "find", "run", "needs", "page", "refusals"] {
         assert!(help.contains(&format!("\n  {command} ")), "{command}");
         assert_eq!(text_said(&["help", command], &[]), help);
         assert_eq!(text_said(&[command, "--help"], &[]), help);
         assert_eq!(text_said(&[command, "-h"], &[]), help);
     }
     assert_eq!(text_said(&["make", "routine.pi", "--help"], &[]), help);
+    assert_eq!(text_said(&["run", "routine.pi", "5", "--help"], &[]), help);
 }
 
 /// The text in the help is one that make takes.
@@ -144,13 +147,13 @@ fn bad_usage_says_what_is_wrong() {
     wrong(&[], b"", "no command; `image help` lists them");
     wrong(&["walk"], b"", "no command walk; `image help` lists them");
     wrong(&["walk", "--help"], b"", "no command walk; `image help` lists them");
-    for command in ["make", "show", "text", "find", "needs", "page"] {
+    for command in ["make", "show", "text", "find", "run", "needs", "page"] {
         wrong(&[command], b"", &format!("wrong arguments for {command}; see `image help`"));
     }
     wrong(&["needs", "-", "8192"], b"", "wrong arguments for needs; see `image help`");
     wrong(&["page", "-", "62"], b"", "wrong arguments for page; see `image help`");
     wrong(&["refusals", "-"], b"", "wrong arguments for refusals; see `image help`");
-    for command in ["make", "find", "needs", "page"] {
+    for command in ["make", "find", "run", "needs", "page"] {
         let no_expression = "-:2:6: an expression must stand here, not `5`";
         wrong(&[command, "-"], b"registers 0\n(Not 5)", no_expression);
     }

@@ -61,6 +61,7 @@ fn wrong_starting_values() {
         "100000000000000000000000000000000000000000",
     ] {
         wrong(&["make", &one, value], b"", &format!("{value} is out of range: {range}"));
+        wrong(&["run", &one, value], b"", &format!("{value} is out of range: {range}"));
     }
     for value in ["x", "", "-", "+", "--1", "1.5", "0x10", "9223372036854775808u"] {
         wrong(&["make", &one, value], b"", &format!("a starting value is an integer, not {value}"));
@@ -78,6 +79,19 @@ fn wrong_counts_of_starting_values() {
     wrong(&["make", &two, "1"], b"", &format!("{two} has 2 registers, {given}"));
     let given = "and 2 starting values were given";
     wrong(&["make", &one, "1", "2"], b"", &format!("{one} has 1 register, {given}"));
+    wrong(&["run", &one, "1", "2"], b"", &format!("{one} has 1 register, {given}"));
+    // A run takes no image without its values.
+    let given = "and 0 starting values were given";
+    wrong(&["run", &one], b"", &format!("{one} has 1 register, {given}"));
+    wrong(&["run", &two], b"", &format!("{two} has 2 registers, {given}"));
+    let given = "and 1 starting value was given";
+    wrong(&["run", &two, "1"], b"", &format!("{two} has 2 registers, {given}"));
+    wrong(&["run", &none, "1"], b"", &format!("{none} has 0 registers, {given}"));
+    wrong(
+        &["run", "-"],
+        DOUBLE.as_bytes(),
+        "standard input has 1 register, and 0 starting values were given",
+    );
 }
 
 #[test]
@@ -96,6 +110,7 @@ fn an_image_where_a_text_is_wanted() {
         wrong(&["make", &file, "5"], b"", &message);
         wrong(&["find", &file], b"", &message);
         wrong(&["find", &file, "0"], b"", &message);
+        wrong(&["run", &file, "5"], b"", &message);
         wrong(&["needs", &file], b"", &message);
         wrong(&["page", &file], b"", &message);
     }

@@ -26,6 +26,7 @@ fn output_that_fails() {
         (&["make", "-", "5"][..], DOUBLE.as_bytes()),
         (&["make", "-"], DOUBLE.as_bytes()),
         (&["find", "-"], DOUBLE.as_bytes()),
+        (&["run", "-", "5"], DOUBLE.as_bytes()),
         (&["needs", "-"], DOUBLE.as_bytes()),
         (&["page", "-"], DOUBLE.as_bytes()),
         (&["show", "-"], &bytes_of(&double())),

@@ -3,6 +3,7 @@
 use crate::helpers::*;
 use second::build::*;
 use second::engine::Outcome;
+use second::state::Heights;
 use second::tree::Operator::{self, *};
 
 const LEAST: i64 = i64::MIN;
@@ -118,6 +119,6 @@ fn faults_leave_the_registers_as_they_were() {
     let root = cseq(assign(0, num(5)), assign(0, div(num(1), num(0))));
     let (reply, registers) = run_tree(root, &[9]);
     // CSeq; Assign, Num, mark; Assign, Div, 1, 0.
-    assert_eq!(reply, withheld(31, 8));
+    assert_eq!(reply, withheld(31, 8, Heights::new(1, 1, 3, 4)));
     assert_eq!(registers, [5]);
 }

@@ -5,27 +5,29 @@ use second::build::*;
 use second::engine::{Outcome, Reply, MOST_BUDGET};
 use second::execution::{Advance, Execution};
 use second::reader::read;
+use second::state::Heights;
 
 #[test]
 fn a_run_that_just_fits_ends_normally() {
     let image = image(1, assign(0, num(7)));
-    assert_eq!(run_at(&image, &[0], 3), (Reply { outcome: Outcome::None, steps: 3 }, vec![7]));
-    assert_eq!(run_at(&image, &[0], 4), (Reply { outcome: Outcome::None, steps: 3 }, vec![7]));
+    let most = Heights::new(1, 1, 2, 2);
+    assert_eq!(run_at(&image, &[0], 3), (ended(3, most), vec![7]));
+    assert_eq!(run_at(&image, &[0], 4), (ended(3, most), vec![7]));
     // The withheld third step would have stored.
-    assert_eq!(run_at(&image, &[0], 2), (withheld(30, 2), vec![0]));
-    assert_eq!(run_at(&image, &[0], 1), (withheld(30, 1), vec![0]));
-    assert_eq!(run_at(&image, &[0], 0), (withheld(30, 0), vec![0]));
+    assert_eq!(run_at(&image, &[0], 2), (withheld(30, 2, most), vec![0]));
+    assert_eq!(run_at(&image, &[0], 1), (withheld(30, 1, Heights::new(1, 1, 1, 2)), vec![0]));
+    assert_eq!(run_at(&image, &[0], 0), (withheld(30, 0, Heights::new(1, 1, 0, 1)), vec![0]));
 }
 
 /// 30 is judged before the rule: it beats 31 and 32.
 #[test]
 fn the_budget_comes_before_arithmetic() {
-    let zero = image(0, div(num(1), num(0)));
-    assert_eq!(run_at(&zero, &[], 3).0, withheld(30, 3));
-    assert_eq!(run_at(&zero, &[], 4).0, withheld(31, 3));
-    let over = image(1, mul(id(0), id(0)));
-    assert_eq!(run_at(&over, &[i64::MAX], 3).0, withheld(30, 3));
-    assert_eq!(run_at(&over, &[i64::MAX], 4).0, withheld(32, 3));
+    let (zero, marks) = (image(0, div(num(1), num(0))), Heights::new(0, 0, 2, 3));
+    assert_eq!(run_at(&zero, &[], 3).0, withheld(30, 3, marks));
+    assert_eq!(run_at(&zero, &[], 4).0, withheld(31, 3, marks));
+    let (over, marks) = (image(1, mul(id(0), id(0))), Heights::new(1, 1, 2, 3));
+    assert_eq!(run_at(&over, &[i64::MAX], 3).0, withheld(30, 3, marks));
+    assert_eq!(run_at(&over, &[i64::MAX], 4).0, withheld(32, 3, marks));
 }
 
 #[test]
@@ -34,7 +36,13 @@ fn an_endless_loop_uses_the_whole_budget() {
     // A round is Loop, Boo, mark, Assign, Sum, Id, Num, mark, mark: 9 steps.
     for budget in [0, 1, 8, 9, 10, 17, 18, 900, MOST_BUDGET] {
         let (reply, registers) = run_at(&image, &[0], budget);
-        assert_eq!(reply, withheld(30, budget));
+        // The most are met in the first round: at Sum's step, and at Num's.
+        let marks = match budget {
+            0 => Heights::new(1, 1, 0, 1),
+            1 => Heights::new(1, 1, 1, 2),
+            _ => Heights::new(1, 1, 3, 5),
+        };
+        assert_eq!(reply, withheld(30, budget, marks));
         assert_eq!(registers, [(budget / 9) as i64]);
     }
 }
@@ -42,10 +50,11 @@ fn an_endless_loop_uses_the_whole_budget() {
 #[test]
 fn budget_1000000_passes_and_one_more_is_21() {
     let image = image(0, num(3));
-    assert_eq!(run_at(&image, &[], 1_000_000).0, Reply { outcome: Outcome::Number(3), steps: 1 });
-    let refused_21 = Reply { outcome: refused(21, 0), steps: 0 };
-    assert_eq!(run_at(&image, &[], 1_000_001).0, refused_21);
-    assert_eq!(run_at(&image, &[], u64::MAX).0, refused_21);
+    let marks = Heights::new(0, 0, 1, 1);
+    let number = Reply { outcome: Outcome::Number(3), steps: 1, marks };
+    assert_eq!(run_at(&image, &[], 1_000_000).0, number);
+    assert_eq!(run_at(&image, &[], 1_000_001).0, not_run(21, 0));
+    assert_eq!(run_at(&image, &[], u64::MAX).0, not_run(21, 0));
 }
 
 /// Control empty is the end and no step, with budget left or without.
@@ -66,7 +75,7 @@ fn the_empty_control_stack_is_no_step() {
 #[test]
 fn no_routine_needs_no_budget() {
     for budget in [0, 1, MOST_BUDGET] {
-        let expected = (Reply { outcome: Outcome::None, steps: 0 }, vec![4, 5]);
+        let expected = (ended(0, Heights::new(2, 2, 0, 0)), vec![4, 5]);
         assert_eq!(run_at(&image(2, absent()), &[4, 5], budget), expected);
     }
 }

@@ -6,6 +6,7 @@ use second::encode;
 use second::encode::bytes_of;
 use second::engine::{Answer, Outcome, Reply, MOST_BUDGET, WORK_WORDS};
 use second::generate::limits::with_nodes;
+use second::state::Heights;
 
 /// n 1, r 0; Num; 16,909,060.
 const NUMBER: [u8; 16] = [1, 0, 0, 0, 0, 0, 0, 0, 1, 0, 0, 0, 4, 3, 2, 1];
@@ -18,8 +19,8 @@ const LARGEST: usize = 16_008;
 fn refused_bytes(image: &[u8]) -> (u32, u32) {
     let starts = [7; 8];
     let (reply, registers) = run_bytes(image, &starts, MOST_BUDGET, WORK_WORDS);
-    assert_eq!((registers, reply.steps), (starts.to_vec(), 0));
     let refusal = reply.refusal().expect("a refusal");
+    assert_eq!((reply, registers), (not_run(refusal.number, refusal.place), starts.to_vec()));
     assert_eq!(checked_bytes(image, WORK_WORDS), Answer::Refused(refusal));
     (refusal.number, refusal.place)
 }
@@ -31,7 +32,8 @@ fn reply(image: &[u8], starts: &[u8]) -> (Reply, Vec<u8>) {
 
 #[test]
 fn words_stand_least_byte_first() {
-    let number = Reply { outcome: Outcome::Number(0x0102_0304), steps: 1 };
+    let marks = Heights::new(0, 0, 1, 1);
+    let number = Reply { outcome: Outcome::Number(0x0102_0304), steps: 1, marks };
     assert_eq!(reply(&NUMBER, &[]), (number, vec![]));
     assert_eq!(checked_bytes(&NUMBER, WORK_WORDS), Answer::Code(0));
     for byte in 8..12 {
@@ -122,7 +124,8 @@ fn registers_are_read_least_byte_first() {
     for (index, number) in [(0, 200), (1, 51_200), (6, 200 << 48), (7, -56 << 56)] {
         let mut starts = [0; 8];
         starts[index] = 200;
-        let expected = Reply { outcome: Outcome::Number(number), steps: 1 };
+        let marks = Heights::new(1, 1, 1, 1);
+        let expected = Reply { outcome: Outcome::Number(number), steps: 1, marks };
         assert_eq!(reply(&REGISTER, &starts), (expected, starts.to_vec()));
     }
 }
@@ -142,16 +145,17 @@ fn registers_are_written_least_byte_first() {
 #[test]
 fn a_withheld_step_leaves_its_registers() {
     let set = bytes_of(&image(1, assign(0, num(7))));
-    let (ended, left) = run_bytes(&set, &[5; 8], 3, WORK_WORDS);
-    let expected = (Reply { outcome: Outcome::None, steps: 3 }, vec![7, 0, 0, 0, 0, 0, 0, 0]);
-    assert_eq!((ended, left), expected);
-    for budget in 0..3 {
-        let expected = (withheld(30, budget), vec![5; 8]);
+    let expected = (ended(3, Heights::new(1, 1, 2, 2)), vec![7, 0, 0, 0, 0, 0, 0, 0]);
+    assert_eq!(run_bytes(&set, &[5; 8], 3, WORK_WORDS), expected);
+    let marks = [Heights::new(1, 1, 0, 1), Heights::new(1, 1, 1, 2), Heights::new(1, 1, 2, 2)];
+    for (budget, marks) in (0..3).zip(marks) {
+        let expected = (withheld(30, budget, marks), vec![5; 8]);
         assert_eq!(run_bytes(&set, &[5; 8], budget, WORK_WORDS), expected);
     }
     let set_then_divide = cseq(assign(0, num(7)), assign(0, div(num(1), num(0))));
     let image = bytes_of(&image(1, set_then_divide));
-    assert_eq!(reply(&image, &[5; 8]), (withheld(31, 8), vec![7, 0, 0, 0, 0, 0, 0, 0]));
+    let expected = withheld(31, 8, Heights::new(1, 1, 3, 4));
+    assert_eq!(reply(&image, &[5; 8]), (expected, vec![7, 0, 0, 0, 0, 0, 0, 0]));
 }
 
 #[test]
@@ -213,6 +217,6 @@ fn budgets_up_to_1000000_and_above() {
     }
     for budget in [MOST_BUDGET + 1, 1 << 32, (1 << 32) + 1, 1 << 63, u64::MAX] {
         let (reply, _) = run_bytes(&NUMBER, &[], budget, WORK_WORDS);
-        assert_eq!(reply, withheld(21, 0), "budget {budget}");
+        assert_eq!(reply, not_run(21, 0), "budget {budget}");
     }
 }

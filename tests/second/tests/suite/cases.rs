@@ -3,30 +3,32 @@
 use crate::helpers::*;
 use second::build::*;
 use second::engine::{Answer, Outcome, Reply, MOST_BUDGET};
-use second::execution::high_marks;
-use second::reader::read;
 use second::state::Heights;
 use second::store::Location;
 
 /// Words 5 0, 6 1 4 1 1, 0 5 0 3 2: 5 × (3 + 2).
 const CALCULATOR: [u32; 12] = [5, 0, 6, 1, 4, 1, 1, 0, 5, 0, 3, 2];
+/// Document 000 traces this run: most on V is 3 and on control 4.
+const CALCULATED: Reply =
+    Reply { outcome: Outcome::Number(25), steps: 7, marks: Heights::new(0, 0, 3, 4) };
 
 #[test]
 fn a_calculator_gives_25_in_7_steps() {
     assert_eq!(image(0, mul(num(5), sum(num(3), num(2)))), CALCULATOR);
     let (reply, _) = run_at(&CALCULATOR, &[], MOST_BUDGET);
-    assert_eq!(reply, Reply { outcome: Outcome::Number(25), steps: 7 });
+    assert_eq!(reply, CALCULATED);
 }
 
 #[test]
 fn b_budget_6_is_too_little_and_7_enough() {
-    assert_eq!(run_at(&CALCULATOR, &[], 6).0, withheld(30, 6));
-    assert_eq!(run_at(&CALCULATOR, &[], 7).0, Reply { outcome: Outcome::Number(25), steps: 7 });
+    let marks = CALCULATED.marks;
+    assert_eq!(run_at(&CALCULATOR, &[], 6).0, withheld(30, 6, marks));
+    assert_eq!(run_at(&CALCULATOR, &[], 7).0, CALCULATED);
 }
 
 #[test]
 fn c_budget_0_makes_no_step() {
-    assert_eq!(run_at(&CALCULATOR, &[], 0).0, withheld(30, 0));
+    assert_eq!(run_at(&CALCULATOR, &[], 0).0, withheld(30, 0, Heights::new(0, 0, 0, 1)));
 }
 
 #[test]
@@ -47,21 +49,21 @@ fn f_division_gives_the_largest_integer_not_above_the_quotient() {
 #[test]
 fn g_factorial_of_3() {
     let (reply, registers) = run_tree(factorial(), &[1, 3]);
-    assert_eq!(reply, Reply { outcome: Outcome::None, steps: 71 });
+    assert_eq!(reply, ended(71, Heights::new(2, 2, 3, 6)));
     assert_eq!(registers, [6, 0]);
 }
 
 #[test]
 fn g_factorial_of_20() {
     let (reply, registers) = run_tree(factorial(), &[1, 20]);
-    assert_eq!(reply, Reply { outcome: Outcome::None, steps: 428 });
+    assert_eq!(reply, ended(428, Heights::new(2, 2, 3, 6)));
     assert_eq!(registers, [2_432_902_008_176_640_000, 0]);
 }
 
 #[test]
 fn g_factorial_of_21_leaves_the_integers() {
     let (reply, registers) = run_tree(factorial(), &[1, 21]);
-    assert_eq!(reply, withheld(32, 391));
+    assert_eq!(reply, withheld(32, 391, Heights::new(2, 2, 3, 6)));
     assert_eq!(registers, [8_515_157_028_618_240_000, 3]);
 }
 
@@ -69,7 +71,7 @@ fn g_factorial_of_21_leaves_the_integers() {
 fn h_block_with_a_cell() {
     let root = blk(bind_ref(1, id(0)), assign(0, sum(id(1), id(1))));
     let (reply, registers) = run_tree(root, &[5]);
-    assert_eq!(reply, Reply { outcome: Outcome::None, steps: 14 });
+    assert_eq!(reply, ended(14, Heights::new(2, 2, 5, 6)));
     assert_eq!(registers, [10]);
 }
 
@@ -78,7 +80,7 @@ fn i_function_with_a_formal() {
     let body = block(bind_ref(3, id(2)), assign(0, id(3)));
     let root = blk(bind_abs(1, &[(2, 0)], body), call(1, vec![num(7)]));
     let (reply, registers) = run_tree(root, &[0]);
-    assert_eq!(reply, Reply { outcome: Outcome::None, steps: 21 });
+    assert_eq!(reply, ended(21, Heights::new(2, 4, 8, 8)));
     assert_eq!(registers, [7]);
 }
 
@@ -86,7 +88,7 @@ fn i_function_with_a_formal() {
 fn j_cell_that_holds_a_location() {
     let root = blk(bind_ref(1, deref(0)), assign(0, sum(valref(1), num(1))));
     let (reply, registers) = run_tree(root, &[9]);
-    assert_eq!(reply, Reply { outcome: Outcome::None, steps: 14 });
+    assert_eq!(reply, ended(14, Heights::new(2, 2, 5, 6)));
     assert_eq!(registers, [10]);
 }
 
@@ -94,7 +96,7 @@ fn j_cell_that_holds_a_location() {
 fn k_cell_that_holds_a_location_is_not_assignable() {
     let root = blk(bind_ref(1, deref(0)), assign(1, deref(0)));
     let (reply, registers) = run_tree(root.clone(), &[9]);
-    assert_eq!(reply, Reply { outcome: refused(13, 4), steps: 0 });
+    assert_eq!(reply, not_run(13, 4));
     assert_eq!(registers, [9]);
     assert_eq!(checked_tree(1, root), answer_refused(13, 4));
 }
@@ -122,12 +124,4 @@ fn outcomes_of_each_sort() {
     assert_eq!(outcome(boo(false), &[]), (Outcome::Truth(false), 1));
     assert_eq!(outcome(deref(2), &[7, 8, 9]), (Outcome::Cell(Location(2)), 1));
     assert_eq!(outcome(num(u32::MAX), &[]), (Outcome::Number(4_294_967_295), 1));
-}
-
-/// Document 000 traces this run: most on V is 3 and on control 4.
-#[test]
-fn high_marks_of_the_calculator() {
-    let routine = read(&CALCULATOR).unwrap();
-    let marks = Heights { cells: 0, bindings: 0, values: 3, control: 4 };
-    assert_eq!(high_marks(&routine, &[], MOST_BUDGET), marks);
 }

@@ -5,7 +5,7 @@ use crate::helpers::*;
 use crate::sequences::body;
 use crate::towers::named;
 use second::build::*;
-use second::engine::{Outcome, Reply, MOST_BUDGET};
+use second::engine::{Outcome, MOST_BUDGET};
 use second::execution::Execution;
 use second::reader::read;
 use second::state::{Heights, ValueEntry};
@@ -192,8 +192,9 @@ fn compare_shifted(chosen: &Command, alone: &Command, later: usize) {
     for budget in at as u64..=states_alone.len() as u64 {
         let (reply, registers) = run_at(&image_alone, starts, budget);
         let later = later as u64;
-        let expected = Reply { steps: reply.steps + later, ..reply };
-        assert_eq!(run_at(&image_chosen, starts, budget + later), (expected, registers));
+        let (shifted, left) = run_at(&image_chosen, starts, budget + later);
+        assert_eq!((shifted.outcome, shifted.steps), (reply.outcome, reply.steps + later));
+        assert_eq!(left, registers);
     }
 }
 

@@ -4,7 +4,7 @@
 use crate::helpers::*;
 use crate::sequences::body;
 use second::build::*;
-use second::engine::{Outcome, Reply};
+use second::engine::Outcome;
 use second::generate::choices::else_if;
 use second::tree::*;
 
@@ -54,7 +54,7 @@ fn the_command_that_is_not_taken_does_not_run() {
     let set = || assign(0, num(1));
     for (test, first, second) in [(true, set(), zero()), (false, over(), set())] {
         let (reply, registers) = run_tree(cond(boo(test), first, second), starts);
-        assert_eq!(reply, Reply { outcome: Outcome::None, steps: 6 });
+        assert_eq!((reply.outcome, reply.steps), (Outcome::None, 6));
         assert_eq!(registers, [1, i64::MAX]);
     }
     // A loop without end that is not taken.
@@ -108,7 +108,7 @@ fn in_each_round_of_a_loop() {
         // Loop, its test (4) and its mark; a Cond (2) and its test (10); a command of
         // 6 steps, or of two and their CSeq.
         let steps = 6 * (rounds + 1) + 12 * rounds + 6 * (rounds - bits) + 13 * bits;
-        assert_eq!(reply, Reply { outcome: Outcome::None, steps: steps as u64 });
+        assert_eq!((reply.outcome, reply.steps), (Outcome::None, steps as u64));
     }
     // A loop in a command, and a Cond in that loop.
     let down = || assign(1, sub(id(1), num(1)));
@@ -173,7 +173,7 @@ fn chains() {
             assert_eq!(registers, [left], "{start} of {count}");
             // Each Cond that is met is 2 steps, and its Eq 4; then an Assign of 3.
             let steps = 6 * tests as u64 + 3;
-            assert_eq!(reply, Reply { outcome: Outcome::None, steps });
+            assert_eq!((reply.outcome, reply.steps), (Outcome::None, steps));
         }
     }
     // Four commands under Conds in both commands of another.
@@ -207,6 +207,12 @@ fn in_place_of_a_loop_that_clears_its_own_flag() {
     }
 }
 
+/// The outcome, the steps and the register of a run at this budget.
+fn cut_off(image: &[u32], start: i64, budget: u64) -> (Outcome, u64, i64) {
+    let (reply, registers) = run_at(image, &[start], budget);
+    (reply.outcome, reply.steps, registers[0])
+}
+
 /// Every budget cuts the run off at its own step; the registers change at the Assigns'
 /// marks alone.
 #[test]
@@ -221,10 +227,9 @@ fn every_budget() {
         for budget in 0..whole {
             let before = stored.iter().rev().find(|(at, _)| *at <= budget);
             let left = before.map_or(start, |(_, left)| *left);
-            assert_eq!(run_at(&image, &[start], budget), (withheld(30, budget), vec![left]));
+            assert_eq!(cut_off(&image, start, budget), (refused(30, 0), budget, left));
         }
-        let ended = (Reply { outcome: Outcome::None, steps: whole }, vec![last]);
-        assert_eq!(run_at(&image, &[start], whole), ended);
-        assert_eq!(run_at(&image, &[start], whole + 1), ended);
+        assert_eq!(cut_off(&image, start, whole), (Outcome::None, whole, last));
+        assert_eq!(cut_off(&image, start, whole + 1), (Outcome::None, whole, last));
     }
 }

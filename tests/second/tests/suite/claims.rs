@@ -188,12 +188,15 @@ fn every_budget_cuts_off_at_its_own_state() {
         let case = Family::Small.case(seed);
         let (routine, _) = pass(&case.image).unwrap();
         let mut execution = Execution::start(&routine, &case.registers, 300);
-        let mut registers = Vec::new();
-        execution.finish(|at| registers.push(at.state().registers(case.registers.len())));
+        let (mut states, mut marks) = (Vec::new(), Heights::default());
+        execution.finish(|at| {
+            marks.raise(at.state().heights());
+            states.push((at.state().registers(case.registers.len()), marks));
+        });
         let (whole, last) = run_at(&case.image, &case.registers, 20_000);
-        for (budget, expected) in registers.iter().enumerate().take(whole.steps as usize) {
+        for (budget, (registers, marks)) in states.iter().enumerate().take(whole.steps as usize) {
             let (reply, left) = run_at(&case.image, &case.registers, budget as u64);
-            assert_eq!((reply, &left), (withheld(30, budget as u64), expected));
+            assert_eq!((reply, &left), (withheld(30, budget as u64, *marks), registers));
             compared += 1;
         }
         // One step short of a withheld one is 30; from there on, the whole run's
@@ -201,7 +204,8 @@ fn every_budget_cuts_off_at_its_own_state() {
         if whole.steps < 20_000 {
             let (reply, left) = run_at(&case.image, &case.registers, whole.steps);
             let faulted = matches!(whole.outcome, Outcome::Refused(_));
-            assert_eq!(reply, if faulted { withheld(30, whole.steps) } else { whole });
+            let cut_off = withheld(30, whole.steps, whole.marks);
+            assert_eq!(reply, if faulted { cut_off } else { whole });
             assert_eq!(left, last);
             assert_eq!(run_at(&case.image, &case.registers, whole.steps + 1), (whole, last));
         }

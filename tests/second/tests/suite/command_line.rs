@@ -39,13 +39,14 @@ fn said(arguments: &[&str], input: &[u8]) -> String {
 #[test]
 fn program_and_run() {
     let input = program_input(&image(1, assign(0, num(7))), &[5]);
-    assert_eq!(said(&["program"], &input), "none\nsteps 3\nregister 0 7\n");
-    assert_eq!(said(&["run", "2"], &input), "refused 30 at 0\nsteps 2\nregister 0 5\n");
-    assert_eq!(said(&["run", "1000001"], &input), "refused 21 at 0\nsteps 0\n");
-    assert_eq!(said(&["program", "--hex"], b"1 0 1 ff"), "number 255\nsteps 1\n");
+    assert_eq!(said(&["program"], &input), "none\nsteps 3\nmost 1 1 2 2\nregister 0 7\n");
+    let cut_off = "refused 30 at 0\nsteps 2\nmost 1 1 2 2\nregister 0 5\n";
+    assert_eq!(said(&["run", "2"], &input), cut_off);
+    assert_eq!(said(&["run", "1000001"], &input), "refused 21 at 0\nsteps 0\nmost 0 0 0 0\n");
+    assert_eq!(said(&["program", "--hex"], b"1 0 1 ff"), "number 255\nsteps 1\nmost 0 0 1 1\n");
     let slot = program_input(&image(1, absent()), &[5]);
-    assert_eq!(said(&["program"], &slot), "none\nsteps 0\nregister 0 5\n");
-    assert_eq!(said(&["run", "0"], &slot), "none\nsteps 0\nregister 0 5\n");
+    assert_eq!(said(&["program"], &slot), "none\nsteps 0\nmost 1 1 0 0\nregister 0 5\n");
+    assert_eq!(said(&["run", "0"], &slot), "none\nsteps 0\nmost 1 1 0 0\nregister 0 5\n");
 }
 
 #[test]

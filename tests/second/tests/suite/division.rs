@@ -3,6 +3,7 @@
 use crate::helpers::*;
 use second::build::*;
 use second::engine::Outcome;
+use second::state::Heights;
 use second::tree::Command;
 
 const LEAST: i64 = i64::MIN;
@@ -161,5 +162,6 @@ fn halving_until_0_uses_up_the_budget_below_0() {
     let (reply, registers) = run_tree(until_0(), &[7]);
     assert_eq!((reply.outcome, registers), (Outcome::None, vec![0]));
     let (reply, registers) = run_at(&image(1, until_0()), &[-7], 1_000);
-    assert_eq!((reply, registers), (withheld(30, 1_000), vec![-1]));
+    let marks = Heights::new(1, 1, 3, 5);
+    assert_eq!((reply, registers), (withheld(30, 1_000, marks), vec![-1]));
 }

@@ -6,6 +6,7 @@ use second::engine::{check, needs, page, run, Answer, Outcome, Reply, MOST_BUDGE
 pub use second::needs::{given, open};
 use second::needs::{Figures, Needs, Steps, EFFORT};
 use second::refusal::TOO_MANY_STEPS;
+use second::state::Heights;
 use second::tree::{Place, Root};
 use second::Refusal;
 
@@ -34,9 +35,19 @@ pub fn outcome(root: impl Into<Root>, starts: &[i64]) -> (Outcome, u64) {
     (reply.outcome, reply.steps)
 }
 
-/// The refusal and the steps of a run withheld for this reason.
-pub fn withheld(number: u32, steps: u64) -> Reply {
-    Reply { outcome: refused(number, 0), steps }
+/// The reply of a run that ended normally with a command's outcome.
+pub fn ended(steps: u64, marks: Heights) -> Reply {
+    Reply { outcome: Outcome::None, steps, marks }
+}
+
+/// The reply of a run withheld for this reason.
+pub fn withheld(number: u32, steps: u64, marks: Heights) -> Reply {
+    Reply { outcome: refused(number, 0), steps, marks }
+}
+
+/// The reply to a call refused before its first step.
+pub fn not_run(number: u32, place: Place) -> Reply {
+    Reply { outcome: refused(number, place), steps: 0, marks: Heights::new(0, 0, 0, 0) }
 }
 
 pub fn refused(number: u32, place: Place) -> Outcome {
@@ -98,13 +109,11 @@ pub fn needs_are(image: &[u32], expected: Needs) {
 
 /// No figure is above the other's.
 pub fn within(some: Figures, most: Figures) -> bool {
-    let mut raised = most.room;
-    raised.raise(some.room);
     let steps = match (some.steps, most.steps) {
         (Steps::Most(some), Steps::Most(most)) => some <= most,
         (some, most) => some == most,
     };
-    raised == most.room && steps
+    some.room.within(most.room) && steps
 }
 
 pub fn needs_refused(number: u32, place: Place) -> Needs {

@@ -2,7 +2,8 @@
 
 use crate::helpers::*;
 use second::build::*;
-use second::engine::{check, run, settle_work, Answer, Outcome, Reply, MOST_BUDGET, WORK_WORDS};
+use second::engine::{check, run, settle_work, Answer, Outcome, MOST_BUDGET, WORK_WORDS};
+use second::state::Heights;
 use second::Refusal;
 
 const MANY: u64 = MOST_BUDGET + 1;
@@ -71,7 +72,7 @@ fn register_slices_of_other_lengths_are_20() {
     let none = image(0, num(1));
     assert_eq!(reply(&none, &mut [7], 5, WORK_WORDS), refused(20, 0));
     let mut registers = [0];
-    let done = Reply { outcome: Outcome::None, steps: 3 };
+    let done = ended(3, Heights::new(1, 1, 2, 2));
     assert_eq!(run(&good(), &mut registers, 5, WORK_WORDS), done);
     assert_eq!(registers, [5]);
 }

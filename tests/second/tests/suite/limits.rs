@@ -207,7 +207,7 @@ fn the_control_stack_is_named_first_with_actuals() {
 }
 
 /// Blocks with so many cells beyond the registers, then one more in a block.
-fn cells(registers: usize, count: usize) -> Tower {
+pub fn cells(registers: usize, count: usize) -> Tower {
     let layers = (0..count).collect::<Vec<_>>();
     let layers =
         layers.chunks(20).map(|chunk| Layer::Block { plain: 0, cells: chunk.len() }).collect();
@@ -225,7 +225,7 @@ fn cells_256_and_257_registers_included() {
 }
 
 /// Bindings up to so many at the inner command.
-fn bindings(registers: usize, count: usize, helper_formals: usize, inner: Command) -> Tower {
+pub fn bindings(registers: usize, count: usize, helper_formals: usize, inner: Command) -> Tower {
     let mut tower =
         Tower { registers, functions: 2, formals: 3, helper_formals, layers: vec![], inner };
     let missing: Vec<_> = (tower.heights().bindings..count).collect();
@@ -332,11 +332,12 @@ fn registers_are_as_before_the_step_that_both_stacks_withhold() {
     for (control, reason) in [(507, 35), (508, 36), (509, 36), (510, 36)] {
         let image = encode(&tower(510, control, inner()).routine());
         let (reply, registers) = run_at(&image, &[5], MOST_BUDGET);
-        assert_eq!((reply, registers), (withheld(reason, reply.steps), vec![77]));
+        let withheld = |reason| withheld(reason, reply.steps, reply.marks);
+        assert_eq!((reply, registers), (withheld(reason), vec![77]));
         // The budget comes before both: it is used up after the call's mark.
         let cut = run_at(&image, &[5], reply.steps);
-        assert_eq!(cut, (withheld(30, reply.steps), vec![77]));
+        assert_eq!(cut, (withheld(30), vec![77]));
         let just = run_at(&image, &[5], reply.steps + 1);
-        assert_eq!(just, (withheld(reason, reply.steps), vec![77]));
+        assert_eq!(just, (withheld(reason), vec![77]));
     }
 }

@@ -25,6 +25,8 @@ mod generators;
 mod history;
 mod host;
 mod limits;
+mod mark_claims;
+mod marks;
 mod need_claims;
 mod need_functions;
 mod need_limits;

@@ -1,6 +1,6 @@
-//! Claims about the needs of generated images: no state of a run is above a figure, no run is
-//! refused with 33 to 36 where the four are within their limits, and without Loop and Cond a
-//! run that ends reaches each figure.
+//! Claims about the needs of generated images: no state and no high mark of a run is above a
+//! figure, no run is refused with 33 to 36 where the four are within their limits, and without
+//! Loop and Cond the marks and steps of a run that ends are the figures.
 
 use crate::helpers::*;
 use second::engine::{pass, MOST_BUDGET};
@@ -8,7 +8,6 @@ use second::execution::{reasons_of_room, Execution};
 use second::generate::{Case, Family};
 use second::needs::{has_loop, Figures, Needs, Steps};
 use second::node::Node;
-use second::state::Heights;
 use second::tree::Routine;
 
 /// How often each claim meant something.
@@ -53,9 +52,7 @@ fn hold(case: &Case, budget: u64, held: &mut Held) {
         }
         return;
     };
-    let mut most = Heights::default();
     let reason = execution.finish(|at| {
-        most.raise(at.state().heights());
         let steps = match figures.steps {
             Steps::Most(_) => Steps::Most(at.steps()),
             Steps::Open => Steps::Open,
@@ -64,6 +61,8 @@ fn hold(case: &Case, budget: u64, held: &mut Held) {
         assert!(within(here, figures), "{here:?} in {figures:?}");
         held.states += 1;
     });
+    let marks = run_at(&case.image, &case.registers, budget).0.marks;
+    assert!(marks.within(figures.room), "{marks:?} in {figures:?}");
     if reasons_of_room(figures.room).into_iter().flatten().next().is_none() {
         assert!(!matches!(reason, Some(33..=36)), "{reason:?}, {figures:?}");
         held.with_room += 1;
@@ -71,7 +70,7 @@ fn hold(case: &Case, budget: u64, held: &mut Held) {
         held.without_room += 1;
     }
     if straight && reason.is_none() {
-        let reached = Figures { room: most, steps: Steps::Most(execution.steps()) };
+        let reached = Figures { room: marks, steps: Steps::Most(execution.steps()) };
         assert_eq!(reached, figures);
         held.exact += 1;
     }

@@ -4,7 +4,7 @@
 
 use crate::helpers::*;
 use second::build::*;
-use second::engine::{Outcome, MOST_BUDGET};
+use second::engine::Outcome;
 use second::needs::{needs, Needs, Steps, MOST_STEPS};
 use second::reader::read;
 use second::tree::*;
@@ -98,10 +98,8 @@ fn a_million_steps_are_given_and_one_more_is_40() {
 /// The run of a million steps ends, and so does no longer one.
 #[test]
 fn a_run_has_the_steps() {
-    let run = |steps| run_at(&image(1, of_steps(steps)), &[0], MOST_BUDGET).0;
-    let reply = run(MOST_STEPS);
-    assert_eq!((reply.outcome, reply.steps), (Outcome::None, MOST_STEPS));
-    assert_eq!(run(MOST_STEPS + 1), withheld(30, MOST_STEPS));
+    assert_eq!(outcome(of_steps(MOST_STEPS), &[0]), (Outcome::None, MOST_STEPS));
+    assert_eq!(outcome(of_steps(MOST_STEPS + 1), &[0]), (refused(30, 0), MOST_STEPS));
 }
 
 /// Of a Cond's commands the longer one counts, whichever it is.

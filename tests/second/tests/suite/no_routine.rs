@@ -5,18 +5,21 @@
 use crate::helpers::*;
 use second::build::{absent, image};
 use second::encode::{bytes_of, register_bytes};
-use second::engine::{Answer, Outcome, Reply, MOST_BUDGET, WORK_WORDS};
-use second::execution::{high_marks, Advance, Execution};
+use second::engine::{Answer, Reply, MOST_BUDGET, WORK_WORDS};
+use second::execution::{Advance, Execution};
 use second::reader::read;
 use second::show::show;
 use second::state::Heights;
 use second::tree::{Root, Routine};
 use second::{encode, Refusal};
 
-/// What the run gives: none, in 0 steps.
-const ENDED: Reply = Reply { outcome: Outcome::None, steps: 0 };
 /// Permitted budgets, from the least to the greatest.
 const BUDGETS: [u64; 5] = [0, 1, 1_000, MOST_BUDGET - 1, MOST_BUDGET];
+
+/// What the run gives: none, in 0 steps, with the registers the only cells and bindings.
+fn gives(registers: u32) -> Reply {
+    ended(0, Heights::new(registers as usize, registers as usize, 0, 0))
+}
 
 /// So many starting values, none of which is 0.
 fn starts(count: usize) -> Vec<i64> {
@@ -52,7 +55,7 @@ fn r_above_16_is_2() {
                 let mut words = vec![0, registers];
                 words.extend(vec![word; count]);
                 assert_eq!(checked(&words), answer_refused(2, 0), "{words:?}");
-                assert_eq!(run_at(&words, &starts(16), 0).0, withheld(2, 0), "{words:?}");
+                assert_eq!(run_at(&words, &starts(16), 0).0, not_run(2, 0), "{words:?}");
             }
         }
     }
@@ -68,7 +71,7 @@ fn any_word_behind_r_is_1() {
                 words.extend(vec![word; count]);
                 assert_eq!(checked(&words), answer_refused(1, 0), "{words:?}");
                 let starts = starts(registers as usize);
-                assert_eq!(run_at(&words, &starts, 0), (withheld(1, 0), starts), "{words:?}");
+                assert_eq!(run_at(&words, &starts, 0), (not_run(1, 0), starts), "{words:?}");
             }
         }
     }
@@ -79,7 +82,7 @@ fn any_word_behind_r_is_1() {
 fn fewer_than_two_words_are_1() {
     assert_eq!(checked(&[]), answer_refused(1, 0));
     assert_eq!(checked(&[0]), answer_refused(1, 0));
-    assert_eq!(run_at(&[0], &[], 0).0, withheld(1, 0));
+    assert_eq!(run_at(&[0], &[], 0).0, not_run(1, 0));
 }
 
 /// With n 1 and no node, or a part of it, the length is wrong and nothing is missing.
@@ -98,7 +101,7 @@ fn a_run_gives_none_in_0_steps_and_keeps_the_registers() {
         let starts = starts(registers as usize);
         for budget in BUDGETS {
             let ran = run_at(&[0, registers], &starts, budget);
-            assert_eq!(ran, (ENDED, starts.clone()), "r {registers}, budget {budget}");
+            assert_eq!(ran, (gives(registers), starts.clone()), "r {registers}, budget {budget}");
         }
     }
 }
@@ -109,7 +112,7 @@ fn a_budget_above_1000000_is_21() {
         for registers in [0, 1, 16] {
             let starts = starts(registers as usize);
             let ran = run_at(&[0, registers], &starts, budget);
-            assert_eq!(ran, (withheld(21, 0), starts), "r {registers}, budget {budget}");
+            assert_eq!(ran, (not_run(21, 0), starts), "r {registers}, budget {budget}");
         }
     }
 }
@@ -121,7 +124,7 @@ fn a_register_slice_of_another_length_is_20() {
             let starts = starts(length);
             for budget in [0, MOST_BUDGET] {
                 let ran = run_at(&[0, registers], &starts, budget);
-                assert_eq!(ran, (withheld(20, 0), starts.clone()), "r {registers}, {length}");
+                assert_eq!(ran, (not_run(20, 0), starts.clone()), "r {registers}, {length}");
             }
         }
     }
@@ -141,8 +144,7 @@ fn the_run_has_ended_before_its_first_step() {
         assert_eq!(execution.finish(|_| states += 1), None);
         assert_eq!((states, execution.steps()), (1, 0));
         assert_eq!(execution.state().registers(2), starts);
-        let marks = Heights { cells: 2, bindings: 2, values: 0, control: 0 };
-        assert_eq!(high_marks(&routine, &starts, budget), marks);
+        assert_eq!(execution.state().heights(), Heights::new(2, 2, 0, 0));
     }
 }
 
@@ -158,7 +160,7 @@ fn on_bytes() {
             let expected =
                 if length == 8 { Answer::Command } else { Answer::Refused(Refusal::whole(1)) };
             assert_eq!(checked_bytes(&image, WORK_WORDS), expected, "{length} bytes");
-            let reply = if length == 8 { ENDED } else { withheld(1, 0) };
+            let reply = if length == 8 { gives(registers) } else { not_run(1, 0) };
             for budget in [0, MOST_BUDGET] {
                 let ran = run_bytes(&image, &values, budget, WORK_WORDS);
                 assert_eq!(ran, (reply, values.clone()), "{length} bytes, budget {budget}");
@@ -167,7 +169,7 @@ fn on_bytes() {
         for length in (0..=8 * 17 + 1).filter(|length| *length != values.len()) {
             let other = vec![3; length];
             let ran = run_bytes(&whole, &other, 0, WORK_WORDS);
-            assert_eq!(ran, (withheld(20, 0), other), "{length} register bytes");
+            assert_eq!(ran, (not_run(20, 0), other), "{length} register bytes");
         }
     }
     // Each byte of n and r counts.
@@ -191,11 +193,11 @@ fn on_bytes_in_the_order_of_the_paper() {
     };
     for image in [&good[..], &good[..7], &[0; 9], &bytes_of(&[0, 17])] {
         assert_eq!(checked_bytes(image, few), answer_refused(22, 0));
-        assert_eq!(reply(image, &[1; 7], many, few), withheld(22, 0));
-        assert_eq!(reply(image, &[1; 7], many, WORK_WORDS), withheld(21, 0));
+        assert_eq!(reply(image, &[1; 7], many, few), not_run(22, 0));
+        assert_eq!(reply(image, &[1; 7], many, WORK_WORDS), not_run(21, 0));
     }
-    assert_eq!(reply(&[0; 9], &[1; 7], 0, WORK_WORDS), withheld(1, 0));
-    assert_eq!(reply(&bytes_of(&[0, 17]), &[1; 7], 0, WORK_WORDS), withheld(2, 0));
-    assert_eq!(reply(&good, &[1; 7], 0, WORK_WORDS), withheld(20, 0));
-    assert_eq!(reply(&good, &[1; 8], 0, WORK_WORDS), ENDED);
+    assert_eq!(reply(&[0; 9], &[1; 7], 0, WORK_WORDS), not_run(1, 0));
+    assert_eq!(reply(&bytes_of(&[0, 17]), &[1; 7], 0, WORK_WORDS), not_run(2, 0));
+    assert_eq!(reply(&good, &[1; 7], 0, WORK_WORDS), not_run(20, 0));
+    assert_eq!(reply(&good, &[1; 8], 0, WORK_WORDS), gives(1));
 }

@@ -3,11 +3,11 @@
 
 use crate::helpers::*;
 use second::build::*;
-use second::engine::{Outcome, Reply, MOST_BUDGET};
+use second::engine::{Outcome, MOST_BUDGET};
 use second::execution::Execution;
 use second::node::Node;
 use second::reader::read;
-use second::state::{ControlEntry, Environment, Mark, ValueEntry};
+use second::state::{ControlEntry, Environment, Heights, Mark, ValueEntry};
 use second::tree::*;
 
 /// A function's Blk that runs one command.
@@ -261,12 +261,13 @@ fn every_budget() {
     let (first, last, whole) = (4, 4 + 21, 4 + 22);
     for budget in 0..=30 {
         let expected = match budget {
-            budget if budget < first => (withheld(30, budget), vec![100]),
-            budget if budget < last => (withheld(30, budget), vec![8]),
-            budget if budget < whole => (withheld(30, budget), vec![10]),
-            _ => (Reply { outcome: Outcome::None, steps: whole }, vec![10]),
+            budget if budget < first => (refused(30, 0), budget, vec![100]),
+            budget if budget < last => (refused(30, 0), budget, vec![8]),
+            budget if budget < whole => (refused(30, 0), budget, vec![10]),
+            _ => (Outcome::None, whole, vec![10]),
         };
-        assert_eq!(run_at(&image, &[100], budget), expected, "budget {budget}");
+        let (reply, registers) = run_at(&image, &[100], budget);
+        assert_eq!((reply.outcome, reply.steps, registers), expected, "budget {budget}");
     }
 }
 
@@ -276,8 +277,8 @@ fn faults_of_the_run_in_the_second() {
     let both = dseq(bind_ref(1, num(0)), bind(2, div(num(1), id(1))));
     // Blk, DSeq, Bind (5), mark, Bind, Div, Num, Id.
     let (reply, registers) = run_tree(blk(both, assign(0, num(1))), &[7]);
-    assert_eq!((reply, registers), (withheld(31, 12), vec![7]));
+    assert_eq!((reply, registers), (withheld(31, 12, Heights::new(2, 2, 6, 9)), vec![7]));
     let both = dseq(bind(1, id(0)), bind(2, mul(id(1), id(1))));
     let (reply, registers) = run_tree(blk(both, assign(0, num(1))), &[i64::MAX]);
-    assert_eq!((reply, registers), (withheld(32, 10), vec![i64::MAX]));
+    assert_eq!((reply, registers), (withheld(32, 10, Heights::new(1, 2, 6, 8)), vec![i64::MAX]));
 }

@@ -5,7 +5,7 @@ use crate::helpers::*;
 use second::effect::Effect;
 use second::encode;
 use second::engine::MOST_BUDGET;
-use second::execution::{high_marks, reasons_of_room, Execution};
+use second::execution::{reasons_of_room, Execution};
 use second::generate::tower::Tower;
 use second::kinds::{by_kind, Kind};
 use second::reader::read;
@@ -52,8 +52,9 @@ pub fn end(tower: &Tower) -> (Option<(u32, String)>, Heights) {
     assert_eq!(reply.steps, execution.steps());
     if let Some(reason) = reason {
         // The budget comes before any limit.
-        assert_eq!(run_at(&image, &starts, reply.steps).0, withheld(30, reply.steps));
-        assert_eq!(run_at(&image, &starts, reply.steps + 1).0, withheld(reason, reply.steps));
+        let withheld = |reason| withheld(reason, reply.steps, reply.marks);
+        assert_eq!(run_at(&image, &starts, reply.steps).0, withheld(30));
+        assert_eq!(run_at(&image, &starts, reply.steps + 1).0, withheld(reason));
     }
     let state = execution.state();
     (reason.map(|reason| (reason, top(state))), state.heights())
@@ -76,9 +77,9 @@ pub fn tower(values: usize, control: usize, inner: Command) -> Tower {
     tower
 }
 
-/// The highest heights of a tower's run.
+/// The high marks of a tower's run.
 pub fn most(values: usize, control: usize, inner: Command) -> Heights {
-    high_marks(&read(&encode(&tower(values, control, inner).routine())).unwrap(), &[0], MOST_BUDGET)
+    run_at(&encode(&tower(values, control, inner).routine()), &[0], MOST_BUDGET).0.marks
 }
 
 /// A state with entries put below on both stacks until they are so high.

@@ -93,9 +93,10 @@ check of 16 bytes, work slice of 8192 words
     };
     let expected = "\
 run of 16 bytes, 8 register bytes, budget 1000000, work slice of 8192 words
-  the second interpreter says number -2, steps 1 \
+  the second interpreter says number -2, steps 1, most 1 1 1 1 \
 (refusal 0, outcome 1, value 0xfffffffffffffffe, place 0)
-  the engine says             number 7, steps 1 (refusal 0, outcome 1, value 0x7, place 0)
+  the engine says             number 7, steps 1, most 1 1 1 1 \
+(refusal 0, outcome 1, value 0x7, place 0)
 ";
     let registers = "the registers byte by byte:\nfe ff ff ff ff ff ff ff";
     assert_eq!(found_run(seven, &call), format!("{expected}{shown}\n{registers}"));
@@ -105,12 +106,16 @@ run of 16 bytes, 8 register bytes, budget 1000000, work slice of 8192 words
 fn each_number_of_the_reply_counts() {
     let wrong_checks: [fn(&mut CheckReply); 3] =
         [|reply| reply.refusal ^= 1, |reply| reply.value ^= 1, |reply| reply.place ^= 1];
-    let wrong_runs: [fn(&mut RunReply); 5] = [
+    let wrong_runs: [fn(&mut RunReply); 9] = [
         |reply| reply.refusal ^= 1,
         |reply| reply.outcome ^= 1,
         |reply| reply.value ^= 1,
         |reply| reply.place ^= 1,
         |reply| reply.steps ^= 1,
+        |reply| reply.cells ^= 1,
+        |reply| reply.bindings ^= 1,
+        |reply| reply.values ^= 1,
+        |reply| reply.control ^= 1,
     ];
     for call in papers_calls() {
         for wrong in wrong_checks {

@@ -114,7 +114,9 @@ fn none_in_0_steps_in_the_engines_numbers() {
             let before: Vec<u8> = (1..=8 * registers as u8).collect();
             let (mut after, mut work) = (before.clone(), marked.clone());
             let reply = engine::run_bytes(&image, &mut after, budget, &mut work);
-            let ended = RunReply { refusal: 0, outcome: 0, value: 0, place: 0, steps: 0 };
+            // The only state has the registers' cells and bindings.
+            let (cells, bindings) = (registers.into(), registers.into());
+            let ended = RunReply { cells, bindings, ..RunReply::default() };
             assert_eq!((reply, after), (ended, before), "r {registers}, budget {budget}");
             settled(&work);
         }

@@ -1,6 +1,6 @@
-//! The engine's needs against the engine's own runs: where the four figures are within the
-//! limits no run is withheld for 33 to 36, and without Loop and Cond a run that ends has the
-//! steps.
+//! The engine's needs against the engine's own runs: no high mark is above its figure, where
+//! the four figures are within the limits no run is withheld for 33 to 36, and without Loop and
+//! Cond the marks and steps of a run that ends are the figures.
 
 use crate::helpers::with_starts;
 use compare::engine::{self, NeedsReply};
@@ -17,7 +17,9 @@ fn runs_keep_to_the_needs() {
         (Family::Medium, 500),
         (Family::Functions, 600),
         (Family::Sequences, 1_000),
+        (Family::Choices, 500),
         (Family::Limits, 800),
+        (Family::Empty, 200),
     ];
     for (family, count) in families {
         for seed in 0..count {
@@ -31,6 +33,9 @@ fn runs_keep_to_the_needs() {
             }
             let budget = if needs.open == 1 { 20_000 } else { MOST_BUDGET };
             let run = engine::run(&case.image, &mut as_words(&registers), budget, work);
+            let figures = [cells, bindings, values, control];
+            let within = run.marks().iter().zip(figures).all(|(mark, figure)| *mark <= figure);
+            assert!(within, "{:?} in {figures:?}: {family:?} {seed}", run.marks());
             let room = control <= 512 && values <= 512 && cells <= 256 && bindings <= 512;
             if room {
                 assert!(!(33..=36).contains(&run.refusal), "{family:?} {seed}");
@@ -42,7 +47,8 @@ fn runs_keep_to_the_needs() {
             let choices =
                 kinds.iter().any(|kind| by_number(*kind).expect("a kind").kind == Kind::Cond);
             if needs.open == 0 && !choices && run.refusal == 0 {
-                assert_eq!(run.steps, needs.steps, "{family:?} {seed}");
+                let reached = (run.steps, run.marks());
+                assert_eq!(reached, (needs.steps, figures), "{family:?} {seed}");
                 exact += 1;
             }
             assert!(needs.open == 1 || run.steps <= needs.steps, "{family:?} {seed}");

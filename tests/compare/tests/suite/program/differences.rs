@@ -32,11 +32,14 @@ fn a_right_program_differs_nowhere() {
 
 #[test]
 fn a_wrong_output_is_shown_with_the_tree_and_the_bytes() {
-    let wrong = |input: &[u8]| Printed { output: b"number 26\nsteps 7\n".to_vec(), ..right(input) };
+    let wrong = |input: &[u8]| {
+        let output = b"number 26\nsteps 7\nmost 1 1 1 2\n".to_vec();
+        Printed { output, ..right(input) }
+    };
     let expected = "\
 program on 24 bytes, starting values [-2]
-  the second interpreter prints \"number -2\\nsteps 1\\nregister 0 -2\\n\"
-  the program prints            \"number 26\\nsteps 7\\n\"
+  the second interpreter prints \"number -2\\nsteps 1\\nmost 1 1 1 1\\nregister 0 -2\\n\"
+  the program prints            \"number 26\\nsteps 7\\nmost 1 1 1 2\\n\"
 the image as a tree:
 registers 1
    0 Id 0
@@ -52,7 +55,7 @@ fn an_input_that_holds_no_tree_is_shown_as_it_is() {
     let silent = |input: &[u8]| Printed { output: Vec::new(), ..right(input) };
     let expected = "\
 program on 0 bytes, starting values []
-  the second interpreter prints \"refused 1 at 0\\nsteps 0\\n\"
+  the second interpreter prints \"refused 1 at 0\\nsteps 0\\nmost 0 0 0 0\\n\"
   the program prints            \"\"
 the image is no tree (1 at 0); its words:
 []
@@ -85,6 +88,22 @@ fn each_byte_of_the_output_counts() {
         }
         let longer = |_: &[u8]| Printed { output: [&output[..], b"\n"].concat(), ..right(&input) };
         assert!(found(longer, &input).contains("\n  the program prints "));
+    }
+}
+
+/// A program that does not print the high marks, and one that prints them in another place.
+#[test]
+fn an_output_with_no_marks_is_found() {
+    for input in papers_inputs() {
+        let output = String::from_utf8(second::program(&input)).expect("text");
+        let lines: Vec<&str> = output.split_inclusive('\n').collect();
+        assert!(lines[2].starts_with("most "), "{output}");
+        let without = [&lines[..2], &lines[3..]].concat().concat();
+        let earlier = [&[lines[0], lines[2], lines[1]], &lines[3..]].concat().concat();
+        for wrong in [without, earlier] {
+            let printed = |input: &[u8]| Printed { output: wrong.into_bytes(), ..right(input) };
+            assert!(found(printed, &input).contains("\n  the program prints "));
+        }
     }
 }
 

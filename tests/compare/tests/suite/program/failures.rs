@@ -28,7 +28,8 @@ fn input() -> Vec<u8> {
     program_input(&image(2, factorial()), &[1, 20])
 }
 
-const ANSWER: &str = "none\nsteps 428\nregister 0 2432902008176640000\nregister 1 0\n";
+const ANSWER: &str =
+    "none\nsteps 428\nmost 2 2 3 6\nregister 0 2432902008176640000\nregister 1 0\n";
 
 /// The program by way of a shell, which can close its streams and turn them elsewhere.
 fn by_shell(redirected: &str) -> Printed {
@@ -167,7 +168,7 @@ fn an_input_that_cannot_be_read_has_no_answer() {
 /// An input that ends is no failure, whatever it lacks.
 #[test]
 fn an_input_that_ends_is_answered() {
-    let refused = cut("refused 1 at 0\nsteps 0\n", "");
+    let refused = cut("refused 1 at 0\nsteps 0\nmost 0 0 0 0\n", "");
     assert_eq!(by_shell("</dev/null"), refused);
     assert_eq!(with_answers("1x7,1x0", "", &input()), refused);
 }

@@ -7,8 +7,8 @@ use second::build::*;
 use second::encode::{bytes_of, program_input};
 use second::generate::random::Random;
 
-const LENGTH: &str = "refused 1 at 0\nsteps 0\n";
-const COUNTS: &str = "refused 2 at 0\nsteps 0\n";
+const LENGTH: &str = "refused 1 at 0\nsteps 0\nmost 0 0 0 0\n";
+const COUNTS: &str = "refused 2 at 0\nsteps 0\nmost 0 0 0 0\n";
 
 fn factorial_of_3() -> Vec<u8> {
     program_input(&image(2, factorial()), &[1, 3])
@@ -41,8 +41,12 @@ fn one_to_sixteen_bytes() {
             let (is_leaf, is_empty) = (input == leaf, input == [0; 8]);
             let whole = is_leaf || is_empty;
             assert_eq!(output == LENGTH || output == COUNTS, !whole, "{input:?}: {output}");
-            assert_eq!(is_leaf, output == "number 7\nsteps 1\n", "{input:?}: {output}");
-            assert_eq!(is_empty, output == "none\nsteps 0\n", "{input:?}: {output}");
+            assert_eq!(
+                is_leaf,
+                output == "number 7\nsteps 1\nmost 0 0 1 1\n",
+                "{input:?}: {output}"
+            );
+            assert_eq!(is_empty, output == "none\nsteps 0\nmost 0 0 0 0\n", "{input:?}: {output}");
             assert!(length >= 8 || output == LENGTH, "{input:?}: {output}");
         }
     }
@@ -54,7 +58,8 @@ fn every_cut_is_1() {
     for length in 0..whole.len() {
         assert_eq!(agreed_output(&whole[..length]), LENGTH, "{length} bytes");
     }
-    assert_eq!(agreed_output(&whole), "none\nsteps 71\nregister 0 6\nregister 1 0\n");
+    let output = "none\nsteps 71\nmost 2 2 3 6\nregister 0 6\nregister 1 0\n";
+    assert_eq!(agreed_output(&whole), output);
 }
 
 #[test]
@@ -81,7 +86,7 @@ fn counts_near_their_limits() {
             let counts = bytes_of(&[nodes, registers]);
             let fits = nodes <= 2_000 && registers <= 16;
             let output = match (fits, nodes, registers) {
-                (true, 0, 0) => "none\nsteps 0\n",
+                (true, 0, 0) => "none\nsteps 0\nmost 0 0 0 0\n",
                 (true, ..) => LENGTH,
                 (false, ..) => COUNTS,
             };
@@ -92,8 +97,11 @@ fn counts_near_their_limits() {
                 input.resize(8 + 8 * nodes as usize + 8 * registers as usize, 0);
                 let lines = (0..registers).map(|index| format!("register {index} 0\n"));
                 let output = match nodes {
-                    0 => format!("none\nsteps 0\n{}", lines.collect::<String>()),
-                    _ => "refused 3 at 0\nsteps 0\n".to_string(),
+                    0 => {
+                        let lines = lines.collect::<String>();
+                        format!("none\nsteps 0\nmost {registers} {registers} 0 0\n{lines}")
+                    }
+                    _ => "refused 3 at 0\nsteps 0\nmost 0 0 0 0\n".to_string(),
                 };
                 assert_eq!(agreed_output(&input), output);
                 input.pop();
@@ -109,7 +117,8 @@ fn inputs_longer_than_any_that_fit() {
     let whole = longest();
     assert_eq!(whole.len(), LONGEST_THAT_FITS);
     let registers: String = (1..16).map(|index| format!("register {index} -1\n")).collect();
-    assert_eq!(agreed_output(&whole), format!("none\nsteps 2667\nregister 0 1\n{registers}"));
+    let output = format!("none\nsteps 2667\nmost 16 16 2 11\nregister 0 1\n{registers}");
+    assert_eq!(agreed_output(&whole), output);
     let random = &mut Random::new(2);
     for more in [1, 2, 3, 8, 100, 49_399, 49_400, 49_401, 200_000] {
         let rest = random_bytes(more, random);
@@ -133,7 +142,7 @@ fn starting_values_are_read_least_byte_first() {
         let number = 200_u64 << (8 * index);
         let number = number as i64;
         let input = [&image[..], &value].concat();
-        let output = format!("number {number}\nsteps 1\nregister 0 {number}\n");
+        let output = format!("number {number}\nsteps 1\nmost 1 1 1 1\nregister 0 {number}\n");
         assert_eq!(agreed_output(&input), output);
     }
 }

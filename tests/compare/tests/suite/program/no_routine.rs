@@ -5,13 +5,14 @@ use crate::helpers::*;
 use compare::inputs::LONGEST_THAT_FITS;
 use second::encode::{bytes_of, program_input};
 
-const LENGTH: &str = "refused 1 at 0\nsteps 0\n";
-const COUNTS: &str = "refused 2 at 0\nsteps 0\n";
+const LENGTH: &str = "refused 1 at 0\nsteps 0\nmost 0 0 0 0\n";
+const COUNTS: &str = "refused 2 at 0\nsteps 0\nmost 0 0 0 0\n";
 
 /// What it prints for so many registers that start at 0x0101010101010101.
 fn none_with(registers: usize) -> String {
     let lines = (0..registers).map(|index| format!("register {index} 72340172838076673\n"));
-    format!("none\nsteps 0\n{}", lines.collect::<String>())
+    let lines = lines.collect::<String>();
+    format!("none\nsteps 0\nmost {registers} {registers} 0 0\n{lines}")
 }
 
 #[test]
@@ -43,7 +44,8 @@ fn with_every_count_of_registers() {
             .map(|(index, value)| format!("register {index} {value}\n"))
             .collect();
         let input = program_input(&[0, registers as u32], &starts);
-        assert_eq!(agreed_output(&input), format!("none\nsteps 0\n{lines}"));
+        let expected = format!("none\nsteps 0\nmost {registers} {registers} 0 0\n{lines}");
+        assert_eq!(agreed_output(&input), expected);
     }
 }
 
@@ -51,12 +53,13 @@ fn with_every_count_of_registers() {
 #[test]
 fn words_behind_r_are_starting_values() {
     let num_7 = bytes_of(&[0, 1, 1, 7]);
-    assert_eq!(agreed_output(&num_7), "none\nsteps 0\nregister 0 30064771073\n");
+    let one = "none\nsteps 0\nmost 1 1 0 0\nregister 0 30064771073\n";
+    assert_eq!(agreed_output(&num_7), one);
     assert_eq!(agreed_output(&bytes_of(&[0, 0, 1, 7])), LENGTH);
     let calculator = [&[0, 5], &CALCULATOR[2..]].concat();
     let output = agreed_output(&bytes_of(&calculator));
-    assert!(output.starts_with("none\nsteps 0\nregister 0 4294967302\n"), "{output}");
-    assert_eq!(output.lines().count(), 7);
+    assert!(output.starts_with("none\nsteps 0\nmost 5 5 0 0\nregister 0 4294967302\n"), "{output}");
+    assert_eq!(output.lines().count(), 8);
 }
 
 /// Longer than any input that fits, which the program does not read to its end.

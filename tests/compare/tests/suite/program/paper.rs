@@ -3,7 +3,9 @@
 
 use crate::helpers::*;
 use second::build::*;
+use second::encode;
 use second::encode::program_input;
+use second::generate::tower::{Layer, Tower};
 use second::tree::Root;
 
 fn output_of(root: impl Into<Root>, starts: &[i64]) -> String {
@@ -13,23 +15,28 @@ fn output_of(root: impl Into<Root>, starts: &[i64]) -> String {
 #[test]
 fn cases_a_to_l() {
     let table: [(&str, &[i64], &str); 13] = [
-        ("A", &[], "number 25\nsteps 7\n"),
-        ("D", &[], "number -2\nsteps 4\n"),
-        ("E", &[], "refused 31 at 0\nsteps 3\n"),
-        ("F", &[-7], "number -4\nsteps 4\nregister 0 -7\n"),
-        ("G", &[1, 3], "none\nsteps 71\nregister 0 6\nregister 1 0\n"),
-        ("G", &[1, 20], "none\nsteps 428\nregister 0 2432902008176640000\nregister 1 0\n"),
+        ("A", &[], "number 25\nsteps 7\nmost 0 0 3 4\n"),
+        ("D", &[], "number -2\nsteps 4\nmost 0 0 2 3\n"),
+        ("E", &[], "refused 31 at 0\nsteps 3\nmost 0 0 2 3\n"),
+        ("F", &[-7], "number -4\nsteps 4\nmost 1 1 2 3\nregister 0 -7\n"),
+        ("G", &[1, 3], "none\nsteps 71\nmost 2 2 3 6\nregister 0 6\nregister 1 0\n"),
+        (
+            "G",
+            &[1, 20],
+            "none\nsteps 428\nmost 2 2 3 6\nregister 0 2432902008176640000\nregister 1 0\n",
+        ),
         (
             "G",
             &[1, 21],
-            "refused 32 at 0\nsteps 391\nregister 0 8515157028618240000\nregister 1 3\n",
+            "refused 32 at 0\nsteps 391\nmost 2 2 3 6\n\
+             register 0 8515157028618240000\nregister 1 3\n",
         ),
-        ("H", &[5], "none\nsteps 14\nregister 0 10\n"),
-        ("I", &[0], "none\nsteps 21\nregister 0 7\n"),
-        ("I", &[i64::MIN], "none\nsteps 21\nregister 0 7\n"),
-        ("J", &[9], "none\nsteps 14\nregister 0 10\n"),
-        ("K", &[9], "refused 13 at 4\nsteps 0\n"),
-        ("L", &[], "none\nsteps 19\n"),
+        ("H", &[5], "none\nsteps 14\nmost 2 2 5 6\nregister 0 10\n"),
+        ("I", &[0], "none\nsteps 21\nmost 2 4 8 8\nregister 0 7\n"),
+        ("I", &[i64::MIN], "none\nsteps 21\nmost 2 4 8 8\nregister 0 7\n"),
+        ("J", &[9], "none\nsteps 14\nmost 2 2 5 6\nregister 0 10\n"),
+        ("K", &[9], "refused 13 at 4\nsteps 0\nmost 0 0 0 0\n"),
+        ("L", &[], "none\nsteps 19\nmost 2 2 5 9\n"),
     ];
     for (case, starts, output) in table {
         let input = program_input(&papers_image(case), starts);
@@ -39,17 +46,19 @@ fn cases_a_to_l() {
 
 #[test]
 fn each_sort_of_outcome() {
-    assert_eq!(output_of(num(0), &[]), "number 0\nsteps 1\n");
-    assert_eq!(output_of(num(u32::MAX), &[]), "number 4294967295\nsteps 1\n");
-    assert_eq!(output_of(boo(false), &[]), "truth 0\nsteps 1\n");
-    assert_eq!(output_of(boo(true), &[]), "truth 1\nsteps 1\n");
-    assert_eq!(output_of(deref(1), &[4, -4]), "cell 1\nsteps 1\nregister 0 4\nregister 1 -4\n");
-    assert_eq!(output_of(assign(0, num(1)), &[7]), "none\nsteps 3\nregister 0 1\n");
+    assert_eq!(output_of(num(0), &[]), "number 0\nsteps 1\nmost 0 0 1 1\n");
+    let greatest = "number 4294967295\nsteps 1\nmost 0 0 1 1\n";
+    assert_eq!(output_of(num(u32::MAX), &[]), greatest);
+    assert_eq!(output_of(boo(false), &[]), "truth 0\nsteps 1\nmost 0 0 1 1\n");
+    assert_eq!(output_of(boo(true), &[]), "truth 1\nsteps 1\nmost 0 0 1 1\n");
+    let cell = "cell 1\nsteps 1\nmost 2 2 1 1\nregister 0 4\nregister 1 -4\n";
+    assert_eq!(output_of(deref(1), &[4, -4]), cell);
+    assert_eq!(output_of(assign(0, num(1)), &[7]), "none\nsteps 3\nmost 1 1 2 2\nregister 0 1\n");
     let either = |truth| cond(boo(truth), assign(0, num(1)), assign(0, num(2)));
-    assert_eq!(output_of(either(true), &[7]), "none\nsteps 6\nregister 0 1\n");
-    assert_eq!(output_of(either(false), &[7]), "none\nsteps 6\nregister 0 2\n");
-    assert_eq!(output_of(absent(), &[7]), "none\nsteps 0\nregister 0 7\n");
-    assert_eq!(output_of(absent(), &[]), "none\nsteps 0\n");
+    assert_eq!(output_of(either(true), &[7]), "none\nsteps 6\nmost 1 1 2 2\nregister 0 1\n");
+    assert_eq!(output_of(either(false), &[7]), "none\nsteps 6\nmost 1 1 2 2\nregister 0 2\n");
+    assert_eq!(output_of(absent(), &[7]), "none\nsteps 0\nmost 1 1 0 0\nregister 0 7\n");
+    assert_eq!(output_of(absent(), &[]), "none\nsteps 0\nmost 0 0 0 0\n");
 }
 
 /// Each cell of 16 registers, and each register's number.
@@ -62,7 +71,7 @@ fn sixteen_registers() {
         .map(|(index, value)| format!("register {index} {value}\n"))
         .collect();
     for cell in 0..16 {
-        let output = format!("cell {cell}\nsteps 1\n{registers}");
+        let output = format!("cell {cell}\nsteps 1\nmost 16 16 1 1\n{registers}");
         assert_eq!(output_of(deref(cell), &starts), output);
     }
 }
@@ -74,21 +83,29 @@ fn every_power_of_ten_and_of_two() {
     let twos = (0..63).map(|power| 1_i64 << power);
     for value in tens.chain(twos).chain([i64::MAX]) {
         for value in [value - 1, value, -value, -value - 1] {
-            let output = format!("number {value}\nsteps 1\nregister 0 {value}\n");
+            let output = format!("number {value}\nsteps 1\nmost 1 1 1 1\nregister 0 {value}\n");
             assert_eq!(output_of(id(0), &[value]), output);
         }
     }
 }
 
-/// The longest output there is: a refused run over 16 of the longest values.
+/// The longest output there is: a refused run over 16 of the longest values, with marks of
+/// three digits, for no limit has more.
 #[test]
 fn the_longest_output() {
-    let output = output_of(repeat(boo(true), assign(0, id(0))), &[i64::MIN; 16]);
-    let mut expected = "refused 30 at 0\nsteps 1000000\n".to_string();
+    let blocks = vec![Layer::Block { plain: 1, cells: 4 }; 40];
+    let layers = [blocks, vec![Layer::Sequence; 60]].concat();
+    let inner = repeat(boo(true), assign(0, id(0)));
+    let tower = Tower { registers: 16, functions: 4, formals: 0, helper_formals: 0, layers, inner };
+    let output = agreed_output(&program_input(&encode(&tower.routine()), &[i64::MIN; 16]));
+    // 53 blocks and calls hold two entries of V and one of control; the Loop and its Assign
+    // come on top of them and of the CSeqs.
+    let mut expected = "refused 30 at 0\nsteps 1000000\nmost 176 225 108 116\n".to_string();
     for index in 0..16 {
         expected += &format!("register {index} -9223372036854775808\n");
     }
     assert_eq!(output, expected);
+    assert_eq!(expected.len(), 16 + 14 + 21 + 10 * 32 + 6 * 33);
 }
 
 /// An Assign with Sums below it, to this depth.
@@ -100,8 +117,8 @@ fn sums(depth: usize) -> Root {
 #[test]
 fn depth_64_may_pass_and_65_is_6() {
     let starts = &[0];
-    assert_eq!(output_of(sums(64), starts), "none\nsteps 189\nregister 0 63\n");
-    assert_eq!(output_of(sums(65), starts), "refused 6 at 64\nsteps 0\n");
+    assert_eq!(output_of(sums(64), starts), "none\nsteps 189\nmost 1 1 3 126\nregister 0 63\n");
+    assert_eq!(output_of(sums(65), starts), "refused 6 at 64\nsteps 0\nmost 0 0 0 0\n");
 }
 
 #[test]
@@ -110,8 +127,11 @@ fn n_2_000_may_pass_and_2_001_is_2() {
     let line = |assigns: usize| in_turn(vec![assign(0, num(1)); assigns]);
     let whole = image(1, line(667));
     assert_eq!(whole[0], 2_000);
-    assert_eq!(agreed_output(&program_input(&whole, &[5])), "none\nsteps 2667\nregister 0 1\n");
+    // Nine CSeqs deep to the left, and the Assign's own step.
+    let expected = "none\nsteps 2667\nmost 1 1 2 11\nregister 0 1\n";
+    assert_eq!(agreed_output(&program_input(&whole, &[5])), expected);
     let over = image(1, cseq(line(665), assign(0, sum(num(1), sum(num(1), num(1))))));
     assert_eq!(over[0], 2_001);
-    assert_eq!(agreed_output(&program_input(&over, &[5])), "refused 2 at 0\nsteps 0\n");
+    let refused = "refused 2 at 0\nsteps 0\nmost 0 0 0 0\n";
+    assert_eq!(agreed_output(&program_input(&over, &[5])), refused);
 }

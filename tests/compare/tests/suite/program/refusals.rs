@@ -13,9 +13,9 @@ fn output_of(root: impl Into<Root>, starts: &[i64]) -> String {
     agreed_output(&program_input(&image(starts.len() as u32, root), starts))
 }
 
-/// Refused before the first step: the registers are not printed.
+/// Refused before the first step: the marks are 0, and the registers are not printed.
 fn before_the_run(number: u32, place: u32) -> String {
-    format!("refused {number} at {place}\nsteps 0\n")
+    format!("refused {number} at {place}\nsteps 0\nmost 0 0 0 0\n")
 }
 
 #[test]
@@ -79,17 +79,21 @@ fn refusals_10_to_14() {
 fn refusals_30_to_32() {
     assert_eq!(
         output_of(repeat(boo(true), assign(0, num(7))), &[5]),
-        "refused 30 at 0\nsteps 1000000\nregister 0 7\n"
+        "refused 30 at 0\nsteps 1000000\nmost 1 1 2 3\nregister 0 7\n"
     );
     let both = cseq(assign(0, num(8)), assign(1, div(id(0), id(1))));
-    assert_eq!(output_of(both, &[5, 0]), "refused 31 at 0\nsteps 8\nregister 0 8\nregister 1 0\n");
+    assert_eq!(
+        output_of(both, &[5, 0]),
+        "refused 31 at 0\nsteps 8\nmost 2 2 3 4\nregister 0 8\nregister 1 0\n"
+    );
     assert_eq!(
         output_of(sum(id(0), num(1)), &[i64::MAX]),
-        "refused 32 at 0\nsteps 3\nregister 0 9223372036854775807\n"
+        "refused 32 at 0\nsteps 3\nmost 1 1 2 3\nregister 0 9223372036854775807\n"
     );
     assert_eq!(
         output_of(div(id(0), id(1)), &[i64::MIN, -1]),
-        "refused 32 at 0\nsteps 3\nregister 0 -9223372036854775808\nregister 1 -1\n"
+        "refused 32 at 0\nsteps 3\nmost 2 2 2 3\n\
+         register 0 -9223372036854775808\nregister 1 -1\n"
     );
 }
 
@@ -107,9 +111,10 @@ fn the_budget_is_one_million() {
     let (none, one) = (steps(&turns(0)), steps(&turns(1)));
     let most = (1_000_000 - none) / (one - none);
     let last = turns(most as i64);
-    assert!(last.starts_with("none\n") && last.ends_with("\nregister 0 0\n"), "{last}");
+    let left = "\nmost 1 1 3 5\nregister 0 0\n";
+    assert!(last.starts_with("none\n") && last.ends_with(left), "{last}");
     let over = turns(most as i64 + 1);
-    assert!(over.starts_with("refused 30 at 0\nsteps 1000000\n"), "{over}");
+    assert!(over.starts_with("refused 30 at 0\nsteps 1000000\nmost 1 1 3 5\n"), "{over}");
 }
 
 /// Blocks one in the other, each with so many declarations.
@@ -119,23 +124,23 @@ fn nested(blocks: usize, names: u32, declaration: fn(u32) -> Declaration) -> Com
     })
 }
 
-/// 256 cells and 512 bindings may be; one more may not.
+/// 256 cells and 512 bindings may be; one more may not, and is no mark.
 #[test]
 fn refusals_33_and_34() {
     let cells = |names| nested(5, names, |name| bind_ref(name, num(4)));
     let plain = |names| nested(9, names, |name| bind(name, num(4)));
     let table = [
-        (cells(51), 1, "none\n"),
-        (cells(51), 2, "refused 33 at 0\n"),
-        (plain(56), 8, "none\n"),
-        (plain(56), 9, "refused 34 at 0\n"),
+        (cells(51), 1, "none\n", "\nmost 256 256 "),
+        (cells(51), 2, "refused 33 at 0\n", "\nmost 256 256 "),
+        (plain(56), 8, "none\n", "\nmost 8 512 "),
+        (plain(56), 9, "refused 34 at 0\n", "\nmost 9 512 "),
     ];
-    for (root, registers, outcome) in table {
+    for (root, registers, outcome, marks) in table {
         let output = output_of(root, &vec![3; registers]);
-        assert!(output.starts_with(outcome), "{output}");
+        assert!(output.starts_with(outcome) && output.contains(marks), "{output}");
         let changed = if outcome == "none\n" { 1 } else { 3 };
         assert!(output.contains(&format!("\nregister 0 {changed}\n")), "{output}");
-        assert_eq!(output.lines().count(), 2 + registers);
+        assert_eq!(output.lines().count(), 3 + registers);
     }
 }
 
@@ -172,7 +177,10 @@ fn refusal_36_where_both_stacks_are_full() {
     for (control, number) in [(507, 35), (508, 35), (509, 36), (510, 36), (511, 36)] {
         let output = agreed_output(&program_input(&call_with_full_values(control), &[5]));
         let steps = steps_before_the_blk(control);
-        let expected = format!("refused {number} at 0\nsteps {steps}\nregister 0 77\n");
+        // 244 blocks bind a name each; the call's mark leaves 512 on V and one more than the
+        // Call on control.
+        let most = format!("most 1 245 512 {}", control + 1);
+        let expected = format!("refused {number} at 0\nsteps {steps}\n{most}\nregister 0 77\n");
         assert_eq!(output, expected, "{control}");
     }
 }

@@ -114,7 +114,7 @@ fn anything_else_is_said() {
     said(&["--whole"], 2, "no option --whole; see --help");
     said(&["--test", "one"], 2, "wrong arguments for --test; see --help");
     said(&["--test", "/", "/no/file"], 2, "/ cannot be read");
-    let product = ["printf", "number 25\\nsteps 7\\n"];
+    let product = ["printf", "number 25\\nsteps 7\\nmost 0 0 3 4\\n"];
     let output = answered(&product, &input, full().into());
     let errors = String::from_utf8(output.stderr).expect("text");
     assert!(errors.contains("the answer could not be written whole"), "{errors}");

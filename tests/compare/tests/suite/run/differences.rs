@@ -52,8 +52,9 @@ fn a_wrong_reply_is_shown_with_the_tree_and_the_words() {
     };
     let expected = "\
 run of 12 words, registers [], budget 1000000, work slice of 8192 words
-  the second interpreter says number 25, steps 7 (refusal 0, outcome 1, value 0x19, place 0)
-  the engine says             number -2, steps 7 \
+  the second interpreter says number 25, steps 7, most 0 0 3 4 \
+(refusal 0, outcome 1, value 0x19, place 0)
+  the engine says             number -2, steps 7, most 0 0 3 4 \
 (refusal 0, outcome 1, value 0xfffffffffffffffe, place 0)
 ";
     let shown = format!("{expected}{CALCULATOR_SHOWN}");
@@ -62,12 +63,16 @@ run of 12 words, registers [], budget 1000000, work slice of 8192 words
 
 #[test]
 fn each_number_of_the_reply_counts() {
-    let wrongs: [fn(&mut RunReply); 5] = [
+    let wrongs: [fn(&mut RunReply); 9] = [
         |reply| reply.refusal ^= 1,
         |reply| reply.outcome ^= 1,
         |reply| reply.value ^= 1,
         |reply| reply.place ^= 1,
         |reply| reply.steps ^= 1,
+        |reply| reply.cells ^= 1,
+        |reply| reply.bindings ^= 1,
+        |reply| reply.values ^= 1,
+        |reply| reply.control ^= 1,
     ];
     for case in papers_calls() {
         for wrong in wrongs {
@@ -79,6 +84,45 @@ fn each_number_of_the_reply_counts() {
             assert!(found(run, &case).contains("the engine says"));
         }
     }
+}
+
+/// The marks of a run, with one state left out, one too many, or two of them exchanged.
+#[test]
+fn marks_of_other_states_are_found() {
+    let calls = papers_calls();
+    let exchanged = |one: fn(&mut RunReply) -> &mut u64, other: fn(&mut RunReply) -> &mut u64| {
+        move |image: &[u32], registers: &mut [u64], budget, work: &mut [u64]| {
+            let mut reply = right(image, registers, budget, work);
+            let (first, second) = (*one(&mut reply), *other(&mut reply));
+            (*one(&mut reply), *other(&mut reply)) = (second, first);
+            reply
+        }
+    };
+    // Case I has more bindings than cells, and case A more control entries than values.
+    let (product, function) = (&calls[0], &calls[6]);
+    let values_and_control = exchanged(|reply| &mut reply.values, |reply| &mut reply.control);
+    let text = found(values_and_control, product);
+    assert!(text.contains(", most 0 0 3 4 ") && text.contains(", most 0 0 4 3 "), "{text}");
+    let cells_and_bindings = exchanged(|reply| &mut reply.cells, |reply| &mut reply.bindings);
+    let text = found(cells_and_bindings, function);
+    assert!(text.contains(", most 2 4 8 8 ") && text.contains(", most 4 2 8 8 "), "{text}");
+    // The state that a withheld step would leave.
+    let late = |image: &[u32], registers: &mut [u64], budget, work: &mut [u64]| {
+        let reply = right(image, &mut registers.to_vec(), budget + 1, work);
+        let [cells, bindings, values, control] = reply.marks();
+        let reply = right(image, registers, budget, work);
+        RunReply { cells, bindings, values, control, ..reply }
+    };
+    let text = found(late, &Case { budget: 0, ..product.clone() });
+    assert!(text.contains(", most 0 0 0 1 ") && text.contains(", most 0 0 0 3 "), "{text}");
+    // Those of the image with a refused call.
+    let kept = |image: &[u32], registers: &mut [u64], budget, work: &mut [u64]| {
+        let reply = right(image, registers, budget, work);
+        RunReply { cells: registers.len() as u64, ..reply }
+    };
+    let refused = Case { budget: MOST_BUDGET + 1, ..function.clone() };
+    let text = found(kept, &refused);
+    assert!(text.contains(", most 0 0 0 0 ") && text.contains(", most 1 0 0 0 "), "{text}");
 }
 
 #[test]
@@ -100,9 +144,10 @@ fn a_wrong_register_is_found() {
 #[test]
 fn registers_of_another_step_are_found() {
     let case = Case { budget: 2, ..with_starts(image(1, assign(0, num(7))), &[5]) };
-    let late = |image: &[u32], registers: &mut [u64], _, work: &mut [u64]| {
-        right(image, registers, 3, work);
-        RunReply { refusal: 30, outcome: 0, value: 0, place: 0, steps: 2 }
+    let late = |image: &[u32], registers: &mut [u64], budget, work: &mut [u64]| {
+        let reply = right(image, &mut registers.to_vec(), budget, work);
+        right(image, registers, budget + 1, work);
+        reply
     };
     let text = found(late, &case);
     assert!(text.contains("the register slice: word 0 is 7 and must be 5"), "{text}");

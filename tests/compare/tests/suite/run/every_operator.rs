@@ -4,6 +4,7 @@ use crate::helpers::{agreed_run, agreed_tree_run, with_starts};
 use second::build::*;
 use second::engine::{Outcome, Reply};
 use second::generate::random::Random;
+use second::state::Heights;
 use second::tree::Operator::{self, *};
 
 const OF_INTEGERS: [Operator; 9] = [Sum, Sub, Mul, Div, Eq, Lt, Le, Gt, Ge];
@@ -49,6 +50,7 @@ fn rounded_down(left: i64, right: i64) -> Option<i64> {
 #[test]
 fn of_two_integers() {
     let random = &mut Random::new(1);
+    let marks = Heights::new(2, 2, 2, 3);
     let notable = notable();
     for operator in OF_INTEGERS {
         let mut case = with_starts(image(2, binary(operator, id(0), id(1))), &[0, 0]);
@@ -57,7 +59,7 @@ fn of_two_integers() {
                 case.registers = vec![*left, *right];
                 let ran = agreed_run(&case, random);
                 match result(operator, *left, *right) {
-                    Ok(outcome) => assert_eq!(ran.reply, Reply { outcome, steps: 4 }),
+                    Ok(outcome) => assert_eq!(ran.reply, Reply { outcome, steps: 4, marks }),
                     Err(number) => assert_eq!((ran.refused(), ran.reply.steps), (number, 3)),
                 }
                 assert_eq!(ran.registers, [*left, *right]);

@@ -12,6 +12,7 @@ mod functions;
 mod host;
 mod limits;
 mod loops;
+mod marks;
 mod no_routine;
 mod paper;
 mod sequence_limits;

@@ -57,7 +57,9 @@ fn none_in_0_steps_in_the_engines_numbers() {
             let before = as_words(&starts(registers as usize));
             let (mut after, mut work) = (before.clone(), marked.clone());
             let reply = engine::run(&[0, registers], &mut after, budget, &mut work);
-            let ended = RunReply { refusal: 0, outcome: 0, value: 0, place: 0, steps: 0 };
+            // The only state has the registers' cells and bindings.
+            let (cells, bindings) = (registers.into(), registers.into());
+            let ended = RunReply { cells, bindings, ..RunReply::default() };
             assert_eq!(reply, ended, "r {registers}, budget {budget}");
             assert_eq!(after, before);
             assert!(work[..WORK_WORDS].iter().all(|word| *word == 0));

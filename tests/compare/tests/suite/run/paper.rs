@@ -17,12 +17,17 @@ fn run(image: &[u32], starts: &[i64], budget: u64) -> (RunReply, Vec<i64>) {
     (reply, registers.into_iter().map(|word| word as i64).collect())
 }
 
-fn ended(outcome: u64, value: i64, steps: u64) -> RunReply {
-    RunReply { refusal: 0, outcome, value: value as u64, place: 0, steps }
+/// The high marks of a reply: cells, bindings, value entries, control entries.
+type Marks = [u64; 4];
+
+fn ended(outcome: u64, value: i64, steps: u64, marks: Marks) -> RunReply {
+    let [cells, bindings, values, control] = marks;
+    let (refusal, value, place) = (0, value as u64, 0);
+    RunReply { refusal, outcome, value, place, steps, cells, bindings, values, control }
 }
 
-fn no(refusal: u64, place: u64, steps: u64) -> RunReply {
-    RunReply { refusal, outcome: 0, value: 0, place, steps }
+fn no(refusal: u64, place: u64, steps: u64, marks: Marks) -> RunReply {
+    RunReply { refusal, place, ..ended(0, 0, steps, marks) }
 }
 
 #[test]
@@ -30,25 +35,25 @@ fn cases_a_to_l() {
     type Row = (&'static str, &'static [i64], u64, RunReply, &'static [i64]);
     const MOST: u64 = MOST_BUDGET;
     let table: [Row; 19] = [
-        ("A", &[], MOST, ended(NUMBER, 25, 7), &[]),
-        ("A", &[], 6, no(30, 0, 6), &[]),
-        ("A", &[], 7, ended(NUMBER, 25, 7), &[]),
-        ("A", &[], 0, no(30, 0, 0), &[]),
-        ("D", &[], MOST, ended(NUMBER, -2, 4), &[]),
-        ("E", &[], MOST, no(31, 0, 3), &[]),
-        ("F", &[-7], MOST, ended(NUMBER, -4, 4), &[-7]),
-        ("G", &[1, 3], MOST, ended(NONE, 0, 71), &[6, 0]),
-        ("G", &[1, 20], MOST, ended(NONE, 0, 428), &[2_432_902_008_176_640_000, 0]),
-        ("G", &[1, 21], MOST, no(32, 0, 391), &[8_515_157_028_618_240_000, 3]),
-        ("H", &[5], MOST, ended(NONE, 0, 14), &[10]),
-        ("I", &[0], MOST, ended(NONE, 0, 21), &[7]),
-        ("J", &[9], MOST, ended(NONE, 0, 14), &[10]),
-        ("K", &[9], MOST, no(13, 4, 0), &[9]),
-        ("L", &[], MOST, ended(NONE, 0, 19), &[]),
-        ("L", &[], 18, no(30, 0, 18), &[]),
-        ("G", &[1, 3], 71, ended(NONE, 0, 71), &[6, 0]),
-        ("G", &[1, 3], 70, no(30, 0, 70), &[6, 0]),
-        ("G", &[1, 3], 10, no(30, 0, 10), &[1, 3]),
+        ("A", &[], MOST, ended(NUMBER, 25, 7, [0, 0, 3, 4]), &[]),
+        ("A", &[], 6, no(30, 0, 6, [0, 0, 3, 4]), &[]),
+        ("A", &[], 7, ended(NUMBER, 25, 7, [0, 0, 3, 4]), &[]),
+        ("A", &[], 0, no(30, 0, 0, [0, 0, 0, 1]), &[]),
+        ("D", &[], MOST, ended(NUMBER, -2, 4, [0, 0, 2, 3]), &[]),
+        ("E", &[], MOST, no(31, 0, 3, [0, 0, 2, 3]), &[]),
+        ("F", &[-7], MOST, ended(NUMBER, -4, 4, [1, 1, 2, 3]), &[-7]),
+        ("G", &[1, 3], MOST, ended(NONE, 0, 71, [2, 2, 3, 6]), &[6, 0]),
+        ("G", &[1, 20], MOST, ended(NONE, 0, 428, [2, 2, 3, 6]), &[2_432_902_008_176_640_000, 0]),
+        ("G", &[1, 21], MOST, no(32, 0, 391, [2, 2, 3, 6]), &[8_515_157_028_618_240_000, 3]),
+        ("H", &[5], MOST, ended(NONE, 0, 14, [2, 2, 5, 6]), &[10]),
+        ("I", &[0], MOST, ended(NONE, 0, 21, [2, 4, 8, 8]), &[7]),
+        ("J", &[9], MOST, ended(NONE, 0, 14, [2, 2, 5, 6]), &[10]),
+        ("K", &[9], MOST, no(13, 4, 0, [0, 0, 0, 0]), &[9]),
+        ("L", &[], MOST, ended(NONE, 0, 19, [2, 2, 5, 9]), &[]),
+        ("L", &[], 18, no(30, 0, 18, [2, 2, 5, 9]), &[]),
+        ("G", &[1, 3], 71, ended(NONE, 0, 71, [2, 2, 3, 6]), &[6, 0]),
+        ("G", &[1, 3], 70, no(30, 0, 70, [2, 2, 3, 6]), &[6, 0]),
+        ("G", &[1, 3], 10, no(30, 0, 10, [2, 2, 3, 5]), &[1, 3]),
     ];
     for (name, starts, budget, reply, registers) in table {
         let what = format!("case {name}, registers {starts:?}, budget {budget}");
@@ -59,16 +64,19 @@ fn cases_a_to_l() {
 #[test]
 fn each_sort_of_outcome() {
     let outcome = |image: Vec<u32>, starts: &[i64]| run(&image, starts, MOST_BUDGET).0;
-    assert_eq!(outcome(image(0, num(u32::MAX)), &[]), ended(NUMBER, u32::MAX.into(), 1));
-    assert_eq!(outcome(image(1, id(0)), &[i64::MIN]), ended(NUMBER, i64::MIN, 1));
-    assert_eq!(outcome(image(1, id(0)), &[-1]), ended(NUMBER, -1, 1));
-    assert_eq!(outcome(image(0, num(0)), &[]), ended(NUMBER, 0, 1));
-    assert_eq!(outcome(image(0, boo(false)), &[]), ended(TRUTH, 0, 1));
-    assert_eq!(outcome(image(0, boo(true)), &[]), ended(TRUTH, 1, 1));
-    assert_eq!(outcome(image(1, deref(0)), &[7]), ended(CELL, 0, 1));
-    assert_eq!(outcome(image(16, deref(15)), &[7; 16]), ended(CELL, 15, 1));
-    assert_eq!(outcome(image(1, assign(0, num(1))), &[7]), ended(NONE, 0, 3));
-    assert_eq!(outcome(image(1, absent()), &[7]), ended(NONE, 0, 0));
+    assert_eq!(
+        outcome(image(0, num(u32::MAX)), &[]),
+        ended(NUMBER, u32::MAX.into(), 1, [0, 0, 1, 1])
+    );
+    assert_eq!(outcome(image(1, id(0)), &[i64::MIN]), ended(NUMBER, i64::MIN, 1, [1, 1, 1, 1]));
+    assert_eq!(outcome(image(1, id(0)), &[-1]), ended(NUMBER, -1, 1, [1, 1, 1, 1]));
+    assert_eq!(outcome(image(0, num(0)), &[]), ended(NUMBER, 0, 1, [0, 0, 1, 1]));
+    assert_eq!(outcome(image(0, boo(false)), &[]), ended(TRUTH, 0, 1, [0, 0, 1, 1]));
+    assert_eq!(outcome(image(0, boo(true)), &[]), ended(TRUTH, 1, 1, [0, 0, 1, 1]));
+    assert_eq!(outcome(image(1, deref(0)), &[7]), ended(CELL, 0, 1, [1, 1, 1, 1]));
+    assert_eq!(outcome(image(16, deref(15)), &[7; 16]), ended(CELL, 15, 1, [16, 16, 1, 1]));
+    assert_eq!(outcome(image(1, assign(0, num(1))), &[7]), ended(NONE, 0, 3, [1, 1, 2, 2]));
+    assert_eq!(outcome(image(1, absent()), &[7]), ended(NONE, 0, 0, [1, 1, 0, 0]));
 }
 
 /// The paper's images at every budget, against the second interpreter.
