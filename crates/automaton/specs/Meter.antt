@@ -29,10 +29,13 @@ abbrev pub after-step : HighMarks → Stepped → HighMarks
 after-step h (Made m) = all-raised h m
 after-step h (Withheld x) = h
 
--- The same by the word of the item that was on top of control, with the sizes alone that such an item can raise: a node the stacks, and a mark
--- with a number below Loop's nothing.
+-- The marks with lower numbers, of the operators, of Not and of Assign, raise nothing.
+abbrev pub first-that-raises : ℕ
+first-that-raises = mark-number loop-mark
+
+-- The same by the word of the item that was on top of control, with the sizes alone that such an item can raise: a node raises the stacks alone.
 abbrev pub marks-by-word : HighMarks → (word : ℕ) → Stepped → HighMarks
-marks-by-word h w (Made m) = cond (ltb w mark-base) (stacks-raised h m) (cond (ltb (w % mark-numbers) (mark-number loop-mark)) h (all-raised h m))
+marks-by-word h w (Made m) = cond (ltb w mark-base) (stacks-raised h m) (cond (ltb (w % mark-numbers) first-that-raises) h (all-raised h m))
 marks-by-word h w (Withheld x) = h
 
 -- No size of the machine's state is above its mark.

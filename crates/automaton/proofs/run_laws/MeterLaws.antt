@@ -9,12 +9,12 @@ use borrow.Author.Tests.{lt-ltb, le-ltb, ltb-true, ltb-false}
 use lib.Dec.{ltb}
 use lib.ListN.{length, getD}
 use Rattle.rules.specs.paper.Limits.{names}
-use Rattle.rules.specs.paper.States.{Environment, Store, Entry, Item, mark, Mark, loop-mark, State, state, control-of, values-of, store-of, bindings-of}
+use Rattle.rules.specs.paper.States.{Environment, Store, Entry, Item, mark, Mark, State, state, control-of, values-of, store-of, bindings-of}
 use Rattle.rules.specs.paper.Rules.{Rule, Effect, goes, Table}
 use Rattle.rules.specs.paper.Run.{Verdict, made, withheld, judge}
 use Rattle.rules.specs.proofs.running.Judging.{made-goes}
 use Rattle.rules.specs.proofs.running.StepSizes.{IsNode, KeepsMemory, node-keeps-memory, RaisesNothing, NoneAbove, mark-raises-nothing}
-use Rattle.machine.specs.Layout.{top-control, mark-base, mark-numbers, mark-number}
+use Rattle.machine.specs.Layout.{top-control, mark-base, mark-numbers}
 use Rattle.machine.specs.Regions.{regions}
 use Rattle.machine.specs.Represents.{Mode, ControlAs, operator-on, not-on, assign-on, loop-on, conditional-on, ref-on, bind-on, dseq-extend-on, dseq-join-on, extend-on, leave-on, call-on}
 use Rattle.machine.specs.Steps.{Stands, Holds, IsMade, IsWithheld, StepAnswer}
@@ -23,7 +23,7 @@ use Rattle.machine.specs.declared.Stepped.{Stepped}
 use Rattle.machine.specs.declared.Stepped.the-variants.{Made, Withheld}
 use Rattle.machine.proofs.state_laws.ModelLaws.{Sizes, sizes}
 use Rattle.automaton.specs.Runs.{EnabledAt, Enabled, StepsFrom}
-use Rattle.automaton.specs.Meter.{stacks-raised, all-raised, after-step, marks-by-word, Covers}
+use Rattle.automaton.specs.Meter.{first-that-raises, stacks-raised, all-raised, after-step, marks-by-word, Covers}
 use Rattle.automaton.specs.declared.meter.HighMarks.{HighMarks}
 use Rattle.automaton.proofs.step_laws.StepLaws.{lowered, ItemSort, expression-sort, command-sort, declaration-sort, reference-sort, abstraction-sort, mark-sort, Taken, taken}
 use Rattle.automaton.proofs.step_laws.MarkRuleLaws.{leave-kind, call-kind}
@@ -38,7 +38,7 @@ is-node (reference-sort l q) h = tt
 is-node (abstraction-sort l q) h = tt
 is-node (mark-sort l) h = absurd (omega (arith, l, h))
 
-raises-nothing : {nodes : List ℕ} {m : Mode} {w : ℕ} {ws : List ℕ} {C : List Item} {k : Mark} → ControlAs nodes m (w ∷ ws) (mark k ∷ C) → w % mark-numbers < mark-number loop-mark → RaisesNothing k
+raises-nothing : {nodes : List ℕ} {m : Mode} {w : ℕ} {ws : List ℕ} {C : List Item} {k : Mark} → ControlAs nodes m (w ∷ ws) (mark k ∷ C) → w % mark-numbers < first-that-raises → RaisesNothing k
 raises-nothing (operator-on q h) l = tt
 raises-nothing (not-on q h) l = tt
 raises-nothing (assign-on q h) l = tt
@@ -58,18 +58,18 @@ module _ (h : HighMarks) (w : ℕ) (answer : Stepped) (next : Machine) (q : answ
   pub node-marks : w < mark-base → stacks-raised h next ≡ marks-by-word h w answer
   node-marks l =
       subst (λ a. stacks-raised h next ≡ marks-by-word h w a) (sym q)
-      (sym (ap (λ t. cond t (stacks-raised h next) (cond (ltb (w % mark-numbers) (mark-number loop-mark)) h (all-raised h next))) (lt-ltb w mark-base l)))
+      (sym (ap (λ t. cond t (stacks-raised h next) (cond (ltb (w % mark-numbers) first-that-raises) h (all-raised h next))) (lt-ltb w mark-base l)))
 
-  mark-marks : mark-base ≤ w → cond (ltb (w % mark-numbers) (mark-number loop-mark)) h (all-raised h next) ≡ marks-by-word h w answer
+  mark-marks : mark-base ≤ w → cond (ltb (w % mark-numbers) first-that-raises) h (all-raised h next) ≡ marks-by-word h w answer
   mark-marks l =
-      subst (λ a. cond (ltb (w % mark-numbers) (mark-number loop-mark)) h (all-raised h next) ≡ marks-by-word h w a) (sym q)
-      (sym (ap (λ t. cond t (stacks-raised h next) (cond (ltb (w % mark-numbers) (mark-number loop-mark)) h (all-raised h next))) (le-ltb w mark-base l)))
+      subst (λ a. cond (ltb (w % mark-numbers) first-that-raises) h (all-raised h next) ≡ marks-by-word h w a) (sym q)
+      (sym (ap (λ t. cond t (stacks-raised h next) (cond (ltb (w % mark-numbers) first-that-raises) h (all-raised h next))) (le-ltb w mark-base l)))
 
-  pub low-marks : mark-base ≤ w → w % mark-numbers < mark-number loop-mark → h ≡ marks-by-word h w answer
-  low-marks l g = sym (ap (λ t. cond t h (all-raised h next)) (lt-ltb (w % mark-numbers) (mark-number loop-mark) g)) ∙ mark-marks l
+  pub low-marks : mark-base ≤ w → w % mark-numbers < first-that-raises → h ≡ marks-by-word h w answer
+  low-marks l g = sym (ap (λ t. cond t h (all-raised h next)) (lt-ltb (w % mark-numbers) first-that-raises g)) ∙ mark-marks l
 
-  pub other-marks : mark-base ≤ w → mark-number loop-mark ≤ w % mark-numbers → all-raised h next ≡ marks-by-word h w answer
-  other-marks l g = sym (ap (λ t. cond t h (all-raised h next)) (le-ltb (w % mark-numbers) (mark-number loop-mark) g)) ∙ mark-marks l
+  pub other-marks : mark-base ≤ w → first-that-raises ≤ w % mark-numbers → all-raised h next ≡ marks-by-word h w answer
+  other-marks l g = sym (ap (λ t. cond t h (all-raised h next)) (le-ltb (w % mark-numbers) first-that-raises g)) ∙ mark-marks l
 
 -- ---- A step that is made.
 
@@ -85,7 +85,7 @@ module _ (words : List ℕ) (m : Machine) (h : HighMarks) (covers : Covers h m) 
   by-item : (next : Machine) (w : ℕ) → w ≡ getD words (top-control + m .control) 0 → {i : Item} {C : List Item} {X : List Entry} {E : Environment} {S : Store} {L : List ℕ} {n : ℕ} {r : Rule} →
       (C′ : List Item) (X′ : List Entry) (E′ : Environment) (S′ : Store) (L′ : List ℕ) (n′ : ℕ) → EnabledAt words m i C X E S L n r (goes (state C′ X′ E′ S′ L′ n′)) →
       Holds after next (state C′ X′ E′ S′ L′ n′) → marks-by-word h w (Made next) ≡ all-raised h next
-  by-item next w top {i} {C} {X} {E} {S} {L} {n} {r} C′ X′ E′ S′ L′ n′ enabled held = by (ltb w mark-base) refl (ltb (w % mark-numbers) (mark-number loop-mark)) refl
+  by-item next w top {i} {C} {X} {E} {S} {L} {n} {r} C′ X′ E′ S′ L′ n′ enabled held = by (ltb w mark-base) refl (ltb (w % mark-numbers) first-that-raises) refl
     where
       before : Sizes m (i ∷ C) X S n
       before = sizes words m (enabled .stands .models)
@@ -108,7 +108,7 @@ module _ (words : List ℕ) (m : Machine) (h : HighMarks) (covers : Covers h m) 
           (not-raised (h .values) (next .values) (m .values) (covers .values-below) (omega (arith, none .1, before .values-height, then .values-height)))
           (not-raised (h .control) (next .control) (m .control) (covers .control-below) (omega (arith, none .0, before .control-height, then .control-height)))
 
-      quiet : {j : Item} → ItemSort words w j → mark-base ≤ w → w % mark-numbers < mark-number loop-mark → {nodes : List ℕ} {mode : Mode} {ws : List ℕ} → ControlAs nodes mode (w ∷ ws) (j ∷ C) →
+      quiet : {j : Item} → ItemSort words w j → mark-base ≤ w → w % mark-numbers < first-that-raises → {nodes : List ℕ} {mode : Mode} {ws : List ℕ} → ControlAs nodes mode (w ∷ ws) (j ∷ C) →
           Table C E S L n r j X (goes (state C′ X′ E′ S′ L′ n′)) → NoneAbove (length C) (length X) (length S) n (goes (state C′ X′ E′ S′ L′ n′))
       quiet (expression-sort l k) high low c line = absurd (omega (arith, l, high))
       quiet (command-sort l a b) high low c line = absurd (omega (arith, l, high))
@@ -120,11 +120,11 @@ module _ (words : List ℕ) (m : Machine) (h : HighMarks) (covers : Covers h m) 
       off : Taken words m i C X E S L n r (goes (state C′ X′ E′ S′ L′ n′))
       off = taken words m enabled
 
-      by : (node : Bool) → ltb w mark-base ≡ node → (low : Bool) → ltb (w % mark-numbers) (mark-number loop-mark) ≡ low → cond node (stacks-raised h next) (cond low h (all-raised h next)) ≡ all-raised h next
+      by : (node : Bool) → ltb w mark-base ≡ node → (low : Bool) → ltb (w % mark-numbers) first-that-raises ≡ low → cond node (stacks-raised h next) (cond low h (all-raised h next)) ≡ all-raised h next
       by true p low q = at-node (node-keeps-memory C E S L n (enabled .applies) (is-node (subst (λ v. ItemSort words v i) (sym top) (off .sort)) (ltb-true w mark-base p)))
       by false p true q =
           at-mark
-          (quiet (subst (λ v. ItemSort words v i) (sym top) (off .sort)) (ltb-false w mark-base p) (ltb-true (w % mark-numbers) (mark-number loop-mark) q)
+          (quiet (subst (λ v. ItemSort words v i) (sym top) (off .sort)) (ltb-false w mark-base p) (ltb-true (w % mark-numbers) first-that-raises q)
           (subst (λ v. ControlAs (regions words (lowered m) .nodes) (off .ready .models .mode) (v ∷ regions words (lowered m) .control) (i ∷ C)) (sym top) (off .ready .models .control-as)) (enabled .applies))
       by false p false q = refl
 
