@@ -10,7 +10,7 @@ use Rattle.rules.specs.paper.States.{Environment, Store, Entry, Item, Mark, exp
 use Rattle.rules.specs.paper.Rules.{Rule, Effect}
 use Rattle.rules.specs.paper.Limits.{most-nodes}
 use Rattle.machine.specs.Layout.{top-control, mark-base}
-use Rattle.reader.specs.Pack.{packed-kind}
+use Rattle.reader.specs.Pack.{kinds-room, packed-kind}
 use Rattle.reader.specs.Stored.{HasWord, kind-is}
 use Rattle.reader.specs.Stored as Stored
 use Rattle.reader.specs.StandingLaws.{expression-root, command-root, declaration-root, root-low}
@@ -72,7 +72,7 @@ pub data ItemSort (words : List ℕ) (w : ℕ) : Item → Type 0 where
   mark-sort : {k : Mark} → mark-base ≤ w → ItemSort words w (mark k)
 
 module _ (words : List ℕ) (m : Machine) where
-  kind-of-node : {i k w e : ℕ} → HasWord (regions words m .nodes) i k w e → k < 64 → packed-kind (getD words i 0) ≡ k
+  kind-of-node : {i k w e : ℕ} → HasWord (regions words m .nodes) i k w e → k < kinds-room → packed-kind (getD words i 0) ≡ k
   kind-of-node h low = kind-is (node-word words m h) low
 
   item-sort : {mode : Mode} {w : ℕ} {ws : List ℕ} {i : Item} {C : List Item} → ControlAs (regions words m .nodes) mode (w ∷ ws) (i ∷ C) → ItemSort words w i
