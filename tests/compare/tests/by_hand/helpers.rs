@@ -2,6 +2,7 @@
 //! say what must come of it. The answer is the one that the engine and the second
 //! interpreter give alike.
 
+pub use crate::replies::*;
 use compare::byte_calls::ByteCall;
 use compare::bytes::RanOnBytes;
 use compare::page::Paged;
@@ -15,8 +16,7 @@ use second::generate::random::Random;
 use second::generate::Case;
 use second::needs::Needs;
 pub use second::needs::{given, open};
-use second::state::Heights;
-use second::tree::{Place, Root};
+use second::tree::Root;
 use second::Refusal;
 
 /// The reply and the registers after a run. It is compared at this budget, on bytes
@@ -64,25 +64,6 @@ pub fn outcome(root: impl Into<Root>, starts: &[i64]) -> (Outcome, u64) {
     (reply.outcome, reply.steps)
 }
 
-/// The reply of a run that ended normally with a command's outcome.
-pub fn ended(steps: u64, marks: Heights) -> Reply {
-    Reply { outcome: Outcome::None, steps, marks }
-}
-
-/// The reply of a run withheld for this reason.
-pub fn withheld(number: u32, steps: u64, marks: Heights) -> Reply {
-    Reply { outcome: refused(number, 0), steps, marks }
-}
-
-/// The reply to a call refused before its first step.
-pub fn not_run(number: u32, place: Place) -> Reply {
-    Reply { outcome: refused(number, place), steps: 0, marks: Heights::new(0, 0, 0, 0) }
-}
-
-pub fn refused(number: u32, place: Place) -> Outcome {
-    Outcome::Refused(Refusal::new(number, place))
-}
-
 /// The checker's answer to an image, given work words enough; the same on bytes.
 pub fn checked(image: &[u32]) -> Answer {
     let answer = agreed(check::compare(image, WORK_WORDS, &mut Random::new(0)));
@@ -109,10 +90,6 @@ pub fn run_bytes(image: &[u8], starts: &[u8], budget: u64, work_length: usize) -
     (reply, registers)
 }
 
-pub fn answer_refused(number: u32, place: Place) -> Answer {
-    Answer::Refused(Refusal::new(number, place))
-}
-
 /// The needs of an image with a work slice of this length.
 pub fn needed_with(image: &[u32], work_length: usize) -> Needs {
     agreed(needs::compare(image, work_length, &mut Random::new(0)))
@@ -136,9 +113,6 @@ pub fn needs_are(image: &[u32], expected: Needs) {
     assert_eq!(Some(reply), needs::reply_of(expected));
 }
 
-pub fn needs_refused(number: u32, place: Place) -> Needs {
-    Needs::Refused(Refusal::new(number, place))
-}
 
 /// The answer about a page, and the lent page after it, which held this before.
 pub fn page_over(
@@ -163,9 +137,6 @@ pub fn paged_tree(registers: u32, root: impl Into<Root>) -> String {
     paged(&image(registers, root))
 }
 
-pub fn page_refused(number: u32, place: Place) -> Result<(), Refusal> {
-    Err(Refusal::new(number, place))
-}
 
 fn agreed<T>(compared: Result<T, Box<Difference>>) -> T {
     compared.unwrap_or_else(|difference| panic!("{difference}"))

@@ -2,6 +2,8 @@
 //! it: the same files, over helpers that compare every call both ways.
 
 mod helpers;
+#[path = "../../../second/tests/suite/replies.rs"]
+mod replies;
 
 #[path = "../../../second/tests/suite/arithmetic.rs"]
 mod arithmetic;

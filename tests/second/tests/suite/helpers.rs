@@ -1,13 +1,13 @@
 //! What the tests share: run an image, say what must come of it.
 
+pub use crate::replies::*;
 use second::build::image;
 use second::bytes;
 use second::engine::{check, needs, page, run, Answer, Outcome, Reply, MOST_BUDGET, WORK_WORDS};
 pub use second::needs::{given, open};
 use second::needs::{Figures, Needs, Steps, EFFORT};
 use second::refusal::TOO_MANY_STEPS;
-use second::state::Heights;
-use second::tree::{Place, Root};
+use second::tree::Root;
 use second::Refusal;
 
 /// The reply and the registers after a run.
@@ -35,25 +35,6 @@ pub fn outcome(root: impl Into<Root>, starts: &[i64]) -> (Outcome, u64) {
     (reply.outcome, reply.steps)
 }
 
-/// The reply of a run that ended normally with a command's outcome.
-pub fn ended(steps: u64, marks: Heights) -> Reply {
-    Reply { outcome: Outcome::None, steps, marks }
-}
-
-/// The reply of a run withheld for this reason.
-pub fn withheld(number: u32, steps: u64, marks: Heights) -> Reply {
-    Reply { outcome: refused(number, 0), steps, marks }
-}
-
-/// The reply to a call refused before its first step.
-pub fn not_run(number: u32, place: Place) -> Reply {
-    Reply { outcome: refused(number, place), steps: 0, marks: Heights::new(0, 0, 0, 0) }
-}
-
-pub fn refused(number: u32, place: Place) -> Outcome {
-    Outcome::Refused(Refusal::new(number, place))
-}
-
 /// The checker's answer to an image, given work words enough.
 pub fn checked(image: &[u32]) -> Answer {
     check(image, WORK_WORDS)
@@ -74,10 +55,6 @@ pub fn run_bytes(image: &[u8], starts: &[u8], budget: u64, work_length: usize) -
     let mut registers = starts.to_vec();
     let reply = bytes::run(image, &mut registers, budget, work_length);
     (reply, registers)
-}
-
-pub fn answer_refused(number: u32, place: Place) -> Answer {
-    Answer::Refused(Refusal::new(number, place))
 }
 
 /// The needs of an image with a work slice of this length.
@@ -116,9 +93,6 @@ pub fn within(some: Figures, most: Figures) -> bool {
     some.room.within(most.room) && steps
 }
 
-pub fn needs_refused(number: u32, place: Place) -> Needs {
-    Needs::Refused(Refusal::new(number, place))
-}
 
 /// The answer about a page, and the lent page after it, which held this before.
 pub fn page_over(
@@ -141,8 +115,4 @@ pub fn paged(image: &[u32]) -> String {
 /// The page of a tree with this many registers.
 pub fn paged_tree(registers: u32, root: impl Into<Root>) -> String {
     paged(&image(registers, root))
-}
-
-pub fn page_refused(number: u32, place: Place) -> Result<(), Refusal> {
-    Err(Refusal::new(number, place))
 }

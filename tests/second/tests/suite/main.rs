@@ -3,6 +3,7 @@
 //! of generated runs.
 
 mod helpers;
+mod replies;
 
 mod arithmetic;
 mod blocks;
