@@ -113,7 +113,6 @@ pub fn needs_are(image: &[u32], expected: Needs) {
     assert_eq!(Some(reply), needs::reply_of(expected));
 }
 
-
 /// The answer about a page, and the lent page after it, which held this before.
 pub fn page_over(
     image: &[u32],
@@ -136,7 +135,6 @@ pub fn paged(image: &[u32]) -> String {
 pub fn paged_tree(registers: u32, root: impl Into<Root>) -> String {
     paged(&image(registers, root))
 }
-
 
 fn agreed<T>(compared: Result<T, Box<Difference>>) -> T {
     compared.unwrap_or_else(|difference| panic!("{difference}"))

@@ -93,7 +93,6 @@ pub fn within(some: Figures, most: Figures) -> bool {
     some.room.within(most.room) && steps
 }
 
-
 /// The answer about a page, and the lent page after it, which held this before.
 pub fn page_over(
     image: &[u32],
