@@ -13,6 +13,7 @@ use Rattle.rules.specs.paper.Tree.{Operator, Formal, Block, block}
 use Rattle.rules.specs.paper.States.{Value, Bindable, value, closure, Environment, empty, bound, lookup, join, Cell, Store, store-at, remove, Entry, bindable, name, node, environment, locations, val, Item, command, mark, operator-mark, not-mark, assign-mark, ref-mark, bind-mark, dseq-extend-mark, dseq-join-mark, extend-mark, leave-mark, call-mark, state}
 use Rattle.rules.specs.paper.Rules.{Matched, match-formals}
 use Rattle.rules.specs.paper.Needs.{sizes, step, over, Needs, need-of, over-formals, function-need, command-need, block-need}
+use Rattle.rules.specs.proofs.running.StepSizes.{store-at-length}
 use Rattle.rules.specs.proofs.needs.Outlook.{bindable-need, environment-needs, an-environment, sketches, Outlook, knowing, outlook, with-values, once, lies, after-mark, ahead, stretches-of}
 use Rattle.rules.specs.proofs.needs.StretchLaws.{by-figure, spread-next, spread-end, Replaced, unfolds-into, grows, shrinks, settles}
 use Rattle.rules.specs.proofs.needs.NodeStretches.{covers, block-least, same-outlook}
@@ -60,15 +61,6 @@ match-needs (suc k) (f ∷ fs) (name x ∷ X) F m q = missing q
 match-needs (suc k) (f ∷ fs) (node c ∷ X) F m q = missing q
 match-needs (suc k) (f ∷ fs) (environment E ∷ X) F m q = missing q
 match-needs (suc k) (f ∷ fs) (locations L ∷ X) F m q = missing q
-
-store-at-length : (l : ℕ) (v : Value) (S : Store) → length (store-at l v S) ≡ length S
-unfolding store-at
-store-at-length l v [] = refl
-store-at-length l v (c ∷ S) = choose (eqb (c .where-at) l) (store-at-length l v S)
-  where
-    choose : (t : Bool) → length (store-at l v S) ≡ length S → length {A = Cell} (cond t (record { where-at = l; contents = v } ∷ S) (c ∷ store-at l v S)) ≡ suc (length S)
-    choose true q = refl
-    choose false q = ap suc q
 
 module _ (C : List Item) (X : List Entry) (E : Environment) (S : Store) (L : List ℕ) (n : ℕ) where
   abbrev names : Needs

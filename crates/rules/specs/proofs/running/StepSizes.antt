@@ -71,7 +71,7 @@ abbrev pub NoneAbove : (control values cells bindings : ℕ) → Effect → Type
 NoneAbove c v s n (goes τ) = (length (control-of τ) ≤ c) × (length (values-of τ) ≤ v) × (length (store-of τ) ≤ s) × (bindings-of τ ≤ n)
 NoneAbove c v s n (fails x) = Unit {0}
 
-store-at-length : (l : ℕ) (v : Value) (S : Store) → length (store-at l v S) ≡ length S
+pub store-at-length : (l : ℕ) (v : Value) (S : Store) → length (store-at l v S) ≡ length S
 unfolding store-at
 store-at-length l v [] = refl
 store-at-length l v (c ∷ S) = by (eqb (c .where-at) l) (store-at-length l v S)
