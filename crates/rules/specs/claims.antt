@@ -11,3 +11,4 @@ pub mod Ends
 pub mod NoRoutine
 pub mod FreeRun
 pub mod HighMarks
+pub mod Ranges

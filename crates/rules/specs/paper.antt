@@ -13,7 +13,10 @@ pub mod Fire
 pub mod Run
 pub mod Needs
 pub mod HighMarks
+pub mod Carried
+pub mod Carrying
 pub mod Engine
+pub mod Ranges
 pub mod Cases
 pub mod Choices
 pub mod Quotients

@@ -25,26 +25,37 @@ sizes k v c b bindings = b
 pub record Need : Type 0 where
   pub most : Sizes
   pub steps : ℕ
+  pub all-steps : ℕ  -- the steps with both commands of every Cond counted (document 02, request 10)
 
 abbrev pub nothing : Need
-nothing = record { most = sizes 0 0 0 0; steps = 0 }
+nothing = record { most = sizes 0 0 0 0; steps = 0; all-steps = 0 }
 
 -- One step. The sizes are those of the state before it or of the state after it, whichever are larger.
 abbrev pub step : Sizes → Need
-step s = record { most = s; steps = 1 }
+step s = record { most = s; steps = 1; all-steps = 1 }
 
 -- A need over what lies under it.
 abbrev pub over : Sizes → Need → Need
-over s n = record { most = λ f. s f + n .most f; steps = n .steps }
+over s n = record { most = λ f. s f + n .most f; steps = n .steps; all-steps = n .all-steps }
 
 -- One need after the other: the larger of each size, and all steps.
 unfoldable pub in-turn : List Need → Need
 in-turn [] = nothing
-in-turn (n ∷ ns) = record { most = λ f. max (n .most f) (in-turn ns .most f); steps = n .steps + in-turn ns .steps }
+in-turn (n ∷ ns) =
+    record {
+      most = λ f. max (n .most f) (in-turn ns .most f);
+      steps = n .steps + in-turn ns .steps;
+      all-steps = n .all-steps + in-turn ns .all-steps;
+    }
 
--- One need or the other: the larger of each figure.
+-- One need or the other: the larger of each figure, and all steps of both.
 abbrev pub either : Need → Need → Need
-either n m = record { most = λ f. max (n .most f) (m .most f); steps = max (n .steps) (m .steps) }
+either n m =
+    record {
+      most = λ f. max (n .most f) (m .most f);
+      steps = max (n .steps) (m .steps);
+      all-steps = n .all-steps + m .all-steps;
+    }
 
 -- ---- Expressions.
 

@@ -20,10 +20,12 @@ pub data Refusal : Type 0 where
   Registers Budget Work : Refusal
   -- by the run
   Withheld : Reason → Refusal
-  -- by the needs: the steps come out above 1,000,000
+  -- by the needs and the ranges: the steps come out above 1,000,000
   TooManySteps : Refusal
   -- by the host: the lent page is shorter than 31 bytes a node
   ShortPage : Refusal
+  -- by the ranges: a lowest start exceeds its highest; the image has a Loop; an end leaves the integers or a divisor's range holds 0
+  CrossedLimits HasLoop UnsafeArithmetic : Refusal
 
 unfoldable pub reason-number : Reason → ℕ
 reason-number Steps = 30
@@ -52,3 +54,6 @@ refusal-number Work = 22
 refusal-number (Withheld reason) = reason-number reason
 refusal-number TooManySteps = 40
 refusal-number ShortPage = 41
+refusal-number CrossedLimits = 42
+refusal-number HasLoop = 43
+refusal-number UnsafeArithmetic = 44
