@@ -113,11 +113,21 @@ carry-actuals N K (e ∷ es) = carry-actuals N K es >>= λ vs. carry-expression 
 
 -- ---- Commands.
 
--- Assign stores to a cell that is there.
-abbrev pub set-cell : Option ℕ → Option Carried → Carried → CarriedCells → Carrying CarriedCells
+-- A cell of plain values keeps the sort that it was made with; one that holds a location is set by its declaration alone.
+abbrev pub same-sort : (old new : Carried) → Bool
+same-sort (numbers a b) (numbers c d) = true
+same-sort (numbers a b) (truths g u) = false
+same-sort (numbers a b) (location l) = false
+same-sort (truths f t) (numbers c d) = false
+same-sort (truths f t) (truths g u) = true
+same-sort (truths f t) (location l) = false
+same-sort (location k) v = false
+
+-- Assign stores to a cell that is there, a value of its sort.
+abbrev pub set-cell : Option ℕ → (old : Option Carried) → Carried → CarriedCells → Carrying CarriedCells
 set-cell none old v K = unfit
 set-cell (some l) none v K = unfit
-set-cell (some l) (some w) v K = carried (carry-to l v K)
+set-cell (some l) (some w) v K = cond (same-sort w v) (carried (carry-to l v K)) unfit
 
 unfoldable pub carry-assign : Option ℕ → Carried → CarriedCells → Carrying CarriedCells
 carry-assign l v K = set-cell l (contents-at l K) v K
