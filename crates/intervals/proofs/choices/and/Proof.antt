@@ -1,0 +1,23 @@
+use borrow.Author.Needs.{needs}
+use Rattle.intervals.proofs.choices.and.Statement.{statement}
+use Rattle.intervals.proofs.choices.and.Tie as tie
+use Rattle.intervals.proofs.choices.and.Reads as reads
+use Rattle.intervals.proofs.choices.and.Lts as lts
+use Rattle.intervals.proofs.choices.both.Reads as both-reads
+use Rattle.intervals.proofs.choices.some.Reads as some-reads
+use Rattle.intervals.proofs.choices.some_of_both.Reads as some-of-both-reads
+
+some-requires : tie.Need-some-requires
+some-requires c κs = search needs
+
+some-of-both-requires : tie.Need-some-of-both-requires
+some-of-both-requires c κs = search needs
+
+both-requires : tie.Need-both-requires
+both-requires c κs = search needs
+
+returns : tie.Need-returns
+returns c = ?
+
+pub and-spec : {M : Type 1} → statement M
+and-spec = tie.close (tie.spec some-requires some-of-both-requires both-requires returns)
