@@ -1,0 +1,4 @@
+pub mod FrameLaws
+pub mod StateLaws
+pub mod CopyLaws
+pub mod LookupLaws
