@@ -1,0 +1,4 @@
+-- The ranges of claims/Ranges.antt: values are carried within their ends, a passed image's carrying always has a rule, and every run stays within.
+pub mod IntegerEnds
+pub mod Arithmetic
+pub mod Comparisons
