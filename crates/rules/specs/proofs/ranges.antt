@@ -2,3 +2,6 @@
 pub mod IntegerEnds
 pub mod Arithmetic
 pub mod Comparisons
+pub mod Operators
+pub mod Within
+pub mod ExpressionRuns
