@@ -4,4 +4,5 @@ pub mod Arithmetic
 pub mod Comparisons
 pub mod Operators
 pub mod Within
+pub mod NamesWithin
 pub mod ExpressionRuns

@@ -115,7 +115,7 @@ pub record MarkGives (m : Mark) (C : List Item) (X Y : List Entry) (E : Environm
   pub within : ValueWithin given v
 
 module _ (C : List Item) (X : List Entry) (E : Environment) (S : Store) (L : List ℕ) (n : ℕ) where
-  abbrev Gives : Operator → Value → Value → Carried → Type 0
+  abbrev pub Gives : Operator → Value → Value → Carried → Type 0
   Gives o x y v = MarkGives (operator-mark o) C (val y ∷ val x ∷ X) X E S L n v
 
   arithmetic-gives : (o : Arithmetic) (x y a b c d : ℤ) (v : Carried) → a ≤ℤ x → x ≤ℤ b → c ≤ℤ y → y ≤ℤ d → carry-arithmetic o a b c d ≡ some v →
@@ -130,7 +130,7 @@ module _ (C : List Item) (X : List Entry) (E : Environment) (S : Store) (L : Lis
         within = subst (ValueWithin (integer (r .0))) (sym (ends .is-numbers)) (number-within (r .2) (r .3));
       }
 
-  operator-gives : (p : ℕ) (o : Operator) (x y : Value) (v w : Carried) → ValueWithin x v → ValueWithin y w → If (Gives o x y) (carry-operator p o v w)
+  pub operator-gives : (p : ℕ) (o : Operator) (x y : Value) (v w : Carried) → ValueWithin x v → ValueWithin y w → If (Gives o x y) (carry-operator p o v w)
   unfolding carry-operator carry-choice
   operator-gives p (arithmetic o) x y v w (number-within {z = i} {a = a} {b = b} h₁ h₂) (number-within {z = j} {a = c} {b = d} h₃ h₄) =
       if-safe (Gives (arithmetic o) (integer i) (integer j)) p (carry-arithmetic o a b c d) (λ u q. arithmetic-gives o i j a b c d u h₁ h₂ h₃ h₄ q)
@@ -174,7 +174,7 @@ module _ (C : List Item) (X : List Entry) (E : Environment) (S : Store) (L : Lis
   operator-gives p (logic o) x y v w (truth-within h) location-within = tt
   operator-gives p (logic o) x y v w location-within k = tt
 
-  negation-gives : (x : Value) (v : Carried) → ValueWithin x v → If (MarkGives not-mark C (val x ∷ X) X E S L n) (carry-negation v)
+  pub negation-gives : (x : Value) (v : Carried) → ValueWithin x v → If (MarkGives not-mark C (val x ∷ X) X E S L n) (carry-negation v)
   unfolding carry-not
   negation-gives x v (number-within h k) = tt
   negation-gives x v (truth-within {w = w} {f = f} {t = t} h) =
