@@ -6,3 +6,4 @@ pub mod Operators
 pub mod Within
 pub mod NamesWithin
 pub mod ExpressionRuns
+pub mod CommandRuns

@@ -52,7 +52,7 @@ module _ (E : Environment) (S : Store) (N : CarriedNames) (K : CarriedCells) (na
   truth-plain w (truth-within h) = tt
 
   -- A name that is carried as a location is bound to it.
-  bound-to : (x l : ℕ) → NamedValue E x (Carried.location l) → lookup x E ≡ some (value (location l))
+  pub bound-to : (x l : ℕ) → NamedValue E x (Carried.location l) → lookup x E ≡ some (value (location l))
   bound-to x l named = by (named .what) (named .found) (named .within)
     where
       by : (w : Value) → lookup x E ≡ some (value w) → ValueWithin w (Carried.location l) → lookup x E ≡ some (value (location l))

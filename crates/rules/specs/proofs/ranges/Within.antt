@@ -99,7 +99,7 @@ pub made-on : {k m n : ℕ} {L J I : List ℕ} → MadeSince k L m J → MadeSin
 made-on h none-made = h
 made-on h (one-made g) = one-made (made-on h g)
 
-made-later : {k m : ℕ} {L J : List ℕ} → MadeSince k L m J → k ≤ m
+pub made-later : {k m : ℕ} {L J : List ℕ} → MadeSince k L m J → k ≤ m
 made-later none-made = omega arith
 made-later (one-made h) = omega (arith, made-later h)
 
