@@ -7,3 +7,6 @@ pub mod Within
 pub mod NamesWithin
 pub mod ExpressionRuns
 pub mod CommandRuns
+pub mod CarriedTyping
+pub mod FittingExpressions
+pub mod Fitting
