@@ -13,7 +13,7 @@ use lib.ListN.{length, getD}
 use lib.Signed.{ltZ, _≤ℤ_, ≤ℤ-refl}
 use Rattle.rules.specs.proofs.Basics.{or-left, or-right, failed-test, false-test}
 use Rattle.rules.specs.paper.Tree.{Expression, Formal, Command, Block, Declaration, Bound, Root, expression, command, absent}
-use Rattle.rules.specs.paper.Checker.{Meaning, code, function, Named, Scope, meaning-of, register-scope, Passed}
+use Rattle.rules.specs.paper.Checker.{Meaning, code, function, Scope, meaning-of, with-formals, register-scope, Passed}
 use Rattle.rules.specs.paper.Needs.{is-loop, some-command, some-in-block, some-in-declaration, some-in-bound, some-in-root, has-loop}
 use Rattle.rules.specs.paper.Carried.{Carried, numbers, truths, location, Carrying, carried, unsafe, unfit, _>>=_, fitting}
 use Rattle.rules.specs.paper.Carrying.{CarriedCells, carried-at, carry-to, wider-cells, CarriedMeaning, a-value, a-function, CarriedNames, carried-meaning, carry-formals, value-of, location-in, carry-expression, carry-actuals, same-sort, set-cell, carry-assign, carry-choosing, carry-call, CarriedDeclared, CarriedBound, carry-command, carry-block, carry-declaration, carry-bound, carry-root, register-names, register-cells, carry-routine}
@@ -81,10 +81,10 @@ module _ (W : World) (K : CarriedCells) (cells : CellsTyped K W) where
 
 -- A function's Blk is typed with the names around it, newer cells or not, and the Formals.
 function-fits : {W : World} {N : CarriedNames} {Γ : Scope} (fs : List Formal) (b : Block) → NamesTyped W N Γ →
-    ((U : World) (M : CarriedNames) (J : CarriedCells) → NamesTyped U M (Rattle.rules.specs.paper.Checker.with-formals fs Γ) → CellsTyped J U → Fits (Kept U J) (carry-block M J b)) →
+    ((U : World) (M : CarriedNames) (J : CarriedCells) → NamesTyped U M (with-formals fs Γ) → CellsTyped J U → Fits (Kept U J) (carry-block M J b)) →
     FunctionTyped W (λ vs J. fitting (carry-formals fs vs N) >>= λ F. carry-block F J b) fs
 function-fits {W} {N} {Γ} fs b names fits U grown vs ts J cells =
-    fits-after (λ M. NamesTyped U M (Rattle.rules.specs.paper.Checker.with-formals fs Γ)) (Kept U J) (fitting (carry-formals fs vs N)) _
+    fits-after (λ M. NamesTyped U M (with-formals fs Γ)) (Kept U J) (fitting (carry-formals fs vs N)) _
     (fits-fitting _ (carry-formals fs vs N) (formals-typed fs vs ts (names-newer grown names))) (λ M t. fits U M J t cells)
 
 -- ---- All nodes.
