@@ -10,3 +10,6 @@ pub mod CommandRuns
 pub mod CarriedTyping
 pub mod FittingExpressions
 pub mod Fitting
+pub mod RootRuns
+pub mod EndsGiven
+pub mod RangesHold

@@ -23,7 +23,7 @@ use Rattle.rules.specs.proofs.ranges.ExpressionRuns.{ExpressionRuns, Act
 
 -- ---- What holds of what is carried, over whatever lies under it.
 
-mapped : {A : Type 0} (P Q : A → Type 0) (m : Carrying A) → If P m → ((a : A) → P a → Q a) → If Q m
+pub mapped : {A : Type 0} (P Q : A → Type 0) (m : Carrying A) → If P m → ((a : A) → P a → Q a) → If Q m
 mapped P Q (carried a) h k = k a h
 mapped P Q (unsafe p) h k = tt
 mapped P Q unfit h k = tt
