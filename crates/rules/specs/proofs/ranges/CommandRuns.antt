@@ -272,6 +272,7 @@ function-made E N names fs b runs xs vs actuals R J cells =
 
 mutual
   unfolding carry-command carry-block carry-declaration carry-bound
+
   pub command-runs : (c : Command) (E : Environment) (S : Store) (N : CarriedNames) (K : CarriedCells) → NamesWithin E N → StoreWithin S K →
       If (RunsAnywhere c E S K) (carry-command N K c)
   command-runs (Assign p x e) E S N K names cells =

@@ -100,6 +100,7 @@ second-without a b h t = h (or-right a b t)
 
 mutual
   unfolding carry-command carry-block carry-declaration carry-bound some-command some-in-block some-in-declaration some-in-bound
+
   command-fits : {Γ : Scope} {c : Command} → CommandOk Γ c → NoLoop (some-command is-loop c) → (W : World) (N : CarriedNames) (K : CarriedCells) → NamesTyped W N Γ → CellsTyped K W →
       Fits (Kept W K) (carry-command N K c)
   command-fits {Γ} (assign {x = x} {c = c} {e = e} h few q) free W N K names cells =
