@@ -1,12 +1,12 @@
 -- What Sum, Sub, Mul and Div give of integers within the operands' ends lies within the carried ends, and is in range.
-use Prim.Native.Nat.{ℕ, zero, suc}
+use Prim.Native.Nat.{ℕ, suc}
 use mathlib.Core.Path.{_≡_, refl, sym, ap, _∙_, subst}
 use mathlib.Core.Bool.{Bool, true, false, cond, not, _&&_}
-use mathlib.Core.Option.{Option, none, some, Option·some-injective}
+use mathlib.Core.Option.{none, some, Option·some-injective}
 use native.Mathlib.Omega.{arith}
 use lib.Dec.{T}
-use lib.IntN.{ℤ, pos, negsuc, negℤ, _+ℤ_, _-ℤ_, _*ℤ_}
-use lib.Signed.{ltZ, _≤ℤ_, ≤ℤ-refl}
+use lib.IntN.{ℤ, pos, negℤ, _+ℤ_, _-ℤ_, _*ℤ_}
+use lib.Signed.{ltZ, _≤ℤ_}
 use Rattle.rules.specs.proofs.Basics.{missing, true-test, passed-test}
 use Rattle.rules.specs.paper.Refusals.{OutOfRange}
 use Rattle.rules.specs.paper.Tree.{Arithmetic, Sum, Sub, Mul, Div}

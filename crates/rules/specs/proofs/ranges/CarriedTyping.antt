@@ -1,22 +1,22 @@
 -- Carried values, cells and names typed in a world (proofs/running/World.antt), and what a command keeps of the cells: the sort of each, and of one
 -- that holds a location that very location.
-use Prim.Native.Nat.{ℕ, zero, suc, _-_, _≤_, _<_}
-use mathlib.Core.Path.{_≡_, refl, sym, ap, _∙_, subst}
+use Prim.Native.Nat.{ℕ, suc, _-_, _≤_, _<_}
+use mathlib.Core.Path.{_≡_, refl, sym, ap, subst}
 use mathlib.Core.Bool.{Bool, true, false, cond, _||_}
 use mathlib.Core.List.{List, [], _∷_, _++_}
 use mathlib.Core.Option.{Option, none, some, Option·some-injective}
 use native.Mathlib.Omega.{arith}
 use native.Mathlib.Nat.{le-of-suc-le-suc, not-suc-le-zero}
-use lib.Dec.{T, eqb, eqb→eq, eqb-refl}
+use lib.Dec.{T, eqb, eqb-refl}
 use lib.IntN.{ℤ}
 use lib.ListN.{length, drop}
 use lib.Signed.{_≤ℤ_}
-use Rattle.rules.specs.proofs.Basics.{missing, passed-test, true-test, or-left, or-right, or-cases}
+use Rattle.rules.specs.proofs.Basics.{missing, true-test, or-right}
 use Rattle.rules.specs.paper.Tree.{Formal}
 use Rattle.rules.specs.paper.Checker.{Meaning, code, function, Named, Scope, meaning-of, with-formals}
-use Rattle.rules.specs.paper.Carried.{Carried, numbers, truths, location, Carrying, carried, unsafe, unfit, _>>=_, fitting, safe, lower, higher, wider}
-use Rattle.rules.specs.paper.Carrying.{CarriedCells, carried-at, carry-to, oldest-cells, one-cell-more, wider-cells, CarriedMeaning, a-value, a-function, CarriedName, CarriedNames, carried-meaning, carry-formals}
-use Rattle.rules.specs.proofs.running.World.{World, code-at, code-older, code-below}
+use Rattle.rules.specs.paper.Carried.{Carried, numbers, truths, location, Carrying, carried, unsafe, unfit, _>>=_, fitting, safe, lower, higher}
+use Rattle.rules.specs.paper.Carrying.{CarriedCells, carried-at, carry-to, oldest-cells, wider-cells, CarriedMeaning, a-value, a-function, CarriedName, CarriedNames, carried-meaning, carry-formals}
+use Rattle.rules.specs.proofs.running.World.{World, code-at, code-older}
 use Rattle.rules.specs.proofs.ranges.IntegerEnds.{order-trans, lower-first, higher-first}
 use Rattle.rules.specs.proofs.ranges.Within.{older-cells}
 

@@ -1,25 +1,25 @@
 -- A command whose carrying leaves cells runs to a store within them; a declaration's names and cells lie within those carried, and the location set
 -- has the cells that it made.
-use Prim.Native.Nat.{ℕ, zero, suc, _+_, _-_, _≤_}
-use mathlib.Core.Path.{_≡_, refl, sym, ap, _∙_, subst}
+use Prim.Native.Nat.{ℕ, suc, _+_, _-_, _≤_}
+use mathlib.Core.Path.{_≡_, refl, sym, _∙_, subst}
 use mathlib.Core.Bool.{Bool, true, false, cond}
 use mathlib.Core.List.{List, [], _∷_, _++_}
 use mathlib.Core.Option.{Option, none, some}
 use lib.Dec.{T}
 use native.Mathlib.Omega.{arith}
-use lib.ListN.{length, drop, length-drop}
+use lib.ListN.{length, length-drop}
 use Rattle.rules.specs.paper.Tree.{Expression, Formal, Command, Assign, Loop, CSeq, block, Call, Cond, Block, Blk, Declaration, Bind, DSeq, Bound, plain, Ref, Abs}
-use Rattle.rules.specs.paper.States.{Value, integer, truth, location, Bindable, value, closure, Environment, empty, bound, lookup, join, Cell, Store, find, store-at, remove, Entry, bindable, name, node, environment, locations, val, Mark, assign-mark, conditional-mark, ref-mark, bind-mark, dseq-extend-mark, dseq-join-mark, extend-mark, leave-mark, call-mark, Item, expression, command, declaration, reference, abstraction, mark, bound-item, State, state}
+use Rattle.rules.specs.paper.States.{Value, truth, location, Bindable, value, closure, Environment, empty, bound, lookup, join, Store, store-at, remove, Entry, bindable, name, node, environment, locations, val, assign-mark, conditional-mark, ref-mark, bind-mark, dseq-extend-mark, dseq-join-mark, extend-mark, leave-mark, call-mark, Item, expression, command, declaration, mark, bound-item, state}
 use Rattle.rules.specs.paper.Rules.{rule-Assign, rule-CSeq, rule-Blk, rule-Call, rule-Cond, rule-Bind, rule-DSeq, rule-Ref, rule-Abs, mark-Assign, mark-Cond, mark-Ref, mark-Bind, mark-DSeq-extend, mark-DSeq-join, mark-extend, mark-leave, mark-Call, match-formals}
 use Rattle.rules.specs.paper.Rules as Rules
 use Rattle.rules.specs.paper.Fire.{chosen}
 use Rattle.rules.specs.paper.Carried.{Carried, numbers, truths, Carrying, carried, unsafe, unfit, _>>=_, fitting}
 use Rattle.rules.specs.paper.Carried as Carried
-use Rattle.rules.specs.paper.Carrying.{CarriedCells, carried-at, carry-to, oldest-cells, wider-cells, CarriedMeaning, a-value, a-function, CarriedNames, carried-meaning, carry-formals, value-of, location-in, contents-at, carry-expression, carry-actuals, same-sort, set-cell, carry-assign, carry-choosing, carry-call, CarriedDeclared, CarriedBound, carry-command, carry-block, carry-declaration, carry-bound}
-use Rattle.rules.specs.proofs.ranges.Operators.{ValueWithin, number-within, truth-within, location-within, If, after, if-fitting}
-use Rattle.rules.specs.proofs.ranges.Within.{Leads, there, one-step, leads-on, StoreWithin, one-cell, within-length, Found, find-within, store-within, set-length, MadeSince, none-made, one-made, made-on, made-later, remove-none, remove-within, wider-length, wider-store-first, wider-store-second}
-use Rattle.rules.specs.proofs.ranges.NamesWithin.{CommandRuns, RunsAnywhere, on-stack, FunctionRuns, FunctionWithin, BindableWithin, value-within, function-within, NamesWithin, no-names, one-name, NamedWithin, lookup-within, NamedValue, named-value, join-within, formals-within}
-use Rattle.rules.specs.proofs.ranges.ExpressionRuns.{ExpressionRuns, ActualsRun, Runs, expression-runs, bound-to, ActualsRunAnywhere, actuals-run}
+use Rattle.rules.specs.paper.Carrying.{CarriedCells, carried-at, carry-to, oldest-cells, wider-cells, CarriedMeaning, a-value, a-function, CarriedNames, carried-meaning, carry-formals, value-of, location-in, carry-expression, carry-actuals, same-sort, set-cell, carry-assign, carry-choosing, carry-call, CarriedDeclared, CarriedBound, carry-command, carry-block, carry-declaration, carry-bound}
+use Rattle.rules.specs.proofs.ranges.Operators.{ValueWithin, truth-within, location-within, If, after, if-fitting}
+use Rattle.rules.specs.proofs.ranges.Within.{Leads, there, one-step, leads-on, StoreWithin, one-cell, within-length, find-within, store-within, set-length, MadeSince, none-made, one-made, made-on, made-later, remove-none, remove-within, wider-length, wider-store-first, wider-store-second}
+use Rattle.rules.specs.proofs.ranges.NamesWithin.{CommandRuns, RunsAnywhere, on-stack, FunctionRuns, FunctionWithin, BindableWithin, value-within, function-within, NamesWithin, no-names, one-name, lookup-within, named-value, join-within, formals-within}
+use Rattle.rules.specs.proofs.ranges.ExpressionRuns.{Runs, expression-runs, bound-to, ActualsRunAnywhere, actuals-run}
 
 -- ---- What holds of what is carried, over whatever lies under it.
 

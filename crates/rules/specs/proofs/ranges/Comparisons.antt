@@ -1,19 +1,17 @@
 -- A comparison or Eq of integers within ends gives exactly the truths that are carried (claims/Ranges.antt, ComparisonsExact).
-use Prim.Native.Nat.{ℕ, _≤_}
-use mathlib.Core.Path.{_≡_, refl, sym, ap, _∙_, subst}
+use mathlib.Core.Path.{_≡_, refl, ap, subst}
 use mathlib.Core.Logic.{_↔_}
-use mathlib.Core.Bool.{Bool, true, false, cond, not, _&&_}
-use native.Mathlib.Omega.{arith}
-use lib.Dec.{T, T-not, not-T, eqb, eqb→eq, eqb-refl}
+use mathlib.Core.Bool.{Bool, true, false, not, _&&_}
+use lib.Dec.{T, T-not, not-T, eqb→eq, eqb-refl}
 use lib.IntN.{ℤ, pos, negsuc}
-use lib.Signed.{ltZ, leZ, _≤ℤ_, _<ℤ_, ltZ-no, ≤ℤ-refl, <ℤ-≤ℤ-trans, clashℤ}
+use lib.Signed.{ltZ, leZ, _≤ℤ_, ltZ-no, ≤ℤ-refl, <ℤ-≤ℤ-trans, clashℤ}
 use Rattle.rules.specs.proofs.Basics.{passed-test, failed-test, true-test, false-test, and-both, and-left, and-right}
 use Rattle.rules.specs.proofs.IntegerOrder.{at-most, above, same-by-order}
 use Rattle.rules.specs.paper.Tree.{Order, Lt, Le, Gt, Ge}
 use Rattle.rules.specs.paper.Integers.{compare, equal-integers}
-use Rattle.rules.specs.paper.Carried.{Carried, numbers, truths, location, possible, carry-order, carry-equal, higher}
+use Rattle.rules.specs.paper.Carried.{possible, carry-order, carry-equal, higher}
 use Rattle.rules.specs.claims.Ranges.{SomePair, JustTruths, ComparisonsExact}
-use Rattle.rules.specs.proofs.ranges.IntegerEnds.{order-trans, below, not-below, higher-first, higher-second, higher-is}
+use Rattle.rules.specs.proofs.ranges.IntegerEnds.{order-trans, higher-first, higher-second, higher-is}
 
 -- ---- A test that a lower first and a higher second integer keep true.
 

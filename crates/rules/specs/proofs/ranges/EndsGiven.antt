@@ -1,17 +1,17 @@
 -- Where the ranges give ends every refusal before them was passed: there are as many limits as registers, they do not cross, no Loop is in the tree,
 -- the room figures are within their limits, and the ends are those of the carried cells.
-use Prim.Native.Nat.{ℕ, zero, suc, _≤_}
+use Prim.Native.Nat.{ℕ, _≤_}
 use mathlib.Core.Path.{_≡_, refl, sym, ap, _∙_, subst}
 use mathlib.Core.Bool.{Bool, true, false, cond, _&&_}
-use mathlib.Core.List.{List, [], _∷_}
+use mathlib.Core.List.{List}
 use mathlib.Core.Option.{Option, none, some}
 use borrow.Author.Tests.{eqb-true, ltb-false}
-use lib.Dec.{T, eqb, ltb}
+use lib.Dec.{eqb, ltb}
 use lib.IntN.{ℤ}
 use lib.ListN.{length}
 use Rattle.rules.specs.proofs.Basics.{missing, passed-test, true-test, and-left, and-right}
 use Rattle.rules.specs.paper.Tree.{Root}
-use Rattle.rules.specs.paper.Refusals.{Reason, Cells, Bindings, ValueEntries, ControlEntries, Withheld}
+use Rattle.rules.specs.paper.Refusals.{Reason, Cells, Bindings, ValueEntries, ControlEntries}
 use Rattle.rules.specs.paper.Refusals as Refusals
 use Rattle.rules.specs.paper.Limits.{most-steps, most-cells, most-bindings, most-value-entries, most-control-entries, work-words}
 use Rattle.rules.specs.paper.Checker.{Passed}

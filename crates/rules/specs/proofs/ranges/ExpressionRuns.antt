@@ -1,7 +1,7 @@
 -- An expression whose carrying gives something runs to a value within it, and a call's actuals to values within theirs.
-use Prim.Native.Nat.{ℕ, zero, suc}
-use mathlib.Core.Path.{_≡_, refl, sym, ap, _∙_, subst}
-use mathlib.Core.Bool.{Bool, true, false, cond, not}
+use Prim.Native.Nat.{ℕ, suc}
+use mathlib.Core.Path.{_≡_, refl, ap, subst}
+use mathlib.Core.Bool.{Bool, true, false, not}
 use mathlib.Core.List.{List, [], _∷_}
 use mathlib.Core.Option.{Option, none, some}
 use lib.Dec.{T}
@@ -9,10 +9,10 @@ use lib.IntN.{ℤ, pos}
 use lib.ListN.{length}
 use lib.Signed.{≤ℤ-refl}
 use Rattle.rules.specs.paper.Tree.{Expression, Num, Boo, Id, DeRef, ValRef, Binary, Not}
-use Rattle.rules.specs.paper.States.{Value, integer, truth, location, value, Environment, lookup, Store, find, Entry, val, operator-mark, not-mark, Item, expression, mark, State, state}
+use Rattle.rules.specs.paper.States.{Value, integer, truth, location, value, Environment, lookup, Store, find, Entry, val, operator-mark, not-mark, Item, expression, mark, state}
 use Rattle.rules.specs.paper.Rules.{put-actuals, rule-Num, rule-Boo, rule-Id, rule-DeRef, rule-ValRef, rule-Binary, rule-Not}
 use Rattle.rules.specs.paper.Rules as Rules
-use Rattle.rules.specs.paper.Carried.{Carried, numbers, truths, only-number, only-truth, possible, Carrying, carried, fitting, carry-operator, carry-negation}
+use Rattle.rules.specs.paper.Carried.{Carried, numbers, truths, possible, Carrying, carried, fitting, carry-operator, carry-negation}
 use Rattle.rules.specs.paper.Carried as Carried
 use Rattle.rules.specs.paper.Carrying.{CarriedCells, carried-at, CarriedNames, carried-meaning, value-of, location-in, contents-at, carry-id, located, carry-expression, carry-actuals}
 use Rattle.rules.specs.proofs.ranges.Operators.{ValueWithin, number-within, truth-within, location-within, If, after, if-fitting, MarkGives, operator-gives, negation-gives}

@@ -1,10 +1,10 @@
 -- The carrying of a passed image without Loop, over limits that do not cross, always has a rule (claims/Ranges.antt, CarryingFits). By induction on
 -- the typing: a command keeps the cells' codes, so both commands of a Cond leave cells that can be widened.
-use Prim.Native.Nat.{ℕ, zero, suc, _≤_, _<_}
-use mathlib.Core.Path.{_≡_, refl, sym, ap, _∙_, subst}
+use Prim.Native.Nat.{ℕ, zero, suc, _<_}
+use mathlib.Core.Path.{_≡_, refl, sym, _∙_, subst}
 use mathlib.Core.Bool.{Bool, true, false, cond, _||_}
 use mathlib.Core.List.{List, [], _∷_, _++_}
-use mathlib.Core.Option.{Option, none, some}
+use mathlib.Core.Option.{Option, some}
 use native.Mathlib.Omega.{arith}
 use native.Mathlib.Nat.{le-of-suc-le-suc, not-suc-le-zero}
 use lib.Dec.{T}
@@ -12,11 +12,11 @@ use lib.IntN.{ℤ, pos}
 use lib.ListN.{length, getD}
 use lib.Signed.{ltZ, _≤ℤ_, ≤ℤ-refl}
 use Rattle.rules.specs.proofs.Basics.{or-left, or-right, failed-test, false-test}
-use Rattle.rules.specs.paper.Tree.{Expression, Formal, Command, Block, Declaration, Bound, Root, expression, command, absent}
+use Rattle.rules.specs.paper.Tree.{Formal, Command, Block, Declaration, Bound, Root}
 use Rattle.rules.specs.paper.Checker.{Meaning, code, function, Scope, meaning-of, with-formals, register-scope, Passed}
 use Rattle.rules.specs.paper.Needs.{is-loop, some-command, some-in-block, some-in-declaration, some-in-bound, some-in-root, has-loop}
-use Rattle.rules.specs.paper.Carried.{Carried, numbers, truths, location, Carrying, carried, unsafe, unfit, _>>=_, fitting}
-use Rattle.rules.specs.paper.Carrying.{CarriedCells, carried-at, carry-to, wider-cells, CarriedMeaning, a-value, a-function, CarriedNames, carried-meaning, carry-formals, value-of, location-in, carry-expression, carry-actuals, same-sort, set-cell, carry-assign, carry-choosing, carry-call, CarriedDeclared, CarriedBound, carry-command, carry-block, carry-declaration, carry-bound, carry-root, register-names, register-cells, carry-routine}
+use Rattle.rules.specs.paper.Carried.{Carried, truths, Carrying, carried, unsafe, unfit, _>>=_, fitting}
+use Rattle.rules.specs.paper.Carrying.{CarriedCells, carried-at, carry-to, wider-cells, CarriedMeaning, CarriedNames, carried-meaning, carry-formals, value-of, location-in, carry-expression, carry-actuals, same-sort, set-cell, carry-assign, carry-choosing, carry-call, CarriedDeclared, CarriedBound, carry-command, carry-block, carry-declaration, carry-bound, carry-root, register-names, register-cells, carry-routine}
 use Rattle.rules.specs.paper.Ranges.{limits-cross}
 use Rattle.rules.specs.claims.Typing.{CommandOk, assign, loop, cseq, block-of, call, conditional, BlockOk, blk, Gives, bind, dseq, Means, plain-of, ref, abs, RootOk, root-expression, root-command, root-absent}
 use Rattle.rules.specs.claims.Ranges.{CarryingFits}
@@ -25,7 +25,7 @@ use Rattle.rules.specs.proofs.running.World.{World, code-at, code-newest
 use Rattle.rules.specs.proofs.running.Continuation.{register-world}
 use Rattle.rules.specs.proofs.running.WholeRun.{world-length}
 use Rattle.rules.specs.proofs.ranges.IntegerEnds.{not-below}
-use Rattle.rules.specs.proofs.ranges.CarriedTyping.{Fits, fits-after, Given, fits-fitting, CarriedTyped, numbers-typed, truths-typed, location-typed, Newer, same, newer, CellsTyped, no-cells, one-cell, cells-length, at-typed, Kept, kept-self, kept-typed, kept-on, set-kept, wider-kept, Extends, no-more, one-more, extends-on, extends-newer, extends-typed, left-kept, ActualsTyped, FunctionTyped, MeaningTyped, value-typed, function-typed, NamesTyped, no-names, one-name, names-newer, names-append, meaning-typed, formals-typed}
+use Rattle.rules.specs.proofs.ranges.CarriedTyping.{Fits, fits-after, Given, fits-fitting, CarriedTyped, numbers-typed, truths-typed, location-typed, same, newer, CellsTyped, no-cells, one-cell, cells-length, at-typed, Kept, kept-self, kept-typed, kept-on, set-kept, wider-kept, Extends, no-more, one-more, extends-on, extends-newer, extends-typed, left-kept, ActualsTyped, FunctionTyped, MeaningTyped, value-typed, function-typed, NamesTyped, no-names, one-name, names-newer, names-append, meaning-typed, formals-typed}
 use Rattle.rules.specs.proofs.ranges.FittingExpressions.{location-at, expression-fits, actuals-fit}
 
 -- ---- What a declaration leaves is typed in a newer world.

@@ -1,24 +1,24 @@
 -- The carrying of a well-typed expression always has a rule, and what it gives has the expression's code.
-use Prim.Native.Nat.{ℕ, zero, suc, _≤_, _<_}
-use mathlib.Core.Path.{_≡_, refl, sym, ap, _∙_, subst}
-use mathlib.Core.Bool.{Bool, true, false, cond, not, _||_}
-use mathlib.Core.List.{List, [], _∷_}
-use mathlib.Core.Option.{Option, none, some}
+use Prim.Native.Nat.{ℕ, suc, _≤_, _<_}
+use mathlib.Core.Path.{_≡_, refl, sym, subst}
+use mathlib.Core.Bool.{Bool, true, false, not, _||_}
+use mathlib.Core.List.{List, _∷_}
+use mathlib.Core.Option.{Option, some}
 use native.Mathlib.Omega.{arith}
 use native.Mathlib.Nat.{le-of-suc-le-suc, not-suc-le-zero}
 use lib.Dec.{T}
 use lib.IntN.{ℤ, pos}
 use lib.Signed.{_≤ℤ_, ≤ℤ-refl}
 use Rattle.rules.specs.proofs.Basics.{or-left, or-right}
-use Rattle.rules.specs.paper.Tree.{Arithmetic, Order, Logic, Operator, arithmetic, Eq, order, logic, Expression, Formal}
+use Rattle.rules.specs.paper.Tree.{Arithmetic, Order, Logic, arithmetic, Eq, order, logic, Expression, Formal}
 use Rattle.rules.specs.paper.Integers.{compare, equal-integers, equal-truths, combine}
 use Rattle.rules.specs.paper.Checker.{code, Scope, meaning-of}
-use Rattle.rules.specs.paper.Carried.{Carried, numbers, truths, location, Carrying, carried, fitting, possible, some-choice, carry-arithmetic, carry-order, carry-equal, carry-choice, carry-not, carry-operator, carry-negation}
-use Rattle.rules.specs.paper.Carrying.{CarriedCells, carried-at, CarriedMeaning, a-value, CarriedNames, carried-meaning, value-of, location-in, contents-at, carry-id, located, carry-expression, carry-actuals}
+use Rattle.rules.specs.paper.Carried.{Carried, numbers, truths, location, possible, some-choice, carry-arithmetic, carry-order, carry-equal, carry-choice, carry-not, carry-operator, carry-negation}
+use Rattle.rules.specs.paper.Carrying.{CarriedCells, CarriedMeaning, CarriedNames, carried-meaning, value-of, location-in, contents-at, carry-id, located, carry-expression, carry-actuals}
 use Rattle.rules.specs.claims.Typing.{HasCode, num, boo, id-plain, id-cell, deref, valref, arithmetic-of, order-of, equal-of, logic-of, not-of, ActualsFit, no-actuals, actual}
 use Rattle.rules.specs.claims.Ranges.{SomePair, JustTruths}
 use Rattle.rules.specs.proofs.running.World.{World, code-at}
-use Rattle.rules.specs.proofs.ranges.Arithmetic.{CarriedEnds, arithmetic-within}
+use Rattle.rules.specs.proofs.ranges.Arithmetic.{arithmetic-within}
 use Rattle.rules.specs.proofs.ranges.Comparisons.{comparisons-exact}
 use Rattle.rules.specs.proofs.ranges.Operators.{choice-possible}
 use Rattle.rules.specs.proofs.ranges.CarriedTyping.{Fits, fits-after, Given, fits-fitting, fits-safe, CarriedTyped, numbers-typed, truths-typed, location-typed, CellsTyped, at-typed, ActualsTyped, one-actual, MeaningTyped, value-typed, NamesTyped, meaning-typed}

@@ -1,13 +1,13 @@
 -- Integers between ends: the order's laws, the lower and the higher of two, and that sum, difference, product and quotient at one fixed operand
 -- stay between their values at the ends of the other.
-use Prim.Native.Nat.{ℕ, zero, suc, _*_, _/_, _≤_, _<_}
-use mathlib.Core.Path.{_≡_, refl, sym, ap, _∙_}
+use Prim.Native.Nat.{ℕ, zero, suc, _*_, _/_, _≤_}
+use mathlib.Core.Path.{_≡_, refl}
 use mathlib.Core.Bool.{Bool, true, false, cond}
 use native.Mathlib.Omega.{arith}
 use native.Mathlib.Nat.{mul-le-mul-left, mul-le-mul-right, div-mul-le-self, le-div-iff-mul-le, le-trans}
 use lib.Dec.{T, leb→le, le→leb, ltb→lt, lt→ltb}
 use lib.IntN.{ℤ, pos, negsuc, negℤ, _+ℤ_, _-ℤ_, _*ℤ_, +ℤ-comm, *ℤ-comm, *ℤ-negsuc}
-use lib.Signed.{mag, ltZ, leZ, _≤ℤ_, _<ℤ_, ltZ-no, ≤ℤ-refl}
+use lib.Signed.{ltZ, leZ, _≤ℤ_, ltZ-no, ≤ℤ-refl}
 use Rattle.rules.specs.proofs.Basics.{passed-test}
 use Rattle.rules.specs.proofs.IntegerOrder.{at-most, negation-turns, sum-keeps-order}
 use Rattle.rules.specs.paper.Integers.{range-bound, in-range, floor}

@@ -1,7 +1,7 @@
 -- The environment's names beside the carried ones: a value lies within what is carried of it, and a closure's Blk, run with actuals within those
 -- carried and a store within the cells, leaves a store within the cells that the carried function leaves.
-use Prim.Native.Nat.{ℕ, zero, suc}
-use mathlib.Core.Path.{_≡_, refl, sym, ap, _∙_, subst}
+use Prim.Native.Nat.{ℕ}
+use mathlib.Core.Path.{_≡_, refl, sym, ap, subst}
 use mathlib.Core.Bool.{Bool, true, false, cond}
 use mathlib.Core.List.{List, [], _∷_, _++_}
 use mathlib.Core.Option.{Option, none, some, Option·some-injective}
@@ -9,8 +9,8 @@ use lib.Dec.{T, eqb}
 use lib.ListN.{length}
 use Rattle.rules.specs.proofs.Basics.{missing}
 use Rattle.rules.specs.paper.Tree.{Formal, Command, block, Block}
-use Rattle.rules.specs.paper.States.{Value, location, Bindable, value, closure, Environment, empty, bound, lookup, join, Store, Entry, val, Item, command, State, state}
-use Rattle.rules.specs.paper.Rules.{Matched, match-formals}
+use Rattle.rules.specs.paper.States.{Value, Bindable, value, closure, Environment, empty, bound, lookup, join, Store, Entry, val, Item, command, state}
+use Rattle.rules.specs.paper.Rules.{match-formals}
 use Rattle.rules.specs.paper.Carried.{Carried, Carrying}
 use Rattle.rules.specs.paper.Carrying.{CarriedCells, CarriedMeaning, a-value, a-function, CarriedName, CarriedNames, carried-meaning, carry-formals, value-of}
 use Rattle.rules.specs.proofs.ranges.Operators.{ValueWithin, If}

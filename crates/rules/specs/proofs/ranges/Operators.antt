@@ -1,23 +1,23 @@
 -- What an operator gives of two values that lie within what is carried of them lies within what it carries of both, and the automaton's mark
 -- gives it.
 use Prim.Native.Nat.{ℕ}
-use mathlib.Core.Path.{_≡_, refl, sym, ap, _∙_, subst}
-use mathlib.Core.Bool.{Bool, true, false, cond, not, _&&_, _||_, Bool·beq}
-use mathlib.Core.List.{List, [], _∷_}
+use mathlib.Core.Path.{_≡_, refl, sym, subst}
+use mathlib.Core.Bool.{Bool, true, false, not, _&&_, _||_, Bool·beq}
+use mathlib.Core.List.{List, _∷_}
 use mathlib.Core.Option.{Option, none, some}
 use lib.Dec.{T}
 use lib.IntN.{ℤ}
 use lib.Signed.{_≤ℤ_}
-use Rattle.rules.specs.proofs.Basics.{passed-test, and-both, or-left, or-right}
-use Rattle.rules.specs.paper.Tree.{Arithmetic, Order, Logic, Operator, arithmetic, Eq, order, logic}
-use Rattle.rules.specs.paper.Integers.{number, compute, compare, equal-integers, equal-truths, combine}
-use Rattle.rules.specs.paper.States.{Value, integer, truth, location, Environment, Store, Entry, val, Mark, operator-mark, not-mark, Item, mark, State, state}
-use Rattle.rules.specs.paper.Rules.{Rule, Effect, goes, pushed, equal-values, Applies, mark-arithmetic, mark-Eq, mark-order, mark-logic, mark-Not}
+use Rattle.rules.specs.proofs.Basics.{and-both, or-left, or-right}
+use Rattle.rules.specs.paper.Tree.{Arithmetic, Operator, arithmetic, Eq, order, logic}
+use Rattle.rules.specs.paper.Integers.{compare, equal-integers, equal-truths, combine}
+use Rattle.rules.specs.paper.States.{Value, integer, truth, location, Environment, Store, Entry, val, Mark, operator-mark, not-mark, Item, mark, state}
+use Rattle.rules.specs.paper.Rules.{Rule, goes, pushed, Applies, mark-arithmetic, mark-Eq, mark-order, mark-logic, mark-Not}
 use Rattle.rules.specs.paper.Rules as Rules
 use Rattle.rules.specs.paper.Carried.{Carried, numbers, truths, Carrying, carried, unsafe, unfit, _>>=_, fitting, safe, carry-arithmetic, carry-order, carry-equal, possible, some-choice, carry-choice, carry-not, carry-operator, carry-negation}
 use Rattle.rules.specs.paper.Carried as Carried
 use Rattle.rules.specs.claims.Ranges.{SomePair, JustTruths}
-use Rattle.rules.specs.proofs.ranges.Arithmetic.{CarriedEnds, arithmetic-within}
+use Rattle.rules.specs.proofs.ranges.Arithmetic.{arithmetic-within}
 use Rattle.rules.specs.proofs.ranges.Comparisons.{comparisons-exact}
 use Rattle.rules.specs.proofs.ranges.IntegerEnds.{order-trans}
 

@@ -1,11 +1,11 @@
 -- The claims of the runs (claims/Ranges.antt): where the ranges give ends, every run from starts within the limits leads to one final state, so no step
 -- of it meets 31 or 32; the room figures rule out 33 to 36; and where it ends the registers lie within the ends.
-use Prim.Native.Nat.{ℕ, zero, suc, _≤_}
-use mathlib.Core.Path.{_≡_, refl, sym, ap, _∙_, subst}
+use Prim.Native.Nat.{ℕ}
+use mathlib.Core.Path.{_≡_, refl, sym, _∙_, subst}
 use mathlib.Core.Bool.{Bool, true, false, cond}
-use mathlib.Core.List.{List, [], _∷_}
+use mathlib.Core.List.{List, []}
 use native.Mathlib.Omega.{arith}
-use lib.Dec.{T, eqb, leb, ltb}
+use lib.Dec.{eqb, leb, ltb}
 use lib.IntN.{ℤ}
 use lib.ListN.{length}
 use Rattle.rules.specs.paper.Tree.{Root}
@@ -15,14 +15,13 @@ use Rattle.rules.specs.paper.Limits.{most-budget, work-words}
 use Rattle.rules.specs.paper.Checker.{Passed}
 use Rattle.rules.specs.paper.States.{Environment, Store, Entry, State, state, control-of, store-of}
 use Rattle.rules.specs.paper.Rules.{Rule, Effect, goes, fails, Applies}
-use Rattle.rules.specs.paper.Run.{Ending, ended, stopped, lost, run}
+use Rattle.rules.specs.paper.Run.{Ending, ended, run}
 use Rattle.rules.specs.paper.Needs.{Sizes, control, values, cells, bindings}
 use Rattle.rules.specs.paper.HighMarks.{high-marks}
-use Rattle.rules.specs.paper.Engine.{check-image, passed, start, registers-from, cleared, Answer, Outcome, outcome, refused, Called, refusing, finish, run-checked, engine}
-use Rattle.rules.specs.paper.Carrying.{CarriedCells}
-use Rattle.rules.specs.paper.Ranges.{ends-given, lowest-of, highest-of, ends-from, ranges}
+use Rattle.rules.specs.paper.Engine.{check-image, passed, start, registers-from, cleared, Outcome, outcome, refused, Called, refusing, finish, run-checked, engine}
+use Rattle.rules.specs.paper.Ranges.{ends-given, ranges}
 use Rattle.rules.specs.claims.History.{History, Reach, at-start, step-made}
-use Rattle.rules.specs.claims.Claim.{ReasonHolds, budget-used, divisor-zero, result-outside, cells-full, bindings-full, values-full, control-full, AllInRange, StepWithheld}
+use Rattle.rules.specs.claims.Claim.{ReasonHolds, budget-used, divisor-zero, result-outside, cells-full, bindings-full, values-full, control-full, AllInRange}
 use Rattle.rules.specs.claims.Ends.{EndsWell, normally, withheld-for}
 use Rattle.rules.specs.claims.Ranges.{Within, OnlyTheBudget, EndsWithin, RepliesWithinRanges}
 use Rattle.rules.specs.proofs.running.FireExact.{one-rule}
@@ -32,7 +31,7 @@ use Rattle.rules.specs.proofs.needs.RunNeeds.{room-suffices}
 use Rattle.rules.specs.proofs.ranges.Operators.{If}
 use Rattle.rules.specs.proofs.ranges.Within.{Leads, there, one-step}
 use Rattle.rules.specs.proofs.ranges.RootRuns.{as-many-starts, starts-in-range, Finishes, root-runs, registers-within}
-use Rattle.rules.specs.proofs.ranges.EndsGiven.{EndsOf, ends-of, ImagePassed, image-passed}
+use Rattle.rules.specs.proofs.ranges.EndsGiven.{EndsOf, ends-of, image-passed}
 
 -- ---- A state that leads to one with control empty.
 

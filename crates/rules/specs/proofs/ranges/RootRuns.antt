@@ -1,20 +1,17 @@
 -- From starts within the limits the automaton leads to a state with control empty and a store within the carried cells, and the registers of such a
 -- store lie within the ends.
-use Prim.Native.Nat.{ℕ, zero, suc, _≤_}
-use mathlib.Core.Path.{_≡_, refl, sym, ap, _∙_, subst}
-use mathlib.Core.Bool.{Bool, true, false}
+use Prim.Native.Nat.{ℕ, zero, suc}
+use mathlib.Core.Path.{_≡_, refl, sym, ap, subst}
 use mathlib.Core.List.{List, [], _∷_}
 use mathlib.Core.Option.{Option, none, some}
-use lib.Dec.{T}
 use lib.IntN.{ℤ, pos}
 use lib.ListN.{length, getD}
 use lib.Signed.{_≤ℤ_, ≤ℤ-refl}
 use Rattle.rules.specs.paper.Tree.{Root}
 use Rattle.rules.specs.paper.Tree as Tree
-use Rattle.rules.specs.paper.Integers.{in-range}
 use Rattle.rules.specs.paper.States.{Value, Environment, Store, find, Entry, val, State, state}
 use Rattle.rules.specs.paper.Engine.{root-control, register-environment, register-store, start, as-register, registers-from}
-use Rattle.rules.specs.paper.Carried.{Carried, numbers, truths}
+use Rattle.rules.specs.paper.Carried.{Carried}
 use Rattle.rules.specs.paper.Carried as Carried
 use Rattle.rules.specs.paper.Carrying.{CarriedCells, carried-at, CarriedNames, carry-expression, carry-command, carry-root, register-names, register-cells, carry-routine}
 use Rattle.rules.specs.paper.Ranges.{lowest-of, highest-of, ends-from}
@@ -22,9 +19,9 @@ use Rattle.rules.specs.claims.Claim.{AllInRange}
 use Rattle.rules.specs.claims.Ranges.{Within, none-within, one-within}
 use Rattle.rules.specs.proofs.ranges.IntegerEnds.{in-range-between}
 use Rattle.rules.specs.proofs.ranges.Operators.{ValueWithin, number-within, truth-within, location-within, If, after}
-use Rattle.rules.specs.proofs.ranges.Within.{Leads, there, StoreWithin, no-cells, one-cell, Found, find-within, find-none}
-use Rattle.rules.specs.proofs.ranges.NamesWithin.{CommandRuns, RunsAnywhere, NamesWithin, no-names, one-name, value-within}
-use Rattle.rules.specs.proofs.ranges.ExpressionRuns.{ExpressionRuns, Runs, expression-runs}
+use Rattle.rules.specs.proofs.ranges.Within.{Leads, there, StoreWithin, no-cells, one-cell, find-within, find-none}
+use Rattle.rules.specs.proofs.ranges.NamesWithin.{RunsAnywhere, NamesWithin, no-names, one-name, value-within}
+use Rattle.rules.specs.proofs.ranges.ExpressionRuns.{Runs, expression-runs}
 use Rattle.rules.specs.proofs.ranges.CommandRuns.{mapped, command-runs}
 
 -- ---- Starts within the limits.

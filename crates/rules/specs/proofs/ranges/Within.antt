@@ -1,23 +1,21 @@
 -- What is carried of the cells and names stands for a store and an environment of the automaton; and reading, setting, making and removing cells,
 -- and widening them, keep that.
-use Prim.Native.Nat.{ℕ, zero, suc, _+_, _-_, _≤_, _<_}
+use Prim.Native.Nat.{ℕ, suc, _-_, _≤_}
 use mathlib.Core.Path.{_≡_, refl, sym, ap, _∙_, subst}
 use mathlib.Core.Bool.{Bool, true, false, cond, _||_}
-use mathlib.Core.List.{List, [], _∷_, _++_}
+use mathlib.Core.List.{List, [], _∷_}
 use mathlib.Core.Option.{Option, none, some, Option·some-injective}
 use native.Mathlib.Omega.{arith}
 use lib.Dec.{T, eqb, eqb→eq, eqb-refl}
-use lib.IntN.{ℤ}
 use lib.ListN.{length, drop}
 use Rattle.rules.specs.proofs.Basics.{missing, passed-test, true-test, false-test, or-left, or-right}
-use Rattle.rules.specs.paper.Tree.{Formal, Command, block, Block}
-use Rattle.rules.specs.paper.States.{Value, integer, truth, location, Bindable, value, closure, Environment, empty, bound, lookup, join, Cell, Store, find, store-at, in-set, remove, Entry, val, Item, command, State, state}
-use Rattle.rules.specs.paper.Rules.{Rule, goes, Matched, match-formals, Applies}
-use Rattle.rules.specs.paper.Carried.{Carried, numbers, truths, Carrying, possible, wider, lower, higher}
+use Rattle.rules.specs.paper.States.{Value, integer, truth, location, Cell, Store, find, store-at, in-set, remove, State}
+use Rattle.rules.specs.paper.Rules.{Rule, goes, Applies}
+use Rattle.rules.specs.paper.Carried.{Carried, numbers, truths, possible, wider, lower, higher}
 use Rattle.rules.specs.paper.Carried as Carried
-use Rattle.rules.specs.paper.Carrying.{CarriedCells, carried-at, carry-to, oldest-cells, one-cell-more, wider-cells, CarriedMeaning, a-value, a-function, CarriedName, CarriedNames, carried-meaning, carry-formals, value-of}
+use Rattle.rules.specs.paper.Carrying.{CarriedCells, carried-at, carry-to, oldest-cells, one-cell-more, wider-cells}
 use Rattle.rules.specs.proofs.ranges.IntegerEnds.{order-trans, lower-first, lower-second, higher-first, higher-second}
-use Rattle.rules.specs.proofs.ranges.Operators.{ValueWithin, number-within, truth-within, location-within, If}
+use Rattle.rules.specs.proofs.ranges.Operators.{ValueWithin, number-within, truth-within, location-within}
 
 -- ---- The automaton goes from one state to another.
 
