@@ -134,12 +134,14 @@ corners o a b c d v q = first (compute o a c) refl q
     third w x p₁ p₂ (failed s) p₃ e = missing e
 
     second : (w : ℤ) → compute o a c ≡ number w →
-        (r : Result) → compute o a d ≡ r → with-number r (λ x. with-number (compute o b c) (λ y. with-number (compute o b d) (λ z. some (ends w x y z)))) ≡ some v → Corners o a b c d v
+        (r : Result) → compute o a d ≡ r → with-number r (λ x. with-number (compute o b c) (λ y. with-number (compute o b d) (λ z. some (ends w x y z)))) ≡ some v →
+        Corners o a b c d v
     second w p₁ (number x) p₂ e = third w x p₁ p₂ (compute o b c) refl e
     second w p₁ (failed s) p₂ e = missing e
 
     first : (r : Result) → compute o a c ≡ r →
-        with-number r (λ w. with-number (compute o a d) (λ x. with-number (compute o b c) (λ y. with-number (compute o b d) (λ z. some (ends w x y z))))) ≡ some v → Corners o a b c d v
+        with-number r (λ w. with-number (compute o a d) (λ x. with-number (compute o b c) (λ y. with-number (compute o b d) (λ z. some (ends w x y z))))) ≡ some v →
+        Corners o a b c d v
     first (number w) p₁ e = second w p₁ (compute o a d) refl e
     first (failed s) p₁ e = missing e
 

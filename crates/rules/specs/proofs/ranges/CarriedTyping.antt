@@ -85,7 +85,8 @@ unfolding carried-at code-at
 at-typed l c no-cells q = missing q
 at-typed l c (one-cell {v = v} {K = K} {c = d} {W = W} t h) q = choose (eqb (length K) l) (eqb (length W) l) refl (ap (λ k. eqb k l) (cells-length h)) q (at-typed l c h)
   where
-    choose : (a b : Bool) → eqb (length K) l ≡ a → a ≡ b → cond b (some d) (code-at l W) ≡ some c → (code-at l W ≡ some c → Given (λ v. CarriedTyped W v c) (carried-at l K)) →
+    choose : (a b : Bool) → eqb (length K) l ≡ a → a ≡ b → cond b (some d) (code-at l W) ≡ some c →
+        (code-at l W ≡ some c → Given (λ v. CarriedTyped W v c) (carried-at l K)) →
         Given (λ v. CarriedTyped (d ∷ W) v c) (cond a (some v) (carried-at l K))
     choose true true u x p older = record { what = v; is-there = refl; holds = value-newer (newer same) (subst (CarriedTyped W v) (Option·some-injective d c p) t) }
     choose true false u x p older = absurd (subst T x tt)
@@ -220,11 +221,13 @@ FunctionTyped W give fs = (U : World) → Newer W U → (vs : List Carried) → 
 
 pub data MeaningTyped (W : World) : CarriedMeaning → Meaning → Type 0 where
   value-typed : {v : Carried} {c : ℕ} → CarriedTyped W v c → MeaningTyped W (a-value v) (code c)
-  function-typed : {give : List Carried → CarriedCells → Carrying CarriedCells} {fs : List Formal} → FunctionTyped W give fs → MeaningTyped W (a-function give) (function fs)
+  function-typed : {give : List Carried → CarriedCells → Carrying CarriedCells} {fs : List Formal} → FunctionTyped W give fs →
+      MeaningTyped W (a-function give) (function fs)
 
 pub data NamesTyped (W : World) : CarriedNames → Scope → Type 0 where
   no-names : NamesTyped W [] []
-  one-name : {n : CarriedName} {N : CarriedNames} {m : Named} {Γ : Scope} → n .name ≡ m .name → MeaningTyped W (n .meaning) (m .meaning) → NamesTyped W N Γ → NamesTyped W (n ∷ N) (m ∷ Γ)
+  one-name : {n : CarriedName} {N : CarriedNames} {m : Named} {Γ : Scope} → n .name ≡ m .name → MeaningTyped W (n .meaning) (m .meaning) → NamesTyped W N Γ →
+      NamesTyped W (n ∷ N) (m ∷ Γ)
 
 meaning-newer : {W U : World} {u : CarriedMeaning} {m : Meaning} → Newer W U → MeaningTyped W u m → MeaningTyped U u m
 meaning-newer h (value-typed t) = value-typed (value-newer h t)
@@ -238,12 +241,14 @@ pub names-append : {W : World} {M N : CarriedNames} {Δ Γ : Scope} → NamesTyp
 names-append no-names k = k
 names-append (one-name q t h) k = one-name q t (names-append h k)
 
-pub meaning-typed : {W : World} {N : CarriedNames} {Γ : Scope} (x : ℕ) (m : Meaning) → NamesTyped W N Γ → meaning-of x Γ ≡ some m → Given (λ u. MeaningTyped W u m) (carried-meaning x N)
+pub meaning-typed : {W : World} {N : CarriedNames} {Γ : Scope} (x : ℕ) (m : Meaning) → NamesTyped W N Γ → meaning-of x Γ ≡ some m →
+    Given (λ u. MeaningTyped W u m) (carried-meaning x N)
 unfolding carried-meaning meaning-of
 meaning-typed x m no-names q = missing q
 meaning-typed {W} x m (one-name {n = n} {N = N} {m = o} {Γ = Γ} e t h) q = choose (eqb (n .name) x) (eqb (o .name) x) (ap (λ k. eqb k x) e) q (meaning-typed x m h)
   where
-    choose : (a b : Bool) → a ≡ b → cond b (some (o .meaning)) (meaning-of x Γ) ≡ some m → (meaning-of x Γ ≡ some m → Given (λ u. MeaningTyped W u m) (carried-meaning x N)) →
+    choose : (a b : Bool) → a ≡ b → cond b (some (o .meaning)) (meaning-of x Γ) ≡ some m →
+        (meaning-of x Γ ≡ some m → Given (λ u. MeaningTyped W u m) (carried-meaning x N)) →
         Given (λ u. MeaningTyped W u m) (cond a (some (n .meaning)) (carried-meaning x N))
     choose true true v p outer = record { what = n .meaning; is-there = refl; holds = subst (MeaningTyped W (n .meaning)) (Option·some-injective (o .meaning) m p) t }
     choose true false v p outer = absurd (subst T v tt)

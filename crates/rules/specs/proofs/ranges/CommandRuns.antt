@@ -78,7 +78,8 @@ module _ (E : Environment) (S : Store) (N : CarriedNames) (K : CarriedCells) (na
   Done c M = RunsAnywhere c E S K M
 
   -- Assign stores to the cell that its name is bound to.
-  assigned : (p x : ℕ) (e : Expression) (v : Carried) → Given e v → (o : Option Carried) → value-of (carried-meaning x N) ≡ o → If (Done (Assign p x e)) (carry-assign (location-in o) v K)
+  assigned : (p x : ℕ) (e : Expression) (v : Carried) → Given e v → (o : Option Carried) → value-of (carried-meaning x N) ≡ o →
+      If (Done (Assign p x e)) (carry-assign (location-in o) v K)
   unfolding carry-assign
   assigned p x e v run none q = tt
   assigned p x e v run (some (numbers a b)) q = tt
@@ -91,7 +92,9 @@ module _ (E : Environment) (S : Store) (N : CarriedNames) (K : CarriedCells) (na
           let cell = find-within l w cells r in
           record {
             left = store-at l (given .given) S;
-            leads = one-step rule-Assign Rules.assign (leads-on (given .leads) (one-step mark-Assign (Rules.assign-at (bound-to E S N K names cells x l (named-value x (Carried.location l) names q)) (cell .found)) there));
+            leads =
+                one-step rule-Assign Rules.assign (leads-on (given .leads)
+                (one-step mark-Assign (Rules.assign-at (bound-to E S N K names cells x l (named-value x (Carried.location l) names q)) (cell .found)) there));
             within = store-within l (given .given) v cells (given .within);
             as-many = set-length l v K;
           }
@@ -105,8 +108,13 @@ module _ (E : Environment) (S : Store) (N : CarriedNames) (K : CarriedCells) (na
       by (some w) r = by-sort (same-sort w v) (stored w r)
 
   -- At a Cond's mark the truth picks the command.
+  abbrev Tested : (p : ℕ) (e : Expression) (c₁ c₂ : Command) → Value → List Item → List Entry → List ℕ → ℕ → Type 0
+  Tested p e c₁ c₂ x C X L n =
+      Leads (state (expression e ∷ mark conditional-mark ∷ C) (node (Cond p e c₁ c₂) ∷ X) E S L n)
+      (state (mark conditional-mark ∷ C) (val x ∷ node (Cond p e c₁ c₂) ∷ X) E S L n)
+
   conditional-done : (p : ℕ) (e : Expression) (c₁ c₂ : Command) (w : Bool) (M : CarriedCells) (C : List Item) (X : List Entry) (L : List ℕ) (n : ℕ) →
-      Leads (state (expression e ∷ mark conditional-mark ∷ C) (node (Cond p e c₁ c₂) ∷ X) E S L n) (state (mark conditional-mark ∷ C) (val (truth w) ∷ node (Cond p e c₁ c₂) ∷ X) E S L n) →
+      Tested p e c₁ c₂ (truth w) C X L n →
       CommandRuns (chosen w c₁ c₂) C X E S L n K M → CommandRuns (Cond p e c₁ c₂) C X E S L n K M
   conditional-done p e c₁ c₂ true M C X L n tested run =
       record {
@@ -130,8 +138,7 @@ module _ (E : Environment) (S : Store) (N : CarriedNames) (K : CarriedCells) (na
         let test = run (mark conditional-mark ∷ C) (node (Cond p e c₁ c₂) ∷ X) L n in
         by (test .given) (test .leads) (test .within)
       where
-        by : (x : Value) → Leads (state (expression e ∷ mark conditional-mark ∷ C) (node (Cond p e c₁ c₂) ∷ X) E S L n) (state (mark conditional-mark ∷ C) (val x ∷ node (Cond p e c₁ c₂) ∷ X) E S L n) →
-            ValueWithin x (truths f t) → CommandRuns (Cond p e c₁ c₂) C X E S L n K M
+        by : (x : Value) → Tested p e c₁ c₂ x C X L n → ValueWithin x (truths f t) → CommandRuns (Cond p e c₁ c₂) C X E S L n K M
         by x tested (truth-within {w = w} h) = conditional-done p e c₁ c₂ w M C X L n tested (pick w h C X L n)
 
     only-first : (w : Bool) (M : CarriedCells) → Done c₁ M → T (Carried.possible w false true) → Done (chosen w c₁ c₂) M
@@ -149,7 +156,8 @@ module _ (E : Environment) (S : Store) (N : CarriedNames) (K : CarriedCells) (na
     either false M₁ M₂ M q run₁ run₂ C X L n =
         let r = run₁ C X L n in
         let s = run₂ C X L n in
-        record { left = s .left; leads = s .leads; within = wider-store-second M₁ M (r .as-many ∙ sym (s .as-many)) q (s .within); as-many = wider-length M₁ M₂ M q ∙ r .as-many }
+        let as-many = wider-length M₁ M₂ M q ∙ r .as-many in
+        record { left = s .left; leads = s .leads; within = wider-store-second M₁ M (r .as-many ∙ sym (s .as-many)) q (s .within); as-many = as-many }
 
     choosing : (v : Carried) (m₁ m₂ : Carrying CarriedCells) → Given e v → If (Done c₁) m₁ → If (Done c₂) m₂ → If (Done (Cond p e c₁ c₂)) (carry-choosing v m₁ m₂)
     choosing (numbers a b) m₁ m₂ run h₁ h₂ = tt
@@ -178,10 +186,14 @@ module _ (E : Environment) (S : Store) (N : CarriedNames) (K : CarriedCells) (na
           mapped (λ M. FunctionRuns fs body F (actuals .given) S K M) (λ M. CommandRuns (Call p x es) C X E S L n K M) (give vs K)
           (runs (actuals .given) vs (actuals .within) S K cells) (λ M f.
           let r = f .runs (mark (leave-mark p n) ∷ C) (environment E ∷ locations L ∷ X) [] (n + length es) in
-          let matches = subst (λ k. match-formals k fs (on-stack (actuals .given) X) F ≡ some (record { environment-with = f .with-actuals; rest = X })) (actuals .as-many) (f .matches X) in
+          let matches =
+          subst (λ k. match-formals k fs (on-stack (actuals .given) X) F ≡ some (record { environment-with = f .with-actuals; rest = X })) (actuals .as-many)
+          (f .matches X) in
           record {
             left = remove [] (r .left);
-            leads = one-step rule-Call Rules.call (leads-on (actuals .leads) (one-step mark-Call (Rules.call-at found matches) (leads-on (r .leads) (one-step mark-leave Rules.leave-at there))));
+            leads =
+                one-step rule-Call Rules.call (leads-on (actuals .leads)
+                (one-step mark-Call (Rules.call-at found matches) (leads-on (r .leads) (one-step mark-leave Rules.leave-at there))));
             within = rw (remove-none (r .left)) (r .within);
             as-many = r .as-many;
           }))
@@ -198,7 +210,9 @@ module _ (E : Environment) (S : Store) (N : CarriedNames) (K : CarriedCells) (na
       let r = run₂ (mark (leave-mark p n) ∷ C) (environment E ∷ locations L ∷ X) (declared .made) (declared .count) in
       record {
         left = remove (declared .made) (r .left);
-        leads = one-step rule-Blk Rules.blk (leads-on (declared .leads) (one-step mark-extend Rules.extend-at (leads-on (r .leads) (one-step mark-leave Rules.leave-at there))));
+        leads =
+            one-step rule-Blk Rules.blk (leads-on (declared .leads)
+            (one-step mark-extend Rules.extend-at (leads-on (r .leads) (one-step mark-leave Rules.leave-at there))));
         within = remove-within (declared .grown) (r .as-many) (r .within);
         as-many = oldest-length (length K) M (more (made-later (declared .grown)) (r .as-many));
       }))
@@ -227,7 +241,8 @@ module _ (E : Environment) (S : Store) (N : CarriedNames) (K : CarriedCells) (na
       ((F : Environment) (R : Store) → NamesWithin F (D .names-declared ++ N) → StoreWithin R (D .cells-after) → If (DeclaresAnywhere d₂ F R (D .cells-after)) m) →
       If (DeclaresAnywhere (DSeq p d₁ d₂) E S K) (m >>= λ F. carried (record { names-declared = F .names-declared ++ D .names-declared; cells-after = F .cells-after }))
   both-declared p d₁ d₂ D run m inner =
-      anywhere (λ C X L n F. DeclarationRuns (DSeq p d₁ d₂) C X E S L n K F) (m >>= λ F. carried (record { names-declared = F .names-declared ++ D .names-declared; cells-after = F .cells-after })) (λ C X L n.
+      anywhere (λ C X L n F. DeclarationRuns (DSeq p d₁ d₂) C X E S L n K F)
+      (m >>= λ F. carried (record { names-declared = F .names-declared ++ D .names-declared; cells-after = F .cells-after })) (λ C X L n.
       let first = run (mark dseq-extend-mark ∷ declaration d₂ ∷ mark dseq-join-mark ∷ C) X L n in
       after (DeclaresAnywhere d₂ (join (first .declared) E) (first .left) (D .cells-after)) (λ F. DeclarationRuns (DSeq p d₁ d₂) C X E S L n K F) m _
       (inner (join (first .declared) E) (first .left) (join-within (first .names) names) (first .cells)) (λ F run₂.
@@ -237,14 +252,17 @@ module _ (E : Environment) (S : Store) (N : CarriedNames) (K : CarriedCells) (na
         left = second .left;
         made = second .made;
         count = second .count;
-        leads = one-step rule-DSeq Rules.dseq (leads-on (first .leads) (one-step mark-DSeq-extend Rules.dseq-extend-at (leads-on (second .leads) (one-step mark-DSeq-join Rules.dseq-join-at there))));
+        leads =
+            one-step rule-DSeq Rules.dseq (leads-on (first .leads)
+            (one-step mark-DSeq-extend Rules.dseq-extend-at (leads-on (second .leads) (one-step mark-DSeq-join Rules.dseq-join-at there))));
         names = join-within (second .names) (first .names);
         cells = second .cells;
         grown = made-on (first .grown) (second .grown);
       }))
 
   -- A Ref's mark makes a cell, whose location is the number of live ones.
-  cell-made : (p : ℕ) (e : Expression) (v : Carried) → Given e v → BindsAnywhere (Ref p e) E S K (record { bound-as = a-value (Carried.location (length K)); cells-after = v ∷ K })
+  cell-made : (p : ℕ) (e : Expression) (v : Carried) → Given e v →
+      BindsAnywhere (Ref p e) E S K (record { bound-as = a-value (Carried.location (length K)); cells-after = v ∷ K })
   cell-made p e v run C X L n =
       let r = run (mark ref-mark ∷ C) X L n in
       record {
@@ -298,18 +316,21 @@ mutual
       called E S N K names cells p x es vs run (carried-meaning x N) refl)
   command-runs (Cond p e c₁ c₂) E S N K names cells =
       after (Runs E S N K names cells e) (RunsAnywhere (Cond p e c₁ c₂) E S K) (carry-expression N K e) _ (expression-runs E S N K names cells e) (λ v run.
-      choosing E S N K names cells p e c₁ c₂ v (carry-command N K c₁) (carry-command N K c₂) run (command-runs c₁ E S N K names cells) (command-runs c₂ E S N K names cells))
+      choosing E S N K names cells p e c₁ c₂ v (carry-command N K c₁) (carry-command N K c₂) run (command-runs c₁ E S N K names cells)
+      (command-runs c₂ E S N K names cells))
 
   pub block-runs : (b : Block) (E : Environment) (S : Store) (N : CarriedNames) (K : CarriedCells) → NamesWithin E N → StoreWithin S K →
       If (RunsAnywhere (block b) E S K) (carry-block N K b)
   block-runs (Blk p d c) E S N K names cells =
       after (DeclaresAnywhere d E S K) (RunsAnywhere (block (Blk p d c)) E S K) (carry-declaration N K d) _ (declaration-runs d E S N K names cells) (λ D run.
-      block-done E S N K names cells p d c D run (carry-command (D .names-declared ++ N) (D .cells-after) c) (λ F R h k. command-runs c F R (D .names-declared ++ N) (D .cells-after) h k))
+      block-done E S N K names cells p d c D run (carry-command (D .names-declared ++ N) (D .cells-after) c)
+      (λ F R h k. command-runs c F R (D .names-declared ++ N) (D .cells-after) h k))
 
   pub declaration-runs : (d : Declaration) (E : Environment) (S : Store) (N : CarriedNames) (K : CarriedCells) → NamesWithin E N → StoreWithin S K →
       If (DeclaresAnywhere d E S K) (carry-declaration N K d)
   declaration-runs (Bind p x b) E S N K names cells =
-      after (BindsAnywhere b E S K) (DeclaresAnywhere (Bind p x b) E S K) (carry-bound N K b) _ (bound-runs b E S N K names cells) (λ B run. bind-done E S N K names cells p x b B run)
+      after (BindsAnywhere b E S K) (DeclaresAnywhere (Bind p x b) E S K) (carry-bound N K b) _ (bound-runs b E S N K names cells)
+      (λ B run. bind-done E S N K names cells p x b B run)
   declaration-runs (DSeq p d₁ d₂) E S N K names cells =
       after (DeclaresAnywhere d₁ E S K) (DeclaresAnywhere (DSeq p d₁ d₂) E S K) (carry-declaration N K d₁) _ (declaration-runs d₁ E S N K names cells) (λ D run.
       both-declared E S N K names cells p d₁ d₂ D run (carry-declaration (D .names-declared ++ N) (D .cells-after) d₂)
@@ -322,7 +343,8 @@ mutual
       let r = run C X L n in
       record { given = value (r .given); left = S; made = L; leads = r .leads; within = value-within (r .within); cells = cells; grown = none-made })
   bound-runs (Ref p e) E S N K names cells =
-      after (Runs E S N K names cells e) (BindsAnywhere (Ref p e) E S K) (carry-expression N K e) _ (expression-runs E S N K names cells e) (λ v run. cell-made E S N K names cells p e v run)
+      after (Runs E S N K names cells e) (BindsAnywhere (Ref p e) E S K) (carry-expression N K e) _ (expression-runs E S N K names cells e)
+      (λ v run. cell-made E S N K names cells p e v run)
   bound-runs (Abs p fs b) E S N K names cells =
       λ C X L n.
       record {

@@ -104,7 +104,8 @@ module _ (a b c d : ℤ) (h : a ≤ℤ b) (k : c ≤ℤ d) where
   differed : SomePair a b c d equal-integers false → T (not (equal-integers a d && equal-integers b c))
   differed p =
       not-T (equal-integers a d && equal-integers b c)
-      (λ t. failed-test (p .gives) (all-same (equal-same a d (and-left (equal-integers a d) (equal-integers b c) t)) (equal-same b c (and-right (equal-integers a d) (equal-integers b c) t))))
+      (λ t. failed-test (p .gives) (all-same (equal-same a d (and-left (equal-integers a d) (equal-integers b c) t))
+      (equal-same b c (and-right (equal-integers a d) (equal-integers b c) t))))
     where
       all-same : a ≡ d → b ≡ c → T (equal-integers (p .first) (p .second))
       all-same q r =

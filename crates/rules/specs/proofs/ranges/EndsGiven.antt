@@ -55,7 +55,8 @@ unfolding room-refusal
 room-kept s q =
     first (ltb most-cells (s cells)) (ltb most-bindings (s bindings)) (ltb most-value-entries (s values)) (ltb most-control-entries (s control)) refl refl refl refl q
   where
-    first : (a b c d : Bool) → ltb most-cells (s cells) ≡ a → ltb most-bindings (s bindings) ≡ b → ltb most-value-entries (s values) ≡ c → ltb most-control-entries (s control) ≡ d →
+    first : (a b c d : Bool) → ltb most-cells (s cells) ≡ a → ltb most-bindings (s bindings) ≡ b → ltb most-value-entries (s values) ≡ c →
+        ltb most-control-entries (s control) ≡ d →
         cond a (some Cells) (cond b (some Bindings) (cond c (some ValueEntries) (cond d (some ControlEntries) none))) ≡ none → (f : Figure) → s f ≤ limits f
     first true b c d p₁ p₂ p₃ p₄ e f = missing (sym e)
     first false true c d p₁ p₂ p₃ p₄ e f = missing (sym e)
@@ -66,7 +67,8 @@ room-kept s q =
     first false false false false p₁ p₂ p₃ p₄ e cells = ltb-false most-cells (s cells) p₁
     first false false false false p₁ p₂ p₃ p₄ e bindings = ltb-false most-bindings (s bindings) p₂
 
-roomy : (o : Option Reason) (body : RangesCalled) (ls hs : List ℤ) (ws : List ℕ) → GivesEnds (with-room o body ls hs ws .answer) → (o ≡ none) × (with-room o body ls hs ws ≡ body)
+roomy : (o : Option Reason) (body : RangesCalled) (ls hs : List ℤ) (ws : List ℕ) → GivesEnds (with-room o body ls hs ws .answer) →
+    (o ≡ none) × (with-room o body ls hs ws ≡ body)
 roomy none body ls hs ws h = (refl, refl)
 roomy (some x) body ls hs ws h = absurd h
 
@@ -80,7 +82,8 @@ module _ (r : ℕ) (t : Root) (ls hs : List ℤ) (ws : List ℕ) where
     lowest-is : c .lowest ≡ ends-from lowest-of 0 r left
     highest-is : c .highest ≡ ends-from highest-of 0 r left
 
-  left-by : (m : Carrying CarriedCells) → carry-routine r t ls hs ≡ m → (m ≡ unfit → ⊥) → GivesEnds (carried-ranges r m ls hs ws .answer) → Left (carried-ranges r m ls hs ws)
+  left-by : (m : Carrying CarriedCells) → carry-routine r t ls hs ≡ m → (m ≡ unfit → ⊥) → GivesEnds (carried-ranges r m ls hs ws .answer) →
+      Left (carried-ranges r m ls hs ws)
   left-by (carried K) q fit h = record { left = K; carries = q; lowest-is = refl; highest-is = refl }
   left-by (unsafe p) q fit h = absurd h
   left-by unfit q fit h = absurd (fit refl)
@@ -105,7 +108,8 @@ module _ (r : ℕ) (t : Root) (ls hs : List ℤ) (ws : List ℕ) where
       with-left low high (room-kept (routine-need r t .most) (room .0))
       (subst Left (sym same) (left-by (carry-routine r t ls hs) refl (carrying-fits image r t a passes (straight .0) ls hs low high (ordered .0)) h₅))
     where
-      with-left : length ls ≡ r → length hs ≡ r → ((f : Figure) → routine-need r t .most f ≤ limits f) → Left (ranges-of r t ls hs ws) → EndsOf r t ls hs (ranges-of r t ls hs ws)
+      with-left : length ls ≡ r → length hs ≡ r → ((f : Figure) → routine-need r t .most f ≤ limits f) → Left (ranges-of r t ls hs ws) →
+          EndsOf r t ls hs (ranges-of r t ls hs ws)
       with-left low high fits last =
           record {
             as-many-lowest = low;
@@ -117,7 +121,8 @@ module _ (r : ℕ) (t : Root) (ls hs : List ℤ) (ws : List ℕ) where
             highest-is = last .highest-is;
           }
 
-pub ends-of : (image : List ℕ) (ls hs : List ℤ) (ws : List ℕ) → ranges image ls hs ws .answer ≡ ends-given → (r : ℕ) (t : Root) (a : Passed) → check-image image ≡ passed r t a →
+pub ends-of : (image : List ℕ) (ls hs : List ℤ) (ws : List ℕ) → ranges image ls hs ws .answer ≡ ends-given → (r : ℕ) (t : Root) (a : Passed) →
+    check-image image ≡ passed r t a →
     EndsOf r t ls hs (ranges image ls hs ws)
 unfolding ranges
 ends-of image ls hs ws q r t a passes =

@@ -85,16 +85,22 @@ module _ (E : Environment) (S : Store) (N : CarriedNames) (K : CarriedCells) (na
       λ C X L n.
       record { given = location l; leads = one-step rule-DeRef (Rules.deref (bound-to x l (named-value x (Carried.location l) names q))) there; within = location-within }
 
-  second-cell : (p x l : ℕ) → lookup x E ≡ some (value (location l)) → (o : Option Carried) → carried-at l K ≡ o → If (Runs (ValRef p x)) (fitting (contents-at (location-in o) K))
+  second-cell : (p x l : ℕ) → lookup x E ≡ some (value (location l)) → (o : Option Carried) → carried-at l K ≡ o →
+      If (Runs (ValRef p x)) (fitting (contents-at (location-in o) K))
   second-cell p x l named none q = tt
   second-cell p x l named (some (numbers a b)) q = tt
   second-cell p x l named (some (truths f t)) q = tt
   second-cell p x l named (some (Carried.location k)) q =
       if-fitting (Runs (ValRef p x)) (carried-at k K) (λ v r C X L n.
       let f = find-within k v cells r in
-      record { given = f .contents; leads = one-step rule-ValRef (Rules.valref named (holds l k (find-within l (Carried.location k) cells q)) (f .found)) there; within = f .within })
+      record {
+        given = f .contents;
+        leads = one-step rule-ValRef (Rules.valref named (holds l k (find-within l (Carried.location k) cells q)) (f .found)) there;
+        within = f .within;
+      })
 
-  valref-runs : (p x : ℕ) (o : Option Carried) → value-of (carried-meaning x N) ≡ o → If (Runs (ValRef p x)) (fitting (contents-at (location-in (contents-at (location-in o) K)) K))
+  valref-runs : (p x : ℕ) (o : Option Carried) → value-of (carried-meaning x N) ≡ o →
+      If (Runs (ValRef p x)) (fitting (contents-at (location-in (contents-at (location-in o) K)) K))
   valref-runs p x none q = tt
   valref-runs p x (some (numbers a b)) q = tt
   valref-runs p x (some (truths f t)) q = tt
@@ -102,7 +108,8 @@ module _ (E : Environment) (S : Store) (N : CarriedNames) (K : CarriedCells) (na
 
   pub expression-runs : (e : Expression) → If (Runs e) (carry-expression N K e)
   unfolding carry-expression
-  expression-runs (Num p k) = λ C X L n. record { given = integer (pos k); leads = one-step rule-Num Rules.num there; within = number-within (≤ℤ-refl (pos k)) (≤ℤ-refl (pos k)) }
+  expression-runs (Num p k) = λ C X L n.
+      record { given = integer (pos k); leads = one-step rule-Num Rules.num there; within = number-within (≤ℤ-refl (pos k)) (≤ℤ-refl (pos k)) }
   expression-runs (Boo p b) = λ C X L n. record { given = truth b; leads = one-step rule-Boo Rules.boo there; within = truth-within (only-possible b) }
   expression-runs (Id p x) = id-runs p x (value-of (carried-meaning x N)) refl
   expression-runs (DeRef p x) = deref-runs p x (value-of (carried-meaning x N)) refl

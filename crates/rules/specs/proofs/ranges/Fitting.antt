@@ -72,7 +72,8 @@ module _ (W : World) (K : CarriedCells) (cells : CellsTyped K W) where
       by false true s = h₁
       by false false s = absurd s
 
-  call-fits : {N : CarriedNames} {Γ : Scope} (x : ℕ) (fs : List Formal) (vs : List Carried) → NamesTyped W N Γ → meaning-of x Γ ≡ some (function fs) → ActualsTyped W vs fs →
+  call-fits : {N : CarriedNames} {Γ : Scope} (x : ℕ) (fs : List Formal) (vs : List Carried) → NamesTyped W N Γ → meaning-of x Γ ≡ some (function fs) →
+      ActualsTyped W vs fs →
       Fits (Kept W K) (carry-call (carried-meaning x N) vs K)
   call-fits {N} x fs vs names q ts = let g = meaning-typed x (function fs) names q in by (g .what) (g .is-there) (g .holds)
     where
@@ -101,7 +102,8 @@ second-without a b h t = h (or-right a b t)
 mutual
   unfolding carry-command carry-block carry-declaration carry-bound some-command some-in-block some-in-declaration some-in-bound
 
-  command-fits : {Γ : Scope} {c : Command} → CommandOk Γ c → NoLoop (some-command is-loop c) → (W : World) (N : CarriedNames) (K : CarriedCells) → NamesTyped W N Γ → CellsTyped K W →
+  command-fits : {Γ : Scope} {c : Command} → CommandOk Γ c → NoLoop (some-command is-loop c) → (W : World) (N : CarriedNames) (K : CarriedCells) → NamesTyped W N Γ →
+      CellsTyped K W →
       Fits (Kept W K) (carry-command N K c)
   command-fits {Γ} (assign {x = x} {c = c} {e = e} h few q) free W N K names cells =
       fits-after (λ v. CarriedTyped W v c) (Kept W K) (carry-expression N K e) _ (expression-fits W N K Γ names cells h) (λ v t.
@@ -125,7 +127,8 @@ mutual
       (command-fits k₁ (first-without (some-command is-loop c₁) (some-command is-loop c₂) free) W N K names cells)
       (command-fits k₂ (second-without (some-command is-loop c₁) (some-command is-loop c₂) free) W N K names cells))
 
-  block-fits : {Γ : Scope} {b : Block} → BlockOk Γ b → NoLoop (some-in-block is-loop b) → (W : World) (N : CarriedNames) (K : CarriedCells) → NamesTyped W N Γ → CellsTyped K W →
+  block-fits : {Γ : Scope} {b : Block} → BlockOk Γ b → NoLoop (some-in-block is-loop b) → (W : World) (N : CarriedNames) (K : CarriedCells) → NamesTyped W N Γ →
+      CellsTyped K W →
       Fits (Kept W K) (carry-block N K b)
   block-fits (blk {Δ = Δ} {d = d} {c = c} h k) free W N K names cells =
       fits-after (DeclaredTyped W K Δ) (Kept W K) (carry-declaration N K d) _
@@ -134,7 +137,8 @@ mutual
       (command-fits k (second-without (some-in-declaration is-loop d) (some-command is-loop c) free) (t .world-after) (D .names-declared ++ N) (D .cells-after)
       (names-append (t .names) (names-newer (extends-newer (t .extends)) names)) (extends-typed (t .extends) cells)) (λ M kept. left-kept (t .extends) kept))
 
-  declaration-fits : {Γ Δ : Scope} {d : Declaration} → Gives Γ d Δ → NoLoop (some-in-declaration is-loop d) → (W : World) (N : CarriedNames) (K : CarriedCells) → NamesTyped W N Γ → CellsTyped K W →
+  declaration-fits : {Γ Δ : Scope} {d : Declaration} → Gives Γ d Δ → NoLoop (some-in-declaration is-loop d) → (W : World) (N : CarriedNames) (K : CarriedCells) →
+      NamesTyped W N Γ → CellsTyped K W →
       Fits (DeclaredTyped W K Δ) (carry-declaration N K d)
   declaration-fits (bind {Δ = Δ} {x = x} {b = b} {m = m} h q) free W N K names cells =
       fits-after (BoundTyped W K m) (DeclaredTyped W K Δ) (carry-bound N K b) _ (bound-fits h free W N K names cells) (λ B t.
@@ -152,10 +156,13 @@ mutual
       record {
         world-after = u .world-after;
         extends = extends-on (t .extends) (u .extends);
-        names = subst (NamesTyped (u .world-after) (F .names-declared ++ D .names-declared)) (sym q) (names-append (u .names) (names-newer (extends-newer (u .extends)) (t .names)));
+        names =
+            subst (NamesTyped (u .world-after) (F .names-declared ++ D .names-declared)) (sym q)
+            (names-append (u .names) (names-newer (extends-newer (u .extends)) (t .names)));
       }))
 
-  bound-fits : {Γ : Scope} {b : Bound} {m : Meaning} → Means Γ b m → NoLoop (some-in-bound is-loop b) → (W : World) (N : CarriedNames) (K : CarriedCells) → NamesTyped W N Γ → CellsTyped K W →
+  bound-fits : {Γ : Scope} {b : Bound} {m : Meaning} → Means Γ b m → NoLoop (some-in-bound is-loop b) → (W : World) (N : CarriedNames) (K : CarriedCells) →
+      NamesTyped W N Γ → CellsTyped K W →
       Fits (BoundTyped W K m) (carry-bound N K b)
   bound-fits {Γ} (plain-of {e = e} {c = c} h) free W N K names cells =
       fits-after (λ v. CarriedTyped W v c) (BoundTyped W K (code c)) (carry-expression N K e) _ (expression-fits W N K Γ names cells h) (λ v t.
@@ -199,7 +206,8 @@ unfolding register-world register-cells
 registers-typed zero ls hs ordered = no-cells
 registers-typed (suc r) ls hs ordered = one-cell (numbers-typed (ordered r)) (registers-typed r ls hs ordered)
 
-root-fits : (W : World) (N : CarriedNames) (K : CarriedCells) (Γ : Scope) {t : Root} {a : Passed} → NamesTyped W N Γ → CellsTyped K W → RootOk Γ t a → NoLoop (has-loop t) → Fits (Kept W K) (carry-root N K t)
+root-fits : (W : World) (N : CarriedNames) (K : CarriedCells) (Γ : Scope) {t : Root} {a : Passed} → NamesTyped W N Γ → CellsTyped K W → RootOk Γ t a →
+    NoLoop (has-loop t) → Fits (Kept W K) (carry-root N K t)
 unfolding carry-root has-loop some-in-root
 root-fits W N K Γ names cells (root-expression {e = e} {c = c} h) free =
     fits-after (λ v. CarriedTyped W v c) (Kept W K) (carry-expression N K e) _ (expression-fits W N K Γ names cells h) (λ v t. kept-self cells)

@@ -45,7 +45,8 @@ unfolding carry-choice
 choice-typed give f t g u h k =
     let x = truth-of f t h in
     let y = truth-of g u k in
-    truths-typed (some-truth (give (x .0) (y .0)) (some-choice give f t g u false) (some-choice give f t g u true) (choice-possible give (x .0) (y .0) f t g u (x .1) (y .1)))
+    truths-typed (some-truth (give (x .0) (y .0)) (some-choice give f t g u false) (some-choice give f t g u true)
+    (choice-possible give (x .0) (y .0) f t g u (x .1) (y .1)))
 
 lowest-pair : (a b c d : ℤ) → a ≤ℤ b → c ≤ℤ d → (give : ℤ → ℤ → Bool) → SomePair a b c d give (give a c)
 lowest-pair a b c d h k give = record { first = a; second = c; first-within = (≤ℤ-refl a, h); second-within = (≤ℤ-refl c, k); gives = refl }
@@ -53,7 +54,8 @@ lowest-pair a b c d h k give = record { first = a; second = c; first-within = (�
 -- ---- Operators.
 
 module _ {W : World} where
-  arithmetic-fits : (p : ℕ) (o : Arithmetic) (v w : Carried) → CarriedTyped W v 0 → CarriedTyped W w 0 → Fits (λ u. CarriedTyped W u 0) (carry-operator p (arithmetic o) v w)
+  arithmetic-fits : (p : ℕ) (o : Arithmetic) (v w : Carried) → CarriedTyped W v 0 → CarriedTyped W w 0 →
+      Fits (λ u. CarriedTyped W u 0) (carry-operator p (arithmetic o) v w)
   unfolding carry-operator
   arithmetic-fits p o v w (numbers-typed {a = a} {b = b} h) (numbers-typed {a = c} {b = d} k) =
       fits-safe (λ u. CarriedTyped W u 0) p (carry-arithmetic o a b c d) (λ u q.

@@ -60,7 +60,8 @@ pub data BindableWithin : Bindable → CarriedMeaning → Type 0 where
 
 pub data NamesWithin : Environment → CarriedNames → Type 0 where
   no-names : NamesWithin empty []
-  one-name : {x : ℕ} {b : Bindable} {E : Environment} {n : CarriedName} {N : CarriedNames} → n .name ≡ x → BindableWithin b (n .meaning) → NamesWithin E N → NamesWithin (bound x b E) (n ∷ N)
+  one-name : {x : ℕ} {b : Bindable} {E : Environment} {n : CarriedName} {N : CarriedNames} → n .name ≡ x → BindableWithin b (n .meaning) → NamesWithin E N →
+      NamesWithin (bound x b E) (n ∷ N)
 
 pub record NamedWithin (E : Environment) (x : ℕ) (m : CarriedMeaning) : Type 0 where
   pub what : Bindable
@@ -72,7 +73,8 @@ unfolding lookup carried-meaning
 lookup-within x m no-names q = missing q
 lookup-within x m (one-name {x = y} {b = b} {E = E} {n = n} {N = N} e h t) q = choose (eqb y x) (eqb (n .name) x) refl (ap (λ k. eqb k x) (sym e)) q (lookup-within x m t)
   where
-    choose : (s t : Bool) → eqb y x ≡ s → s ≡ t → cond t (some (n .meaning)) (carried-meaning x N) ≡ some m → (carried-meaning x N ≡ some m → NamedWithin E x m) → NamedWithin (bound y b E) x m
+    choose : (s t : Bool) → eqb y x ≡ s → s ≡ t → cond t (some (n .meaning)) (carried-meaning x N) ≡ some m → (carried-meaning x N ≡ some m → NamedWithin E x m) →
+        NamedWithin (bound y b E) x m
     choose true true u v p outer = record { what = b; found = rw u; within = subst (BindableWithin b) (Option·some-injective (n .meaning) m p) h }
     choose true false u v p outer = absurd (subst T v tt)
     choose false true u v p outer = absurd (subst T (sym v) tt)
@@ -92,7 +94,9 @@ named-value {E} {N} x v names q = by (carried-meaning x N) refl q
 
     by : (o : Option CarriedMeaning) → carried-meaning x N ≡ o → value-of o ≡ some v → NamedValue E x v
     by none p e = missing e
-    by (some (a-value w)) p e = let n = lookup-within x (a-value w) names p in subst (NamedValue E x) (Option·some-injective w v e) (taken (n .what) w (n .found) (n .within))
+    by (some (a-value w)) p e =
+        let n = lookup-within x (a-value w) names p in
+        subst (NamedValue E x) (Option·some-injective w v e) (taken (n .what) w (n .found) (n .within))
     by (some (a-function g)) p e = missing e
 
 pub join-within : {D E : Environment} {M N : CarriedNames} → NamesWithin D M → NamesWithin E N → NamesWithin (join D E) (M ++ N)
@@ -106,7 +110,8 @@ pub record Bound (fs : List Formal) (xs : List Value) (F : Environment) (N : Car
   pub matches : (X : List Entry) → match-formals (length xs) fs (on-stack xs X) F ≡ some (record { environment-with = environment-with; rest = X })
   pub within : NamesWithin environment-with N
 
-pub formals-within : (fs : List Formal) (xs : List Value) (vs : List Carried) (F : Environment) (N M : CarriedNames) → ValuesWithin xs vs → NamesWithin F N → carry-formals fs vs N ≡ some M → Bound fs xs F M
+pub formals-within : (fs : List Formal) (xs : List Value) (vs : List Carried) (F : Environment) (N M : CarriedNames) → ValuesWithin xs vs → NamesWithin F N →
+    carry-formals fs vs N ≡ some M → Bound fs xs F M
 unfolding carry-formals match-formals
 formals-within [] xs vs F N M no-values h q = record { environment-with = F; matches = λ X. refl; within = subst (NamesWithin F) (Option·some-injective N M q) h }
 formals-within [] xs vs F N M (one-value x ys) h q = missing q

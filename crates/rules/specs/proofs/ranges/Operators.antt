@@ -126,7 +126,9 @@ module _ (C : List Item) (X : List Entry) (E : Environment) (S : Store) (L : Lis
       record {
         given = integer (r .0);
         rule = mark-arithmetic;
-        applies = subst (λ e. Rules.Table C E S L n mark-arithmetic (mark (operator-mark (arithmetic o))) (val (integer y) ∷ val (integer x) ∷ X) (pushed e C X E S L n)) (r .1) Rules.arithmetic-at;
+        applies =
+            subst (λ e. Rules.Table C E S L n mark-arithmetic (mark (operator-mark (arithmetic o))) (val (integer y) ∷ val (integer x) ∷ X) (pushed e C X E S L n))
+            (r .1) Rules.arithmetic-at;
         within = subst (ValueWithin (integer (r .0))) (sym (ends .is-numbers)) (number-within (r .2) (r .3));
       }
 

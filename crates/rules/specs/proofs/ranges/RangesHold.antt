@@ -130,7 +130,10 @@ module _ (image : List ℕ) (ls hs : List ℤ) (ws : List ℕ) (low-ranged : All
         never : (x : Reason) × (p : ℕ) × (finish r work most (ended k τ) .reply .answer ≡ refused (Withheld x) p) → ⊥
         never q = let same = q .2 in let clash : _≡_ {A = ℕ} 0 1 = cc in omega arith
     finished work most e (withheld-for {k = k} {τ = τ} {x = x} h rule effect reached line w same) =
-        record { for-budget = λ y p q. taken y p q ∙ sym same ∙ budget-alone budget k τ h reached rule effect line (w .reason) (w .reason-holds); within = λ o q. absurd (never o q) }
+        record {
+          for-budget = λ y p q. taken y p q ∙ sym same ∙ budget-alone budget k τ h reached rule effect line (w .reason) (w .reason-holds);
+          within = λ o q. absurd (never o q);
+        }
       where
         taken : (y : Reason) (p : ℕ) → refused (Withheld x) 0 ≡ refused (Withheld y) p → y ≡ x
         taken y p q = cc
@@ -152,7 +155,8 @@ module _ (image : List ℕ) (ls hs : List ℤ) (ws : List ℕ) (low-ranged : All
     unfolding engine
     replied work = by (ltb (length work) work-words) (leb budget most-budget)
       where
-        by : (few permitted : Bool) → Replies (cond few (refusing Refusals.Work 0 zs work) (cond permitted (run-checked (check-image image) zs budget (cleared work)) (refusing Refusals.Budget 0 zs work)))
+        by : (few permitted : Bool) →
+            Replies (cond few (refusing Refusals.Work 0 zs work) (cond permitted (run-checked (check-image image) zs budget (cleared work)) (refusing Refusals.Budget 0 zs work)))
         by true permitted = refused-before Refusals.Work work (λ x q. let clash : _≡_ {A = ℕ} 0 1 = cc in omega arith)
         by false true = ran (cleared work)
         by false false = refused-before Refusals.Budget work (λ x q. let clash : _≡_ {A = ℕ} 0 1 = cc in omega arith)

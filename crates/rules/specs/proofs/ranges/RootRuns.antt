@@ -71,7 +71,8 @@ root-leads : (t : Root) (E : Environment) (S : Store) (N : CarriedNames) (K : Ca
     If (Finishes (state (root-control t) [] E S [] r)) (carry-root N K t)
 unfolding carry-root
 root-leads (Tree.expression e) E S N K r names cells =
-    after (Runs E S N K names cells e) (Finishes (state (root-control (Tree.expression e)) [] E S [] r)) (carry-expression N K e) _ (expression-runs E S N K names cells e) (λ v run.
+    after (Runs E S N K names cells e) (Finishes (state (root-control (Tree.expression e)) [] E S [] r)) (carry-expression N K e) _
+    (expression-runs E S N K names cells e) (λ v run.
     let x = run [] [] [] r in
     record { values = val (x .given) ∷ []; environment = E; store = S; locations = []; bindings = r; leads = x .leads; within = cells })
 root-leads (Tree.command c) E S N K r names cells =
@@ -88,7 +89,8 @@ root-runs r t ls zs hs w =
 -- ---- The registers of a store within the cells.
 
 -- What a cell holds, read as a register, lies between the ends that are read from what is carried of it; where none is there all are 0.
-register-between : (S : Store) (K : CarriedCells) (i : ℕ) → StoreWithin S K → (lowest-of (carried-at i K) ≤ℤ as-register (find i S)) × (as-register (find i S) ≤ℤ highest-of (carried-at i K))
+register-between : (S : Store) (K : CarriedCells) (i : ℕ) → StoreWithin S K →
+    (lowest-of (carried-at i K) ≤ℤ as-register (find i S)) × (as-register (find i S) ≤ℤ highest-of (carried-at i K))
 register-between S K i cells = by (carried-at i K) refl
   where
     value-between : (x : Value) (v : Carried) → ValueWithin x v → (lowest-of (some v) ≤ℤ as-register (some x)) × (as-register (some x) ≤ℤ highest-of (some v))

@@ -59,7 +59,8 @@ unfolding find carried-at
 find-none l no-cells q = refl
 find-none l (one-cell {s = s} {S = S} {v = w} {K = K} e h k) q = choose (eqb (s .where-at) l) (eqb (length K) l) refl (ap (λ n. eqb n l) e) q (find-none l k)
   where
-    choose : (a b : Bool) → eqb (s .where-at) l ≡ a → a ≡ b → cond b (some w) (carried-at l K) ≡ none → (carried-at l K ≡ none → find l S ≡ none) → cond (eqb (s .where-at) l) (some (s .contents)) (find l S) ≡ none
+    choose : (a b : Bool) → eqb (s .where-at) l ≡ a → a ≡ b → cond b (some w) (carried-at l K) ≡ none → (carried-at l K ≡ none → find l S ≡ none) →
+        cond (eqb (s .where-at) l) (some (s .contents)) (find l S) ≡ none
     choose true true u x p older = missing (sym p)
     choose true false u x p older = absurd (subst T x tt)
     choose false true u x p older = absurd (subst T (sym x) tt)
@@ -140,7 +141,8 @@ older-cells k v K few = ap (λ m. drop m (v ∷ K)) (one-more few)
     one-more : k ≤ length K → suc (length K) - k ≡ suc (length K - k)
     one-more h = omega (arith, h)
 
-pub remove-within : {S : Store} {K : CarriedCells} {k m : ℕ} {J : List ℕ} → MadeSince k [] m J → length K ≡ m → StoreWithin S K → StoreWithin (remove J S) (oldest-cells k K)
+pub remove-within : {S : Store} {K : CarriedCells} {k m : ℕ} {J : List ℕ} → MadeSince k [] m J → length K ≡ m → StoreWithin S K →
+    StoreWithin (remove J S) (oldest-cells k K)
 unfolding oldest-cells
 remove-within {S} {K} {k} none-made q h = rw (remove-none S, dropped-all k (length K) K q) h
 remove-within {k = k} (one-made made) q no-cells = absurd (never q)
@@ -156,7 +158,8 @@ remove-within {k = k} (one-made {m = m} {J = J} made) q (one-cell {s = s} {S = S
 
 wider-first : (x : Value) (v w u : Carried) → wider v w ≡ some u → ValueWithin x v → ValueWithin x u
 wider-first x v (numbers c d) u q (number-within {z = z} {a = a} {b = b} h k) =
-    subst (ValueWithin (integer z)) (Option·some-injective (numbers (lower a c) (higher b d)) u q) (number-within (order-trans (lower-first a c) h) (order-trans k (higher-first b d)))
+    subst (ValueWithin (integer z)) (Option·some-injective (numbers (lower a c) (higher b d)) u q)
+    (number-within (order-trans (lower-first a c) h) (order-trans k (higher-first b d)))
 wider-first x v (truths g o) u q (number-within h k) = missing q
 wider-first x v (Carried.location l) u q (number-within h k) = missing q
 wider-first x v (numbers c d) u q (truth-within h) = missing q
@@ -177,7 +180,8 @@ wider-first x v (Carried.location l) u q (location-within {l = k}) = by (eqb k l
 
 wider-second : (x : Value) (v w u : Carried) → wider v w ≡ some u → ValueWithin x w → ValueWithin x u
 wider-second x (numbers c d) w u q (number-within {z = z} {a = a} {b = b} h k) =
-    subst (ValueWithin (integer z)) (Option·some-injective (numbers (lower c a) (higher d b)) u q) (number-within (order-trans (lower-second c a) h) (order-trans k (higher-second d b)))
+    subst (ValueWithin (integer z)) (Option·some-injective (numbers (lower c a) (higher d b)) u q)
+    (number-within (order-trans (lower-second c a) h) (order-trans k (higher-second d b)))
 wider-second x (truths g o) w u q (number-within h k) = missing q
 wider-second x (Carried.location l) w u q (number-within h k) = missing q
 wider-second x (numbers c d) w u q (truth-within h) = missing q
