@@ -16,8 +16,9 @@ use Rattle.rules.specs.paper.Fire.{chosen}
 use Rattle.rules.specs.paper.Carried.{Carried, numbers, truths, Carrying, carried, unsafe, unfit, _>>=_, fitting}
 use Rattle.rules.specs.paper.Carried as Carried
 use Rattle.rules.specs.paper.Carrying.{CarriedCells, carried-at, carry-to, oldest-cells, wider-cells, CarriedMeaning, a-value, a-function, CarriedNames, carried-meaning, carry-formals, value-of, location-in, carry-expression, carry-actuals, same-sort, set-cell, carry-assign, carry-choosing, carry-call, CarriedDeclared, CarriedBound, carry-command, carry-block, carry-declaration, carry-bound}
+use Rattle.rules.specs.proofs.running.Stores.{remove-none}
 use Rattle.rules.specs.proofs.ranges.Operators.{ValueWithin, truth-within, location-within, If, after, if-fitting}
-use Rattle.rules.specs.proofs.ranges.Within.{Leads, there, one-step, leads-on, StoreWithin, one-cell, within-length, find-within, store-within, set-length, MadeSince, none-made, one-made, made-on, made-later, remove-none, remove-within, wider-length, wider-store-first, wider-store-second}
+use Rattle.rules.specs.proofs.ranges.Within.{Leads, there, one-step, leads-on, StoreWithin, one-cell, within-length, find-within, store-within, set-length, MadeSince, none-made, one-made, made-on, made-later, remove-within, wider-length, wider-store-first, wider-store-second}
 use Rattle.rules.specs.proofs.ranges.NamesWithin.{CommandRuns, RunsAnywhere, on-stack, FunctionRuns, FunctionWithin, BindableWithin, value-within, function-within, NamesWithin, no-names, one-name, lookup-within, named-value, join-within, formals-within}
 use Rattle.rules.specs.proofs.ranges.ExpressionRuns.{Runs, expression-runs, bound-to, ActualsRunAnywhere, actuals-run}
 

@@ -14,6 +14,7 @@ use Rattle.rules.specs.paper.Rules.{Rule, goes, Applies}
 use Rattle.rules.specs.paper.Carried.{Carried, numbers, truths, possible, wider, lower, higher}
 use Rattle.rules.specs.paper.Carried as Carried
 use Rattle.rules.specs.paper.Carrying.{CarriedCells, carried-at, carry-to, oldest-cells, one-cell-more, wider-cells}
+use Rattle.rules.specs.proofs.running.Stores.{in-older, remove-none}
 use Rattle.rules.specs.proofs.ranges.IntegerEnds.{order-trans, lower-first, lower-second, higher-first, higher-second}
 use Rattle.rules.specs.proofs.ranges.Operators.{ValueWithin, number-within, truth-within, location-within}
 
@@ -101,15 +102,6 @@ made-on h (one-made g) = one-made (made-on h g)
 pub made-later : {k m : ℕ} {L J : List ℕ} → MadeSince k L m J → k ≤ m
 made-later none-made = omega arith
 made-later (one-made h) = omega (arith, made-later h)
-
-pub remove-none : (S : Store) → remove [] S ≡ S
-unfolding remove in-set
-remove-none [] = refl
-remove-none (s ∷ S) = ap {B = Store} (λ r. s ∷ r) (remove-none S)
-
-in-older : (l k : ℕ) (L : List ℕ) → (eqb k l ≡ false) → in-set l (k ∷ L) ≡ in-set l L
-unfolding in-set
-in-older l k L q = rw q
 
 -- A location that no cell of the store has need not be removed.
 remove-unused : {S : Store} {K : CarriedCells} (k : ℕ) (L : List ℕ) → length K ≤ k → StoreWithin S K → remove (k ∷ L) S ≡ remove L S
