@@ -28,11 +28,12 @@ ranged-number z q = by (in-range z) refl
     by true r same = let e : z ≡ q = cc in record { same = e; fits = subst (λ x. T (in-range x)) e (passed-test r) }
     by false r same = let clash : _≡_ {A = ℕ} 0 1 = cc in absurd (omega arith)
 
-abbrev of : Arithmetic → ℤ → ℤ → ℤ
-of Sum x y = x +ℤ y
-of Sub x y = x -ℤ y
-of Mul x y = x *ℤ y
-of Div x y = quotient x y
+-- The integer that the operator comes to, before its range is tested.
+abbrev result : Arithmetic → ℤ → ℤ → ℤ
+result Sum x y = x +ℤ y
+result Sub x y = x -ℤ y
+result Mul x y = x *ℤ y
+result Div x y = quotient x y
 
 -- The divisor's range does not hold 0.
 abbrev SafeDivisor : Arithmetic → (c d y : ℤ) → Type 0
@@ -70,20 +71,20 @@ unfolding compute
 divided x c d y (above-zero m n k p q r) = rw r
 divided x c d y (below-zero m n k p q r) = rw r
 
-computes : (o : Arithmetic) (x c d y : ℤ) → SafeDivisor o c d y → compute o x y ≡ ranged (of o x y)
+computes : (o : Arithmetic) (x c d y : ℤ) → SafeDivisor o c d y → compute o x y ≡ ranged (result o x y)
 unfolding compute
 computes Sum x c d y s = refl
 computes Sub x c d y s = refl
 computes Mul x c d y s = refl
 computes Div x c d y s = divided x c d y s
 
-in-first : (o : Arithmetic) (a b x c d y : ℤ) → SafeDivisor o c d y → a ≤ℤ x → x ≤ℤ b → Amid (of o a y) (of o b y) (of o x y)
+in-first : (o : Arithmetic) (a b x c d y : ℤ) → SafeDivisor o c d y → a ≤ℤ x → x ≤ℤ b → Amid (result o a y) (result o b y) (result o x y)
 in-first Sum a b x c d y s h k = sum-in-first a b x y h k
 in-first Sub a b x c d y s h k = sum-in-first a b x (negℤ y) h k
 in-first Mul a b x c d y s h k = product-in-first a b x y h k
 in-first Div a b x c d y s h k = quotient-in-first a b x y (nonzero c d y s) h k
 
-in-second : (o : Arithmetic) (x c d y : ℤ) → SafeDivisor o c d y → c ≤ℤ y → y ≤ℤ d → Amid (of o x c) (of o x d) (of o x y)
+in-second : (o : Arithmetic) (x c d y : ℤ) → SafeDivisor o c d y → c ≤ℤ y → y ≤ℤ d → Amid (result o x c) (result o x d) (result o x y)
 in-second Sum x c d y s h k = sum-in-second x c d y h k
 in-second Sub x c d y s h k = difference-in-second x c d y h k
 in-second Mul x c d y s h k = product-in-second x c d y h k
@@ -196,28 +197,28 @@ module _ (o : Arithmetic) (a b c d : ℤ) (v : Carried) (safe : divisor-may-be-z
     here : SafeDivisor o c d y
     here = safe-divisor o c d y safe h₃ h₄
 
-    at-corner : (p q r : ℤ) → SafeDivisor o c d q → compute o p q ≡ number r → Ranged (of o p q) r
-    at-corner p q r s e = ranged-number (of o p q) r (sym (computes o p c d q s) ∙ e)
+    at-corner : (p q r : ℤ) → SafeDivisor o c d q → compute o p q ≡ number r → Ranged (result o p q) r
+    at-corner p q r s e = ranged-number (result o p q) r (sym (computes o p c d q s) ∙ e)
 
-    is-w : Ranged (of o a c) (k .w)
+    is-w : Ranged (result o a c) (k .w)
     is-w = at-corner a c (k .w) (safe-low o c d y here) (k .at-w)
 
-    is-x : Ranged (of o a d) (k .x)
+    is-x : Ranged (result o a d) (k .x)
     is-x = at-corner a d (k .x) (safe-high o c d y here) (k .at-x)
 
-    is-y : Ranged (of o b c) (k .y)
+    is-y : Ranged (result o b c) (k .y)
     is-y = at-corner b c (k .y) (safe-low o c d y here) (k .at-y)
 
-    is-z : Ranged (of o b d) (k .z)
+    is-z : Ranged (result o b d) (k .z)
     is-z = at-corner b d (k .z) (safe-high o c d y here) (k .at-z)
 
-    from-least : least ≤ℤ of o x y
+    from-least : least ≤ℤ result o x y
     from-least =
         amid-from (in-first o a b x c d y here h₁ h₂)
         (amid-from (in-second o a c d y here h₃ h₄) (rw (is-w .same) least-w) (rw (is-x .same) least-x))
         (amid-from (in-second o b c d y here h₃ h₄) (rw (is-y .same) least-y) (rw (is-z .same) least-z))
 
-    to-greatest : of o x y ≤ℤ greatest
+    to-greatest : result o x y ≤ℤ greatest
     to-greatest =
         amid-to (in-first o a b x c d y here h₁ h₂)
         (amid-to (in-second o a c d y here h₃ h₄) (rw (is-w .same) greatest-w) (rw (is-x .same) greatest-x))
@@ -240,8 +241,9 @@ module _ (o : Arithmetic) (a b c d : ℤ) (v : Carried) (safe : divisor-may-be-z
 
     in-ends : (z : ℤ) × (compute o x y ≡ number z) × (least ≤ℤ z) × (z ≤ℤ greatest)
     in-ends =
-        let fits = in-range-between least (of o x y) greatest from-least to-greatest least-fits greatest-fits in
-        (of o x y, computes o x c d y here ∙ ap (λ t. cond t (number (of o x y)) (failed OutOfRange)) (true-test (in-range (of o x y)) fits), from-least, to-greatest)
+        let fits = in-range-between least (result o x y) greatest from-least to-greatest least-fits greatest-fits in
+        let is-number = ap (λ t. cond t (number (result o x y)) (failed OutOfRange)) (true-test (in-range (result o x y)) fits) in
+        (result o x y, computes o x c d y here ∙ is-number, from-least, to-greatest)
 
   ends-carried : CarriedEnds o a b c d v
   unfolding least greatest

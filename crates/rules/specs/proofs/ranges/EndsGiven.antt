@@ -45,8 +45,8 @@ met : (t : Bool) (body refusal : RangesCalled) → (GivesEnds (refusal .answer) 
 met true body refusal never h = (refl, refl)
 met false body refusal never h = absurd (never h)
 
-on-with : {x y : RangesCalled} → x ≡ y → GivesEnds (x .answer) → GivesEnds (y .answer)
-on-with q h = subst (λ c. GivesEnds (c .answer)) q h
+along : {x y : RangesCalled} → x ≡ y → GivesEnds (x .answer) → GivesEnds (y .answer)
+along q h = subst (λ c. GivesEnds (c .answer)) q h
 
 -- ---- The room figures.
 
@@ -92,15 +92,15 @@ module _ (r : ℕ) (t : Root) (ls hs : List ℤ) (ws : List ℕ) where
   unfolding ranges-of
   of-passed image a passes h =
       let counts = met (eqb (length ls) r && eqb (length hs) r) _ (no-ranges Refusals.Registers 0 ls hs ws) (λ x. x) h in
-      let h₁ = on-with (counts .1) h in
+      let h₁ = along (counts .1) h in
       let ordered = past (limits-cross ls hs) (no-ranges Refusals.CrossedLimits 0 ls hs ws) _ (λ x. x) h₁ in
-      let h₂ = on-with (ordered .1) h₁ in
+      let h₂ = along (ordered .1) h₁ in
       let straight = past (has-loop t) (no-ranges Refusals.HasLoop 0 ls hs ws) _ (λ x. x) h₂ in
-      let h₃ = on-with (straight .1) h₂ in
+      let h₃ = along (straight .1) h₂ in
       let counted = past (ltb most-steps (routine-need r t .all-steps)) (no-ranges Refusals.TooManySteps 0 ls hs ws) _ (λ x. x) h₃ in
-      let h₄ = on-with (counted .1) h₃ in
+      let h₄ = along (counted .1) h₃ in
       let room = roomy (room-refusal (routine-need r t .most)) (carried-ranges r (carry-routine r t ls hs) ls hs ws) ls hs ws h₄ in
-      let h₅ = on-with (room .1) h₄ in
+      let h₅ = along (room .1) h₄ in
       let many = passed-test (counts .0) in
       let low : length ls ≡ r = eqb-true (length ls) r (true-test _ (and-left (eqb (length ls) r) (eqb (length hs) r) many)) in
       let high : length hs ≡ r = eqb-true (length hs) r (true-test _ (and-right (eqb (length ls) r) (eqb (length hs) r) many)) in
@@ -129,7 +129,7 @@ ends-of image ls hs ws q r t a passes =
     let h = subst GivesEnds (sym q) tt in
     let lent = past (ltb (length ws) work-words) (no-ranges Refusals.Work 0 ls hs ws) (ranges-checked (check-image image) ls hs (cleared ws)) (λ x. x) h in
     let same : ranges image ls hs ws ≡ ranges-of r t ls hs (cleared ws) = lent .1 ∙ ap (λ c. ranges-checked c ls hs (cleared ws)) passes in
-    subst (EndsOf r t ls hs) (sym same) (of-passed r t ls hs (cleared ws) image a passes (on-with same h))
+    subst (EndsOf r t ls hs) (sym same) (of-passed r t ls hs (cleared ws) image a passes (along same h))
 
 -- The image was passed.
 pub record ImagePassed (image : List ℕ) : Type 0 where
@@ -143,7 +143,7 @@ unfolding ranges
 image-passed image ls hs ws q =
     let h = subst GivesEnds (sym q) tt in
     let lent = past (ltb (length ws) work-words) (no-ranges Refusals.Work 0 ls hs ws) (ranges-checked (check-image image) ls hs (cleared ws)) (λ x. x) h in
-    by (check-image image) refl (on-with (lent .1) h)
+    by (check-image image) refl (along (lent .1) h)
   where
     by : (c : Checked) → check-image image ≡ c → GivesEnds (ranges-checked c ls hs (cleared ws) .answer) → ImagePassed image
     by (turned-back x p) e h = absurd h

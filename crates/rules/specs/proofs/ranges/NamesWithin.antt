@@ -105,13 +105,13 @@ join-within no-names h = h
 join-within (one-name q b D) h = one-name q b (join-within D h)
 
 -- The Formals take the actuals.
-pub record Bound (fs : List Formal) (xs : List Value) (F : Environment) (N : CarriedNames) : Type 0 where
+pub record FormalsBound (fs : List Formal) (xs : List Value) (F : Environment) (N : CarriedNames) : Type 0 where
   pub environment-with : Environment
   pub matches : (X : List Entry) → match-formals (length xs) fs (on-stack xs X) F ≡ some (record { environment-with = environment-with; rest = X })
   pub within : NamesWithin environment-with N
 
 pub formals-within : (fs : List Formal) (xs : List Value) (vs : List Carried) (F : Environment) (N M : CarriedNames) → ValuesWithin xs vs → NamesWithin F N →
-    carry-formals fs vs N ≡ some M → Bound fs xs F M
+    carry-formals fs vs N ≡ some M → FormalsBound fs xs F M
 unfolding carry-formals match-formals
 formals-within [] xs vs F N M no-values h q = record { environment-with = F; matches = λ X. refl; within = subst (NamesWithin F) (Option·some-injective N M q) h }
 formals-within [] xs vs F N M (one-value x ys) h q = missing q

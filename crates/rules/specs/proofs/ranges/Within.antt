@@ -1,5 +1,5 @@
--- What is carried of the cells and names stands for a store and an environment of the automaton; and reading, setting, making and removing cells,
--- and widening them, keep that.
+-- Where the automaton leads from a state; and stores within the carried cells: what reading, setting, making and removing cells, and widening them,
+-- does to them.
 use Prim.Native.Nat.{ℕ, suc, _-_, _≤_}
 use mathlib.Core.Path.{_≡_, refl, sym, ap, _∙_, subst}
 use mathlib.Core.Bool.{Bool, true, false, cond, _||_}
