@@ -21,3 +21,4 @@ pub mod Cases
 pub mod Choices
 pub mod Quotients
 pub mod Prices
+pub mod Spans

@@ -5,3 +5,4 @@ pub mod reading
 pub mod checking
 pub mod running
 pub mod needs
+pub mod ranges

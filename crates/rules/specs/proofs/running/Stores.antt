@@ -75,7 +75,7 @@ pub data Grown (U : World) : World → List ℕ → Type 0 where
   grown : {W : World} {L : List ℕ} {c : ℕ} → Grown U W L → Grown U (c ∷ W) (length W ∷ L)
 
 -- A cell that the location set names beside one that is not live.
-in-older : (l k : ℕ) (L : List ℕ) → (eqb k l ≡ false) → in-set l (k ∷ L) ≡ in-set l L
+pub in-older : (l k : ℕ) (L : List ℕ) → (eqb k l ≡ false) → in-set l (k ∷ L) ≡ in-set l L
 unfolding in-set
 in-older l k L q = rw q
 
@@ -92,7 +92,7 @@ remove-unused k L h (one-cell {s = s} {S = S} {W = W} e v g) =
     shorter : suc (length W) ≤ k → length W ≤ k
     shorter r = omega arith
 
-remove-none : (S : Store) → remove [] S ≡ S
+pub remove-none : (S : Store) → remove [] S ≡ S
 unfolding remove in-set
 remove-none [] = refl
 remove-none (s ∷ S) = ap {B = Store} (λ r. s ∷ r) (remove-none S)
