@@ -2,3 +2,16 @@ pub mod FrameLaws
 pub mod StateLaws
 pub mod CopyLaws
 pub mod LookupLaws
+pub mod LeafLaws
+pub mod ReachLaws
+pub mod ExpressionLaws
+pub mod DeclarationLaws
+pub mod DeclarationSequences
+pub mod ActualLaws
+pub mod CallLaws
+pub mod AssignLaws
+pub mod OutcomeLaws
+pub mod CommandLaws
+pub mod BranchLaws
+pub mod TestLaws
+pub mod BothLaws

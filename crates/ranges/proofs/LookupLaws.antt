@@ -17,11 +17,11 @@ use Rattle.ranges.specs.Layout.{row-links, pointer-unit}
 use Rattle.ranges.specs.States.{RowAt, needing, NamesAt, no-names, one-value, one-function, SomeNames, FoundRow, FoundAt}
 use Rattle.ranges.proofs.StateLaws.{names-later, row-is-pointer, row-is-name}
 
-abbrev meaning-as : ℕ → CarriedMeaning → CarriedName
+abbrev pub meaning-as : ℕ → CarriedMeaning → CarriedName
 meaning-as x m = record { name = x; meaning = m }
 
 -- The row that a pointer other than 0 points at.
-record Pointed (words : List ℕ) (limit at : ℕ) (A : CarriedNames) (N : Needs) : Type 0 where
+pub record Pointed (words : List ℕ) (limit at : ℕ) (A : CarriedNames) (N : Needs) : Type 0 where
   row : ℕ
   name : ℕ
   below : ℕ
@@ -78,7 +78,7 @@ pointed (one-function {k = k} {x = x} {l = l} {q = q} {r = r} row p tree end old
     }
 
 -- So far the name was not met.
-record WalkedTo (words : List ℕ) (limit x at : ℕ) (A : CarriedNames) (N : Needs) : Type 0 where
+pub record WalkedTo (words : List ℕ) (limit x at : ℕ) (A : CarriedNames) (N : Needs) : Type 0 where
   from-here : CarriedNames
   needs-here : Needs
   limit-here : ℕ

@@ -3,12 +3,13 @@
 use Prim.Native.Nat.{ℕ, suc, _+_, _≤_}
 use mathlib.Core.Path.{_≡_}
 use mathlib.Core.List.{List, [], _∷_, _++_}
+use mathlib.Core.Option.{some}
 use lib.ListN.{length}
 use Rattle.rules.specs.paper.Limits.{most-bindings, most-cells}
 use Rattle.rules.specs.paper.Tree.{Expression, Num, Boo, Id, DeRef, ValRef, Binary, Not, Formal, Command, Assign, Call, Cond, block, Block, Declaration, Bind, Bound}
-use Rattle.rules.specs.paper.Needs.{Need, Needs, cells-left, bindings-left, command-need, block-need, declaration-need, names-given}
+use Rattle.rules.specs.paper.Needs.{Needs, cells-left, bindings-left, over-formals, command-need, block-need, declaration-need, names-given}
 use Rattle.rules.specs.paper.Carried.{Carried, truths, Carrying, carried, unsafe, unfit}
-use Rattle.rules.specs.paper.Carrying.{CarriedCells, CarriedNames, CarriedDeclared, carried-meaning, value-of, location-in, carry-expression, carry-actuals, carry-assign, carry-command, carry-block, carry-declaration}
+use Rattle.rules.specs.paper.Carrying.{CarriedCells, CarriedNames, CarriedDeclared, carried-meaning, value-of, location-in, carry-formals, carry-expression, carry-actuals, carry-assign, carry-command, carry-block, carry-declaration}
 use mathlib.Core.Bool.{true}
 use Rattle.reader.specs.KindNumbers.{assign-number, conditional-number}
 use Rattle.reader.specs.Stored.{StoredExpression, StoredActuals, StoredFormals, StoredCommand, StoredBlock, StoredDeclaration}
@@ -91,40 +92,53 @@ abbrev pub DeclarationCarried : (words words′ : List ℕ) → Held → (node :
 DeclarationCarried words words′ held node r =
     (next : ℕ) (c : Declaration) (A : CarriedNames) (N : Needs) (K : CarriedCells) → DeclarationThere words held node next c A N K → DeclaredAs words′ next held c A N (carry-declaration A K c) r
 
--- ---- A Call's actuals.
+-- ---- A Call's actuals, and its function's Formals.
 
--- The Formals in their rows, one on the other, each with its value.
-pub data FormalsAt (words : List ℕ) : (row below : ℕ) → List Formal → List Carried → Type 0 where
-  no-formals : {k l : ℕ} → FormalsAt words k l [] []
-  one-formal : {k l : ℕ} {r : Value} {f : Formal} {v : Carried} {fs : List Formal} {vs : List Carried} → RowAt words k (f .name) l r → HoldsValue r v →
-      FormalsAt words (suc k) (suc k) fs vs → FormalsAt words k l (f ∷ fs) (v ∷ vs)
+-- Values in rows, one after the other. Which names the rows have is not yet known.
+pub data ValuesAt (words : List ℕ) : (row : ℕ) → List Carried → Type 0 where
+  no-values : {k : ℕ} → ValuesAt words k []
+  one-value-more : {k x l : ℕ} {r : Value} {v : Carried} {vs : List Carried} → RowAt words k x l r → HoldsValue r v → ValuesAt words (suc k) vs → ValuesAt words k (v ∷ vs)
 
-pub record ActualsThere (words : List ℕ) (environment node left formal row below : ℕ) (es : List Expression) (fs : List Formal) (A : CarriedNames) (K : CarriedCells) : Type 0 where
+pub record ActualsThere (words : List ℕ) (environment node left row : ℕ) (es : List Expression) (A : CarriedNames) (K : CarriedCells) : Type 0 where
   pub depth : ℕ
   pub next : ℕ
-  pub formals-next : ℕ
   pub tree : StoredActuals words depth node next es
-  pub formals : StoredFormals words formal formals-next fs
   pub as-many : length es ≡ left
-  pub formals-many : length fs ≡ left
   pub sees : Sees words environment A K
   pub pointed : environment ≤ row
   pub row-room : row + left ≤ most-bindings
+
+abbrev pub SomeActuals : List ℕ → (environment node left row : ℕ) → Type 0
+SomeActuals words environment node left row =
+    (es : List Expression) × (A : CarriedNames) × (K : CarriedCells) × ActualsThere words environment node left row es A K × Fits (carry-actuals A K es)
+
+abbrev pub ActualsAs : List ℕ → (left row : ℕ) → Carrying (List Carried) → Outcome → Type 0
+ActualsAs words left row (carried vs) r = (r ≡ Through) × (length vs ≡ left) × ValuesAt words row vs
+ActualsAs words left row (unsafe p) r = r ≡ Unsafe p
+ActualsAs words left row unfit r = Unit {0}
+
+abbrev pub ActualsCarried : (words words′ : List ℕ) → (environment node left row : ℕ) → Outcome → Type 0
+ActualsCarried words words′ environment node left row r =
+    (es : List Expression) (A : CarriedNames) (K : CarriedCells) → ActualsThere words environment node left row es A K → ActualsAs words′ left row (carry-actuals A K es) r
+
+-- The Formals at a node, as many as the values in the rows.
+pub record FormalsThere (words : List ℕ) (formal left row below : ℕ) (fs : List Formal) (vs : List Carried) : Type 0 where
+  pub next : ℕ
+  pub tree : StoredFormals words formal next fs
+  pub as-many : length fs ≡ left
+  pub values-many : length vs ≡ left
+  pub values : ValuesAt words row vs
+  pub row-room : row + left ≤ most-bindings
   pub below-older : below ≤ row
 
-abbrev pub SomeActuals : List ℕ → (environment node left formal row below : ℕ) → Type 0
-SomeActuals words environment node left formal row below =
-    (es : List Expression) × (fs : List Formal) × (A : CarriedNames) × (K : CarriedCells) × ActualsThere words environment node left formal row below es fs A K × Fits (carry-actuals A K es)
+abbrev pub SomeFormals : List ℕ → (formal left row below : ℕ) → Type 0
+SomeFormals words formal left row below = (fs : List Formal) × (vs : List Carried) × FormalsThere words formal left row below fs vs
 
-abbrev pub ActualsAs : List ℕ → (row below : ℕ) → List Formal → Carrying (List Carried) → Outcome → Type 0
-ActualsAs words row below fs (carried vs) r = (r ≡ Through) × FormalsAt words row below fs vs
-ActualsAs words row below fs (unsafe p) r = r ≡ Unsafe p
-ActualsAs words row below fs unfit r = Unit {0}
-
-abbrev pub ActualsCarried : (words words′ : List ℕ) → (environment node left formal row below : ℕ) → Outcome → Type 0
-ActualsCarried words words′ environment node left formal row below r =
-    (es : List Expression) (fs : List Formal) (A : CarriedNames) (K : CarriedCells) → ActualsThere words environment node left formal row below es fs A K →
-    ActualsAs words′ row below fs (carry-actuals A K es) r
+-- The pointer of the newest, on the names that are below.
+abbrev pub FormalsNamed : (words words′ : List ℕ) → (formal left row below : ℕ) → ℕ → Type 0
+FormalsNamed words words′ formal left row below r =
+    (fs : List Formal) (vs : List Carried) (limit : ℕ) (A F : CarriedNames) (N : Needs) → FormalsThere words formal left row below fs vs → NamesAt words limit below A N →
+    carry-formals fs vs A ≡ some F → NamesAt words′ limit r F (over-formals fs N)
 
 -- ---- Commands.
 

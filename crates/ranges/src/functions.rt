@@ -1,10 +1,10 @@
 // A Call up to its function's Blk: the Formals bound to the actuals, on the names that the function was bound among.
-ghost use Prim.Native.Nat.{_≤_};
+ghost use Prim.Native.Nat.{_+_, _≤_};
 ghost use lib.ListN.{length};
 ghost use Rattle.rules.specs.paper.Limits.{most-cells};
 ghost use Rattle.ranges.specs.Layout.{regions-end};
 ghost use Rattle.ranges.specs.Frames.{Keeps, KeepsCells};
-ghost use Rattle.ranges.specs.Answers.{SomeActuals, SomeCall, ActualsCarried, CallCarried};
+ghost use Rattle.ranges.specs.Answers.{SomeActuals, SomeFormals, SomeCall, ActualsCarried, FormalsNamed, CallCarried};
 use crate::Held;
 use crate::Outcome;
 use crate::expressions::expression;
@@ -23,19 +23,11 @@ pub(crate) enum Entered {
     Unsafe(usize),
 }
 
-// So many actuals from a node on, last to first, each in the row of its Formal; the first row stands on the one at the pointer below.
-fn actuals(
-    work: &mut [u64],
-    environment: usize,
-    node: usize,
-    left: usize,
-    formal: usize,
-    row: usize,
-    below: usize,
-) -> Outcome
+// So many actuals from a node on, last to first, each in its row. The rows get their names when the function is known.
+fn actuals(work: &mut [u64], environment: usize, node: usize, left: usize, row: usize) -> Outcome
     requires { ⌜ regions-end ≤ length (now work) ⌝ }
-    requires { ⌜ SomeActuals (now work) environment node left formal row below ⌝ }
-    ensures { λ r. ⌜ ActualsCarried (now (work .entry)) (now (work .exit)) environment node left formal row below r ⌝ }
+    requires { ⌜ SomeActuals (now work) environment node left row ⌝ }
+    ensures { λ r. ⌜ ActualsCarried (now (work .entry)) (now (work .exit)) environment node left row r ⌝ }
     ensures { λ r. ⌜ Keeps (now (work .entry)) (now (work .exit)) row most-cells ⌝ }
     ensures { λ r. ⌜ KeepsCells (now (work .entry)) (now (work .exit)) most-cells ⌝ }
 {
@@ -43,19 +35,37 @@ fn actuals(
         return Outcome::Through;
     }
     let next = end(work, node);
-    let later = actuals(work, environment, next, left - 1, formal + 1, row + 1, row + 1);
+    let later = actuals(work, environment, next, left - 1, row + 1);
     let Outcome::Through = later else {
         return later;
     };
     let given = expression(work, environment, node);
     match given {
         Expressed::Is(value) => {
-            let word = operand(work, formal);
-            put_row(work, row, word % NAMES, below, value);
+            put_row(work, row, 0, 0, value);
             Outcome::Through
         }
         Expressed::Unsafe(place) => Outcome::Unsafe(place),
     }
+}
+
+// So many Formals from a node on, each the name of its actual's row; the first row stands on the one at the pointer below. The answer is the pointer of
+// the newest.
+fn formals(work: &mut [u64], formal: usize, left: usize, row: usize, below: usize) -> usize
+    requires { ⌜ regions-end ≤ length (now work) ⌝ }
+    requires { ⌜ SomeFormals (now work) formal left row below ⌝ }
+    ensures { λ r. ⌜ FormalsNamed (now (work .entry)) (now (work .exit)) formal left row below r ⌝ }
+    ensures { λ r. ⌜ r ≤ row + left ⌝ }
+    ensures { λ r. ⌜ Keeps (now (work .entry)) (now (work .exit)) row most-cells ⌝ }
+    ensures { λ r. ⌜ KeepsCells (now (work .entry)) (now (work .exit)) most-cells ⌝ }
+{
+    if left == 0 {
+        return below;
+    }
+    let value = row_value(work, row + 1);
+    let word = operand(work, formal);
+    put_row(work, row, word % NAMES, below, value);
+    formals(work, formal + 1, left - 1, row + 1, row + 1)
 }
 
 // The Call at a node.
@@ -68,17 +78,14 @@ pub(crate) fn enter(work: &mut [u64], held: Held, node: usize) -> Entered
 {
     let word = operand(work, node);
     let count = word / NAMES;
-    let function = find(work, held.environment, word % NAMES);
-    let place = row_value(work, function).low as usize;
-    let below = row_below(work, function);
     let row = held.bindings;
-    let given = actuals(work, held.environment, node + 1, count, place + 1, row, below);
+    let given = actuals(work, held.environment, node + 1, count, row);
     match given {
         Outcome::Through => {
-            let mut environment = below;
-            if count != 0 {
-                environment = row + count;
-            }
+            let function = find(work, held.environment, word % NAMES);
+            let place = row_value(work, function).low as usize;
+            let below = row_below(work, function);
+            let environment = formals(work, place + 1, count, row, below);
             Entered::Function(
                 Held {
                     environment,

@@ -20,6 +20,7 @@ pub(crate) fn find(work: &[u64], environment: usize, name: usize) -> usize
     requires { ⌜ regions-end ≤ length (now work) ⌝ }
     requires { ⌜ SomeNames (now work) environment ⌝ }
     ensures { λ r. ⌜ FoundAt (now (work .entry)) environment name r ⌝ }
+    ensures { λ r. ⌜ r ≤ environment ⌝ }
 {
     let mut at = environment;
     while at != 0 {

@@ -41,7 +41,7 @@ shared-slice-read-t17 : tie.Need-shared-slice-read-t17 Inv-loop μ-loop
 shared-slice-read-t17 c = omega (arith, c .before .before .before .before .loop-test .taken, c .before .before .before .before .before .before .before .before .pre .1 .0, c .before .before .before .before .before .before .before .before .pre .0, c .before .before .before .before .before .before .before .before .pre .1 .1, c .before .before .before .before .before .loop .inv .so-far .keeps .same-length)
 
 wider-requires : tie.Need-wider-requires Inv-loop μ-loop
-wider-requires c κs = ?
+wider-requires c κs = tt
 
 set-cell-requires : tie.Need-set-cell-requires Inv-loop μ-loop
 set-cell-requires c κs =
