@@ -1,7 +1,7 @@
 -- Numbers by their ends: the lower and the higher of two integers in words, a test of two ends by two orders, one number twice, and what a value that
 -- holds numbers says of its words.
 use Prim.Native.Nat.{ℕ, _<_, _^_}
-use mathlib.Core.Path.{_≡_, refl, sym, ap, _∙_}
+use mathlib.Core.Path.{_≡_, sym, ap, _∙_}
 use mathlib.Core.Bool.{Bool, true, false, cond, not, _&&_}
 use native.Mathlib.Omega.{arith}
 use lib.Dec.{T, eqb}

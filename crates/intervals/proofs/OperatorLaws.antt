@@ -1,8 +1,8 @@
 -- The operators, Eq, Not and the wider of two values: what each comes to by the sorts of what it is given.
 use Prim.Native.Nat.{ℕ, _<_, _≤_}
-use mathlib.Core.Path.{_≡_, refl, sym, ap, _∙_}
+use mathlib.Core.Path.{_≡_, refl}
 use mathlib.Core.Bool.{Bool, true, false, cond, not, _&&_, _||_}
-use mathlib.Core.Option.{Option, none, some}
+use mathlib.Core.Option.{none, some}
 use native.Mathlib.Omega.{arith}
 use lib.Dec.{eqb}
 use lib.IntN.{ℤ}
@@ -11,7 +11,7 @@ use Rattle.rules.specs.paper.Kinds.{operator-number}
 use Rattle.rules.specs.paper.Tree.{Arithmetic, Sum, Sub, Mul, Div, Order, Lt, Le, Gt, Ge, Logic, And, Or, Operator, arithmetic, Eq, order, logic}
 use Rattle.rules.specs.paper.Integers.{equal-integers, equal-truths, combine}
 use Rattle.rules.specs.paper.Carried.{Carried, numbers, truths, location, lower, higher, safe, carry-arithmetic, carry-order, carry-equal, carry-choice, carry-not, carry-both-equal, carry-operator, carry-negation, wider}
-use Rattle.integers.specs.Words.{integer-of, word-of}
+use Rattle.integers.specs.Words.{integer-of}
 use Rattle.intervals.specs.declared.values.Value.{Value}
 use Rattle.intervals.specs.declared.values.Expressed.{Expressed}
 use Rattle.intervals.specs.declared.values.Expressed.the-variants.{Is}

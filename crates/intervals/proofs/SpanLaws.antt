@@ -155,9 +155,10 @@ Spanned (some (truths f t)) = ⊥
 Spanned (some (location l)) = ⊥
 
 results-spanned : (p q r s : Result) → Ranged p → Ranged q → Ranged r → Ranged s → Spanned (over-results p q r s)
-results-spanned (number w) (number x) (number y) (number z) f g h k =
-    (lower-in-range (lower w x) (lower y z) (lower-in-range w x (f w refl) (g x refl)) (lower-in-range y z (h y refl) (k z refl)),
-    higher-in-range (higher w x) (higher y z) (higher-in-range w x (f w refl) (g x refl)) (higher-in-range y z (h y refl) (k z refl)))
+results-spanned (number w) (number x) (number y) (number z) f g h k = (
+  lower-in-range (lower w x) (lower y z) (lower-in-range w x (f w refl) (g x refl)) (lower-in-range y z (h y refl) (k z refl)),
+  higher-in-range (higher w x) (higher y z) (higher-in-range w x (f w refl) (g x refl)) (higher-in-range y z (h y refl) (k z refl)),
+)
 results-spanned (number w) (number x) (number y) (failed z) f g h k = tt
 results-spanned (number w) (number x) (failed y) s f g h k = tt
 results-spanned (number w) (failed x) r s f g h k = tt
