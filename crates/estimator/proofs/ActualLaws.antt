@@ -20,7 +20,7 @@ use Rattle.estimator.proofs.FigureLaws.{same-need, over-of, turn-of, la
 -- ---- None, and one with those after it.
 
 module _ (words : List ℕ) (node count : ℕ) where
-  pub no-actual : count ≡ 0 → (r : Need) → r ≡ numbers 0 0 0 0 0 → ActualsNeed words node count r
+  pub no-actual : count ≡ 0 → (r : Need) → r ≡ numbers 0 0 0 0 0 0 → ActualsNeed words node count r
   unfolding actuals-need
   no-actual z r q d j es no-actuals n = q
   no-actual z r q d j es (one-actual h g) n = absurd (omega (arith, z, n))
@@ -63,9 +63,10 @@ pub record NeededSoFar (words : List ℕ) (node count at left : ℕ) (so-far : N
   pub fewer : left ≤ count
   pub above : count - left ≤ so-far .control
   pub within : so-far .steps ≤ suc most-steps
+  pub all-within : so-far .«all_steps» ≤ suc most-steps
   pub whole : (r : Need) → ActualsNeed words at left r → ActualsNeed words node count (both-in-turn so-far (raised r (count - left) 0 0 0))
 
-pub none-needed : (words : List ℕ) (node count : ℕ) (so-far : Need) → so-far ≡ numbers 0 0 0 0 0 → SomeActuals words node count → NeededSoFar words node count node count so-far
+pub none-needed : (words : List ℕ) (node count : ℕ) (so-far : Need) → so-far ≡ numbers 0 0 0 0 0 0 → SomeActuals words node count → NeededSoFar words node count node count so-far
 none-needed words node count so-far q s =
     subst (NeededSoFar words node count node count) (sym q)
     (record {
@@ -73,10 +74,11 @@ none-needed words node count so-far q s =
       fewer = omega arith;
       above = omega arith;
       within = omega arith;
+      all-within = omega arith;
       whole =
           λ r all d j es stored n.
-          ap (λ m. both-in-turn (numbers 0 0 0 0 0) (raised m (count - count) 0 0 0)) (all d j es stored n)
-          ∙ same-need (omega arith) (omega arith) (omega arith) (omega arith) (omega arith);
+          ap (λ m. both-in-turn (numbers 0 0 0 0 0 0) (raised m (count - count) 0 0 0)) (all d j es stored n)
+          ∙ same-need (omega arith) (omega arith) (omega arith) (omega arith) (omega arith) (omega arith);
     })
 
 -- One size of both, raised, beside what is so far.
@@ -105,6 +107,7 @@ one-more-needed words node count at left so-far one raised-one now-so-far next f
       fewer = omega (arith, known .fewer);
       above = raised-above (count - left) (count - (left - 1)) (one .control) (so-far .control) one-fewer (omega (arith, few)) control-of-one;
       within = omega arith;
+      all-within = omega arith;
       whole =
           λ r later.
           subst (ActualsNeed words node count) (moved r (count - left) (left - 1) (count - (left - 1)) one-fewer)
@@ -130,10 +133,10 @@ one-more-needed words node count at left so-far one raised-one now-so-far next f
     moved r k l m h =
         same-need (moved-size (so-far .control) (r .control) (one .control) 1 0 k k m (omega arith) (omega (arith, h))) (moved-size (so-far .values) (r .values) (one .values) 0 l 0 l 0 (omega arith) refl)
         (moved-size (so-far .cells) (r .cells) (one .cells) 0 0 0 0 0 refl refl)
-        (moved-size (so-far .bindings) (r .bindings) (one .bindings) 0 0 0 0 0 refl refl) (omega arith)
+        (moved-size (so-far .bindings) (r .bindings) (one .bindings) 0 0 0 0 0 refl refl) (omega arith) (omega arith)
 
 -- None is left: what they came to is what all of them come to.
 pub all-needed : (words : List ℕ) (node count at left : ℕ) (so-far : Need) → NeededSoFar words node count at left so-far → left ≡ 0 → ActualsNeed words node count so-far
 all-needed words node count at left so-far known none-left =
-    subst (ActualsNeed words node count) (same-need (omega (arith, known .above)) (omega arith) (omega arith) (omega arith) (omega (arith, known .within)))
-    (known .whole (numbers 0 0 0 0 0) (no-actual words at left none-left (numbers 0 0 0 0 0) refl))
+    subst (ActualsNeed words node count) (same-need (omega (arith, known .above)) (omega arith) (omega arith) (omega arith) (omega (arith, known .within)) (omega (arith, known .all-within)))
+    (known .whole (numbers 0 0 0 0 0 0) (no-actual words at left none-left (numbers 0 0 0 0 0 0) refl))

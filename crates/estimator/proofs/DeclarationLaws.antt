@@ -210,7 +210,7 @@ module _ (words : List ℕ) (node which : ℕ) (known : which ≡ packed-kind (g
               })))
 
       -- A Ref or an expression.
-      module _ (words₁ : List ℕ) (scope name : ℕ) (none : Need) (low : scope ≤ node) (no-need : none ≡ numbers 0 0 0 0 0) (named : name ≡ packed-operand (getD words node 0))
+      module _ (words₁ : List ℕ) (scope name : ℕ) (none : Need) (low : scope ≤ node) (no-need : none ≡ numbers 0 0 0 0 0 0) (named : name ≡ packed-operand (getD words node 0))
           (written : KeptEntry words words₁ node name scope none) where
         kept-none : WritesEntriesFrom words words (node + 1)
         kept-none = entries-same words (node + 1)

@@ -66,7 +66,7 @@ entry-kept words node name link n long low named linked =
 
 -- Every number of the figures is below the room that it has.
 pub figures-small : (n : Rules.Need) → SmallFigures (figures n)
-figures-small n = record { control-small = omega arith; values-small = omega arith; cells-small = omega arith; bindings-small = omega arith; steps-small = omega arith }
+figures-small n = record { control-small = omega arith; values-small = omega arith; cells-small = omega arith; bindings-small = omega arith; steps-small = omega arith; all-steps-small = omega arith }
 
 first-of : (a b c : ℕ) → a < room → (a + room * b + room * room * c) % room ≡ a
 first-of a b c h = omega arith
@@ -77,22 +77,18 @@ second-of a b c h g = omega arith
 third-of : (a b c : ℕ) → a < room → b < room → c < room → (a + room * b + room * room * c) / (room * room) % room ≡ c
 third-of a b c h g k = omega arith
 
-lower-of : (a b : ℕ) → a < room → (a + room * b) % room ≡ a
-lower-of a b h = omega arith
-
-upper-of : (a b : ℕ) → a < room → b < room → (a + room * b) / room % room ≡ b
-upper-of a b h g = omega arith
-
--- The five numbers of an entry, unpacked.
+-- The six numbers of an entry, unpacked.
 pub entry-read : (words : List ℕ) (at : ℕ) →
     EntryAt words at
     (numbers (getD words (pointed-needs-from + 2 * at) 0 % room) (getD words (pointed-needs-from + 2 * at) 0 / room % room) (getD words (pointed-needs-from + 2 * at) 0 / (room * room) % room) (getD words (pointed-needs-from + 2 * at + 1) 0 % room)
-    (getD words (pointed-needs-from + 2 * at + 1) 0 / room % room))
+    (getD words (pointed-needs-from + 2 * at + 1) 0 / room % room) (getD words (pointed-needs-from + 2 * at + 1) 0 / (room * room) % room))
 entry-read words at k x l n q e =
     same-need (ap (λ w. w % room) second ∙ first-of (m .control) (m .values) (m .cells) (small .control-small))
     (ap (λ w. w / room % room) second ∙ second-of (m .control) (m .values) (m .cells) (small .control-small) (small .values-small))
     (ap (λ w. w / (room * room) % room) second ∙ third-of (m .control) (m .values) (m .cells) (small .control-small) (small .values-small) (small .cells-small))
-    (ap (λ w. w % room) third ∙ lower-of (m .bindings) (m .steps) (small .bindings-small)) (ap (λ w. w / room % room) third ∙ upper-of (m .bindings) (m .steps) (small .bindings-small) (small .steps-small))
+    (ap (λ w. w % room) third ∙ first-of (m .bindings) (m .steps) (m .«all_steps») (small .bindings-small))
+    (ap (λ w. w / room % room) third ∙ second-of (m .bindings) (m .steps) (m .«all_steps») (small .bindings-small) (small .steps-small))
+    (ap (λ w. w / (room * room) % room) third ∙ third-of (m .bindings) (m .steps) (m .«all_steps») (small .bindings-small) (small .steps-small) (small .all-steps-small))
   where
     m : Need
     m = figures n
@@ -175,7 +171,7 @@ module _ (words : List ℕ) (scope name at : ℕ) (some-names : (N : Needs) × N
       found-here : {M : Needs} (p : Pointed words at M) → need-of name (p .newest ∷ p .older) ≡ p .newest .need
       found-here p = rw (true-test (eqb (p .newest .name) name) (subst (λ x. T (eqb (p .newest .name) x)) (sym (name-there p) ∙ this) (eqb-refl (p .newest .name))))
 
-pub walk-none : (words : List ℕ) (scope name at : ℕ) → Walked words scope name at → at ≡ 0 → (r : Need) → r ≡ numbers 0 0 0 0 0 → NeedFoundAt words scope name r
+pub walk-none : (words : List ℕ) (scope name at : ℕ) → Walked words scope name at → at ≡ 0 → (r : Need) → r ≡ numbers 0 0 0 0 0 0 → NeedFoundAt words scope name r
 walk-none words scope name at walked ended r q N s = let w = walked N s in q ∙ ap figures (sym (w .2 ∙ none-there (w .1) ended))
   where
     none-there : {at : ℕ} {M : Needs} → NamesAt words at M → at ≡ 0 → need-of name M ≡ Rules.nothing

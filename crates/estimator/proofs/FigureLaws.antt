@@ -9,26 +9,31 @@ use Rattle.rules.specs.paper.Needs as Rules
 use Rattle.estimator.specs.Figures.{stopped, numbers, figures, one-step, raised, both-in-turn, larger-of, node-figures, unary-figures, binary-figures, tested-figures, sequence-figures, scoped-figures, called-figures}
 use Rattle.estimator.specs.declared.figures.Need.{Need}
 
--- Needs with the same five numbers are the same.
-pub same-need : {k v c b s k′ v′ c′ b′ s′ : ℕ} → k ≡ k′ → v ≡ v′ → c ≡ c′ → b ≡ b′ → s ≡ s′ → numbers k v c b s ≡ numbers k′ v′ c′ b′ s′
-same-need {k} {v} {c} {b} {s} {k′} {v′} {c′} {b′} {s′} e f g h i =
-    ap (λ x. numbers x v c b s) e ∙ ap (λ x. numbers k′ x c b s) f ∙ ap (λ x. numbers k′ v′ x b s) g ∙ ap (λ x. numbers k′ v′ c′ x s) h ∙ ap (λ x. numbers k′ v′ c′ b′ x) i
+-- Needs with the same six numbers are the same.
+pub same-need : {k v c b s a k′ v′ c′ b′ s′ a′ : ℕ} → k ≡ k′ → v ≡ v′ → c ≡ c′ → b ≡ b′ → s ≡ s′ → a ≡ a′ → numbers k v c b s a ≡ numbers k′ v′ c′ b′ s′ a′
+same-need {k} {v} {c} {b} {s} {a} {k′} {v′} {c′} {b′} {s′} {a′} e f g h i j =
+    ap (λ x. numbers x v c b s a) e
+    ∙ ap (λ x. numbers k′ x c b s a) f
+    ∙ ap (λ x. numbers k′ v′ x b s a) g
+    ∙ ap (λ x. numbers k′ v′ c′ x s a) h
+    ∙ ap (λ x. numbers k′ v′ c′ b′ x a) i
+    ∙ ap (λ x. numbers k′ v′ c′ b′ s′ x) j
 
 -- ---- One need over what lies under it, one after the other, one or the other.
 
 pub over-law : (n : Rules.Need) (k v c b : ℕ) → raised (figures n) (stopped k) (stopped v) (stopped c) (stopped b) ≡ figures (over (sizes k v c b) n)
-over-law n k v c b = same-need (omega arith) (omega arith) (omega arith) (omega arith) refl
+over-law n k v c b = same-need (omega arith) (omega arith) (omega arith) (omega arith) refl refl
 
 pub turn-law : (n : Rules.Need) (ns : List Rules.Need) → both-in-turn (figures n) (figures (in-turn ns)) ≡ figures (in-turn (n ∷ ns))
 unfolding in-turn
-turn-law n ns = same-need (omega arith) (omega arith) (omega arith) (omega arith) (omega arith)
+turn-law n ns = same-need (omega arith) (omega arith) (omega arith) (omega arith) (omega arith) (omega arith)
 
 pub last-law : (n : Rules.Need) → figures n ≡ figures (in-turn (n ∷ []))
 unfolding in-turn
-last-law n = same-need (omega arith) (omega arith) (omega arith) (omega arith) (omega arith)
+last-law n = same-need (omega arith) (omega arith) (omega arith) (omega arith) (omega arith) (omega arith)
 
 pub either-law : (n m : Rules.Need) → larger-of (figures n) (figures m) ≡ figures (either n m)
-either-law n m = same-need (omega arith) (omega arith) (omega arith) (omega arith) (omega arith)
+either-law n m = same-need (omega arith) (omega arith) (omega arith) (omega arith) (omega arith) (omega arith)
 
 -- ---- The same from what is known of the parts.
 

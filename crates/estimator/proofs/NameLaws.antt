@@ -58,13 +58,13 @@ module _ (words : List ℕ) (scope node count : ℕ) where
   no-formal h z j fs N (one-formal p l m w g) n s = absurd (omega (arith, z, n))
 
   module _ (some-left : count ≡ 0 → ⊥) where
-    module _ (words′ : List ℕ) (word : ℕ) (none : Need) (known : word ≡ packed-operand (getD words node 0)) (no-need : none ≡ numbers 0 0 0 0 0)
+    module _ (words′ : List ℕ) (word : ℕ) (none : Need) (known : word ≡ packed-operand (getD words node 0)) (no-need : none ≡ numbers 0 0 0 0 0 0)
         (written : KeptEntry words words′ node (word % names) scope none) where
       -- The names with this Formal's.
       formal-named : (f : Formal) (N : Needs) → word % names ≡ f .name → scope ≤ node → NamesAt words scope N → NamesAt words′ (node + 1) (record { name = f .name; need = nothing } ∷ N)
       formal-named f N q l s =
           subst (λ p. NamesAt words′ p (record { name = f .name; need = nothing } ∷ N)) (after-node node)
-          (one-name (subst (λ x. HasEntry words′ node x scope (numbers 0 0 0 0 0)) q (subst (HasEntry words′ node (word % names) scope) no-need (written .entry)))
+          (one-name (subst (λ x. HasEntry words′ node x scope (numbers 0 0 0 0 0 0)) q (subst (HasEntry words′ node (word % names) scope) no-need (written .entry)))
           (names-kept (written .others) l s))
 
       name-of : {j : ℕ} {f : Formal} {fs : List Formal} → StoredFormals words node j (f ∷ fs) → word % names ≡ f .name
@@ -109,7 +109,7 @@ pub none-named : (words : List ℕ) (scope node count : ℕ) → SomeFormals wor
 none-named words scope node count s N l = record { others = s; named = N; linked = l; onward = omega arith; kept = entries-same words node; whole = λ after r later. later }
 
 pub one-more-named : (before words words′ : List ℕ) (scope node count newest at left : ℕ) → NamedSoFar before words scope node count newest at left → (left ≡ 0 → ⊥) → (word : ℕ) (none : Need) →
-    word ≡ packed-operand (getD words at 0) → none ≡ numbers 0 0 0 0 0 → KeptEntry words words′ at (word % names) newest none →
+    word ≡ packed-operand (getD words at 0) → none ≡ numbers 0 0 0 0 0 0 → KeptEntry words words′ at (word % names) newest none →
     NamedSoFar before words′ scope node count (at + 1) (at + 1) (left - 1)
 one-more-named before words words′ scope node count newest at left so-far some-left word none known no-need written =
     record {

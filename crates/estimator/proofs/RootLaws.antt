@@ -38,7 +38,7 @@ pub registers-named : (words : List ℕ) (r : ℕ) → NamesAt words 0 (register
 registers-named words r = no-entries (registers-none r)
 
 module _ (words : List ℕ) (nodes : ℕ) where
-  pub absent-needs : nodes ≡ 0 → (r : Need) → r ≡ numbers 0 0 0 0 0 → RootNeeds words nodes r
+  pub absent-needs : nodes ≡ 0 → (r : Need) → r ≡ numbers 0 0 0 0 0 0 → RootNeeds words nodes r
   unfolding root-need
   absent-needs z r q registers t at = q ∙ ap (λ u. figures (root-need (register-needs registers) u)) (sym (absent-root z at))
 

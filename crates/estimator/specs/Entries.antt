@@ -44,7 +44,7 @@ abbrev pub sizes-word : Need → ℕ
 sizes-word n = n .control + room * n .values + room * room * n .cells
 
 abbrev pub others-word : Need → ℕ
-others-word n = n .bindings + room * n .steps
+others-word n = n .bindings + room * n .steps + room * room * n .«all_steps»
 
 pub record SmallFigures (n : Need) : Type 0 where
   pub control-small : n .control < room
@@ -52,6 +52,7 @@ pub record SmallFigures (n : Need) : Type 0 where
   pub cells-small : n .cells < room
   pub bindings-small : n .bindings < room
   pub steps-small : n .steps < room
+  pub all-steps-small : n .«all_steps» < room
 
 -- The entry of a node.
 pub record HasEntry (words : List ℕ) (node name link : ℕ) (n : Need) : Type 0 where

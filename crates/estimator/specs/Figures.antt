@@ -9,25 +9,26 @@ use Rattle.estimator.specs.declared.figures.Need.{Need}
 abbrev pub stopped : ℕ → ℕ
 stopped n = min n (suc most-steps)
 
-abbrev pub numbers : (control values cells bindings steps : ℕ) → Need
-numbers k v c b s = record { control = k; values = v; cells = c; bindings = b; steps = s }
+abbrev pub numbers : (control values cells bindings steps all-steps : ℕ) → Need
+numbers k v c b s a = record { control = k; values = v; cells = c; bindings = b; steps = s; «all_steps» = a }
 
 abbrev pub figures : Rules.Need → Need
-figures n = numbers (stopped (n .most control)) (stopped (n .most values)) (stopped (n .most cells)) (stopped (n .most bindings)) (stopped (n .steps))
+figures n = numbers (stopped (n .most control)) (stopped (n .most values)) (stopped (n .most cells)) (stopped (n .most bindings)) (stopped (n .steps)) (stopped (n .all-steps))
 
 abbrev pub one-step : (control values cells bindings : ℕ) → Need
-one-step k v c b = numbers k v c b 1
+one-step k v c b = numbers k v c b 1 1
 
 abbrev pub raised : Need → (control values cells bindings : ℕ) → Need
-raised n k v c b = numbers (stopped (n .control + k)) (stopped (n .values + v)) (stopped (n .cells + c)) (stopped (n .bindings + b)) (n .steps)
+raised n k v c b = numbers (stopped (n .control + k)) (stopped (n .values + v)) (stopped (n .cells + c)) (stopped (n .bindings + b)) (n .steps) (n .«all_steps»)
 
 abbrev pub both-in-turn : Need → Need → Need
 both-in-turn n m =
-    numbers (max (n .control) (m .control)) (max (n .values) (m .values)) (max (n .cells) (m .cells)) (max (n .bindings) (m .bindings)) (stopped (n .steps + m .steps))
+    numbers (max (n .control) (m .control)) (max (n .values) (m .values)) (max (n .cells) (m .cells)) (max (n .bindings) (m .bindings)) (stopped (n .steps + m .steps)) (stopped (n .«all_steps» + m .«all_steps»))
 
+-- The larger of each, and all steps of both.
 abbrev pub larger-of : Need → Need → Need
 larger-of n m =
-    numbers (max (n .control) (m .control)) (max (n .values) (m .values)) (max (n .cells) (m .cells)) (max (n .bindings) (m .bindings)) (max (n .steps) (m .steps))
+    numbers (max (n .control) (m .control)) (max (n .values) (m .values)) (max (n .cells) (m .cells)) (max (n .bindings) (m .bindings)) (max (n .steps) (m .steps)) (stopped (n .«all_steps» + m .«all_steps»))
 
 abbrev pub node-figures : Need
 node-figures = one-step 1 0 0 0

@@ -1,4 +1,4 @@
-// Needs, and how they are put together: each size and the steps stop at one more than the most steps that are given.
+// Needs, and how they are put together: every number stops at one more than the most steps that are given.
 ghost use mathlib.Core.Path.{_≡_};
 ghost use Prim.Native.Nat.{_+_, max};
 ghost use Rattle.estimator.specs.Figures.{stopped, numbers, one-step, raised, both-in-turn, larger-of, unary-figures, binary-figures, tested-figures, sequence-figures, scoped-figures, called-figures};
@@ -9,13 +9,14 @@ pub const MOST_STEPS: u32 = 1000000;
 // Where every sum stops.
 const STOP: u32 = MOST_STEPS + 1;
 
-// How far each size rises over what lies there already, and how many steps are made.
+// How far each size rises over what lies there already, how many steps are made, and how many with both commands of every Cond counted.
 pub struct Need {
     pub control: u32,
     pub values: u32,
     pub cells: u32,
     pub bindings: u32,
     pub steps: u32,
+    pub all_steps: u32,
 }
 
 pub(crate) fn sum(first: u32, second: u32) -> u32
@@ -41,7 +42,7 @@ fn larger(first: u32, second: u32) -> u32
 
 // No need.
 pub(crate) fn nothing() -> Need
-    ensures { λ r. ⌜ r ≡ numbers 0 0 0 0 0 ⌝ }
+    ensures { λ r. ⌜ r ≡ numbers 0 0 0 0 0 0 ⌝ }
 {
     Need {
         control: 0,
@@ -49,6 +50,7 @@ pub(crate) fn nothing() -> Need
         cells: 0,
         bindings: 0,
         steps: 0,
+        all_steps: 0,
     }
 }
 
@@ -62,6 +64,7 @@ pub(crate) fn step(control: u32, values: u32, cells: u32, bindings: u32) -> Need
         cells,
         bindings,
         steps: 1,
+        all_steps: 1,
     }
 }
 
@@ -75,6 +78,7 @@ pub(crate) fn over(need: Need, control: u32, values: u32, cells: u32, bindings: 
         cells: sum(need.cells, cells),
         bindings: sum(need.bindings, bindings),
         steps: need.steps,
+        all_steps: need.all_steps,
     }
 }
 
@@ -88,19 +92,23 @@ pub(crate) fn in_turn(first: Need, second: Need) -> Need
         cells: larger(first.cells, second.cells),
         bindings: larger(first.bindings, second.bindings),
         steps: sum(first.steps, second.steps),
+        all_steps: sum(first.all_steps, second.all_steps),
     }
 }
 
-// One need or the other.
+// One need or the other: the larger of each, and all steps of both.
 pub(crate) fn either(first: Need, second: Need) -> Need
     ensures { λ r. ⌜ r ≡ larger-of first second ⌝ }
 {
+    let steps = larger(first.steps, second.steps);
+    let all_steps = sum(first.all_steps, second.all_steps);
     Need {
         control: larger(first.control, second.control),
         values: larger(first.values, second.values),
         cells: larger(first.cells, second.cells),
         bindings: larger(first.bindings, second.bindings),
-        steps: larger(first.steps, second.steps),
+        steps,
+        all_steps,
     }
 }
 

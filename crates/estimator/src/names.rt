@@ -15,7 +15,8 @@ const ROWS: usize = MOST_NODES;
 
 const POINTERS: usize = ROWS - 1;
 
-// Where the needs begin, two words for each node: control, values and cells in the first, bindings and steps in the second.
+// Where the needs begin, two words for each node: control, values and cells in the first, bindings, steps and all
+// steps in the second.
 const NEEDS: usize = ROWS + MOST_NODES;
 
 const POINTED_NEEDS: usize = NEEDS - 2;
@@ -37,7 +38,9 @@ pub(crate) fn keep(work: &mut [u64], node: usize, name: usize, link: usize, need
     work[at] = need.control as u64
         + ROOM * (need.values as u64)
         + ROOM * ROOM * (need.cells as u64);
-    work[at + 1] = need.bindings as u64 + ROOM * (need.steps as u64);
+    work[at + 1] = need.bindings as u64
+        + ROOM * (need.steps as u64)
+        + ROOM * ROOM * (need.all_steps as u64);
 }
 
 // The need that an entry has.
@@ -55,6 +58,7 @@ fn kept(work: &[u64], at: usize) -> Need
         cells: (sizes / (ROOM * ROOM) % ROOM) as u32,
         bindings: (others % ROOM) as u32,
         steps: (others / ROOM % ROOM) as u32,
+        all_steps: (others / (ROOM * ROOM) % ROOM) as u32,
     }
 }
 

@@ -1,0 +1,5 @@
+pub mod ChoiceLaws
+pub mod EndLaws
+pub mod OperatorLaws
+pub mod OperatorNumbers
+pub mod SpanLaws

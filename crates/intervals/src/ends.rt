@@ -101,13 +101,7 @@ fn holds_zero(low: u64, high: u64) -> bool
 }
 
 // Sum, Sub, Mul and Div: the least and the greatest over the four pairs of the operands' ends.
-pub(crate) fn over_ends(
-    which: usize,
-    low: u64,
-    high: u64,
-    bottom: u64,
-    top: u64,
-) -> Span
+pub(crate) fn over_ends(which: usize, low: u64, high: u64, bottom: u64, top: u64) -> Span
     ensures { λ r. ⌜ ((o : Arithmetic) → which ≡ operator-number (arithmetic o) → r ≡ span-words (carry-arithmetic o (integer-of low) (integer-of high) (integer-of bottom) (integer-of top))) ⌝ }
 {
     if which == kinds::DIV {
@@ -144,13 +138,7 @@ fn compared(which: usize, first: u64, second: u64) -> bool
 }
 
 // Lt to Ge: the lowest of the first with the highest of the second, and the other two ends, tell which truths are possible.
-pub(crate) fn compared_ends(
-    which: usize,
-    low: u64,
-    high: u64,
-    bottom: u64,
-    top: u64,
-) -> Value
+pub(crate) fn compared_ends(which: usize, low: u64, high: u64, bottom: u64, top: u64) -> Value
     ensures { λ r. ⌜ ((o : Order) → which ≡ operator-number (order o) → OrderCarried o (integer-of low) (integer-of high) (integer-of bottom) (integer-of top) r) ⌝ }
 {
     let outer = compared(which, low, top);

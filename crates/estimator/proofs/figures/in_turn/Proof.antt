@@ -23,8 +23,11 @@ larger-requires-4 c κs = search needs
 sum-requires : tie.Need-sum-requires
 sum-requires c κs = search needs
 
+sum-requires-2 : tie.Need-sum-requires-2
+sum-requires-2 c κs = search needs
+
 returns : tie.Need-returns
-returns c = same-need (c .before .before .before .before .larger .ensures) (c .before .before .before .larger2 .ensures) (c .before .before .larger3 .ensures) (c .before .larger4 .ensures) (c .sum .ensures)
+returns c = same-need (c .before .before .before .before .before .larger .ensures) (c .before .before .before .before .larger2 .ensures) (c .before .before .before .larger3 .ensures) (c .before .before .larger4 .ensures) (c .before .sum .ensures) (c .sum2 .ensures)
 
 pub in-turn-spec : {M : Type 1} → statement M
 in-turn-spec =
@@ -35,4 +38,5 @@ in-turn-spec =
     larger-requires-3
     larger-requires-4
     sum-requires
+    sum-requires-2
     returns)

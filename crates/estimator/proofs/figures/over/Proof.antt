@@ -21,7 +21,7 @@ sum-requires-4 : tie.Need-sum-requires-4
 sum-requires-4 c κs = search needs
 
 returns : tie.Need-returns
-returns c = same-need (c .before .before .before .sum .ensures) (c .before .before .sum2 .ensures) (c .before .sum3 .ensures) (c .sum4 .ensures) refl
+returns c = same-need (c .before .before .before .sum .ensures) (c .before .before .sum2 .ensures) (c .before .sum3 .ensures) (c .sum4 .ensures) refl refl
 
 pub over-spec : {M : Type 1} → statement M
 over-spec = tie.close (tie.spec sum-requires sum-requires-2 sum-requires-3 sum-requires-4 returns)

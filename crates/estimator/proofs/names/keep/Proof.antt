@@ -73,15 +73,27 @@ mul-work-7 c = search needs
 add-work-5 : tie.Need-add-work-5
 add-work-5 c = search needs
 
-add-work-6 : tie.Need-add-work-6
-add-work-6 c = search needs
-
 mul-work-8 : tie.Need-mul-work-8
 mul-work-8 c = search needs
 
+cast-work-6 : tie.Need-cast-work-6
+cast-work-6 c = search needs
+
+mul-work-9 : tie.Need-mul-work-9
+mul-work-9 c = search needs
+
+add-work-6 : tie.Need-add-work-6
+add-work-6 c = search needs
+
+add-work-7 : tie.Need-add-work-7
+add-work-7 c = search needs
+
+mul-work-10 : tie.Need-mul-work-10
+mul-work-10 c = search needs
+
 slice-write-work-3 : tie.Need-slice-write-work-3
 slice-write-work-3 c =
-    let start = c .before .before .before .before .before in
+    let start = c .before .before .before .before .before .before in
     let one = set (start .args .work .now) (row-of (start .args .node)) (name-word (start .args .name) (start .args .link)) in
     omega (arith, start .pre .0, start .pre .1 .0, length-set (start .args .work .now) (row-of (start .args .node)) (name-word (start .args .name) (start .args .link)), length-set one (need-at (start .args .node)) (sizes-word (start .args .need)))
 
@@ -89,7 +101,7 @@ same-length : tie.Need-same-length
 same-length c = search needs
 
 returns : tie.Need-returns
-returns c = let start = c .before .before .before .before .before in entry-kept (now (start .args .work)) (start .args .node) (start .args .name) (start .args .link) (start .args .need) (start .pre .0) (start .pre .1 .0) (start .pre .1 .1 .0) (start .pre .1 .1 .1 .0)
+returns c = let start = c .before .before .before .before .before .before in entry-kept (now (start .args .work)) (start .args .node) (start .args .name) (start .args .link) (start .args .need) (start .pre .0) (start .pre .1 .0) (start .pre .1 .1 .0) (start .pre .1 .1 .1 .0)
 
 pub keep-spec : {M : Type 1} → statement M
 keep-spec =
@@ -116,8 +128,12 @@ keep-spec =
     cast-work-5
     mul-work-7
     add-work-5
-    add-work-6
     mul-work-8
+    cast-work-6
+    mul-work-9
+    add-work-6
+    add-work-7
+    mul-work-10
     slice-write-work-3
     same-length
     returns)

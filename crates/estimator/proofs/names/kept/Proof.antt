@@ -55,6 +55,15 @@ cast-t21 c = search needs
 cast-t24 : tie.Need-cast-t24
 cast-t24 c = search needs
 
+mul-t25 : tie.Need-mul-t25
+mul-t25 c = search needs
+
+div-t26 : tie.Need-div-t26
+div-t26 c = search needs
+
+cast-t28 : tie.Need-cast-t28
+cast-t28 c = search needs
+
 returns : tie.Need-returns
 returns c = entry-read (now (c .before .before .args .work)) (c .before .before .args .at)
 
@@ -78,4 +87,7 @@ kept-spec =
     cast-t19
     cast-t21
     cast-t24
+    mul-t25
+    div-t26
+    cast-t28
     returns)

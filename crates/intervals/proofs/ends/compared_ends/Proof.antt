@@ -1,10 +1,8 @@
+-- compared_ends: the truths by the outer and the inner ends.
+use Rattle.intervals.proofs.OperatorNumbers.{below-carried, above-carried}
 use borrow.Author.Needs.{needs}
 use Rattle.intervals.proofs.ends.compared_ends.Statement.{statement}
 use Rattle.intervals.proofs.ends.compared_ends.Tie as tie
-use Rattle.intervals.proofs.ends.compared_ends.Reads as reads
-use Rattle.intervals.proofs.ends.compared_ends.Lts as lts
-use Rattle.intervals.proofs.ends.compared.Reads as compared-reads
-use Rattle.intervals.proofs.values.truths.Reads as truths-reads
 
 compared-requires : tie.Need-compared-requires
 compared-requires c κs = search needs
@@ -16,13 +14,13 @@ truths-requires : tie.Need-truths-requires
 truths-requires c κs = search needs
 
 returns : tie.Need-returns
-returns c = ?
+returns c = below-carried _ _ _ _ _ _ _ _ (c .before .before .before .compared .ensures) (c .before .before .compared2 .ensures) (c .before .if1 .taken) (c .truths .ensures)
 
 truths-requires-2 : tie.Need-truths-requires-2
 truths-requires-2 c κs = search needs
 
 returns-2 : tie.Need-returns-2
-returns-2 c = ?
+returns-2 c = above-carried _ _ _ _ _ _ _ _ (c .before .before .before .compared .ensures) (c .before .before .compared2 .ensures) (c .before .if1 .left) (c .truths2 .ensures)
 
 pub compared-ends-spec : {M : Type 1} → statement M
 compared-ends-spec =

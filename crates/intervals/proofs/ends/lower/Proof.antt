@@ -1,18 +1,17 @@
+-- lower: the first where it is less.
+use Rattle.intervals.proofs.EndLaws.{lower-first, lower-second}
 use borrow.Author.Needs.{needs}
 use Rattle.intervals.proofs.ends.lower.Statement.{statement}
 use Rattle.intervals.proofs.ends.lower.Tie as tie
-use Rattle.intervals.proofs.ends.lower.Reads as reads
-use Rattle.intervals.proofs.ends.lower.Lts as lts
-use Rattle.integers.proofs.less.Reads as less-reads
 
 less-requires : tie.Need-less-requires
 less-requires c κs = search needs
 
 returns : tie.Need-returns
-returns c = ?
+returns c = lower-first _ _ _ (c .before .less .ensures) (c .before .before .fits .first .fits) (c .if1 .taken)
 
 returns-2 : tie.Need-returns-2
-returns-2 c = ?
+returns-2 c = lower-second _ _ _ (c .before .less .ensures) (c .before .before .fits .second .fits) (c .if1 .left)
 
 pub lower-spec : {M : Type 1} → statement M
 lower-spec = tie.close (tie.spec less-requires returns returns-2)
