@@ -2,3 +2,4 @@ pub mod Layout
 pub mod States
 pub mod Frames
 pub mod Answers
+pub mod Routine
