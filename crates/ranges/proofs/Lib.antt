@@ -15,3 +15,5 @@ pub mod CommandLaws
 pub mod BranchLaws
 pub mod TestLaws
 pub mod BothLaws
+pub mod RegisterLaws
+pub mod RootLaws

@@ -42,7 +42,7 @@ same-place : {p q : ℕ} → _≡_ {A = Expressed} (Expressed.Unsafe p) (Express
 same-place e = cc
 
 -- An expression that is unsafe, and what goes on with its value.
-unsafe-value : (words : List ℕ) (n : ℕ) (f : Carried → Carrying CarriedCells) (c : Carrying Carried) (r : Expressed) (p : ℕ) → r ≡ Expressed.Unsafe p → ExpressedAs c r → CommandAs words n (c >>= f) (Unsafe p)
+pub unsafe-value : (words : List ℕ) (n : ℕ) (f : Carried → Carrying CarriedCells) (c : Carrying Carried) (r : Expressed) (p : ℕ) → r ≡ Expressed.Unsafe p → ExpressedAs c r → CommandAs words n (c >>= f) (Unsafe p)
 unsafe-value words n f (carried v) r p told (x, same, holds) = not-both (sym same ∙ told)
 unsafe-value words n f (unsafe q) r p told same = ap Unsafe (same-place (sym told ∙ same))
 unsafe-value words n f unfit r p told answer = tt

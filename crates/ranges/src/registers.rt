@@ -19,6 +19,7 @@ use intervals::values::Value;
 
 // Whether some lowest is above its highest.
 pub fn crossed(lowest: &[u64], highest: &[u64]) -> bool
+    requires { ⌜ length (now lowest) ≤ most-registers ⌝ }
     requires { ⌜ length (now highest) ≡ length (now lowest) ⌝ }
     ensures { λ r. ⌜ r ≡ limits-cross (integers-of (now (lowest .entry))) (integers-of (now (highest .entry))) ⌝ }
 {
