@@ -14,13 +14,14 @@ use Rattle.reader.specs.Pack.{packed-operand}
 use Rattle.reader.specs.Stored.{operand-is, StoredCommand, assign}
 use Rattle.intervals.specs.Values.{HoldsValue, holds-location}
 use Rattle.intervals.specs.declared.values.Value.{Value}
-use Rattle.ranges.specs.Layout.{row-value}
-use Rattle.ranges.specs.States.{NamesAt, FoundAt, CellsAt, Sees}
-use Rattle.ranges.specs.Frames.{SetCell}
-use Rattle.ranges.specs.Answers.{Fits, CommandAs, AssignThere, assigning, SomeAssign, AssignCarried}
-use Rattle.ranges.specs.declared.Outcome.the-variants.{Through}
-use Rattle.ranges.proofs.StateLaws.{holds-same, cell-there, cells-set}
-use Rattle.ranges.proofs.LeafLaws.{ValueRow, found-value}
+use Rattle.carrying.specs.Layout.{row-value}
+use Rattle.carrying.specs.States.{NamesAt, FoundAt, CellsAt, Sees}
+use Rattle.carrying.specs.Frames.{SetCell}
+use Rattle.carrying.specs.Answers.{Fits, CommandAs}
+use Rattle.ranges.specs.Commands.{AssignThere, assigning, SomeAssign, AssignCarried}
+use Rattle.carrying.specs.declared.Outcome.the-variants.{Through}
+use Rattle.carrying.proofs.StateLaws.{holds-same, cell-there, cells-set}
+use Rattle.carrying.proofs.LeafLaws.{ValueRow, found-value}
 
 -- What it needs: the name bound to a location, and a value of the same sort in its cell.
 record Target (x : ℕ) (v : Carried) (A : CarriedNames) (K : CarriedCells) : Type 0 where

@@ -15,15 +15,16 @@ use Rattle.rules.specs.paper.Carrying.{CarriedCells, CarriedNames, wider-cells,
 use Rattle.reader.specs.Pack.{packed-kind, packed-end}
 use Rattle.reader.specs.Stored.{StoredCommand}
 use Rattle.reader.specs.StandingLaws.{expression-low, command-low}
-use Rattle.ranges.specs.States.{CellsAt, StateAt, Room}
-use Rattle.ranges.specs.Frames.{Keeps, Copied, Exchanged, Widened}
-use Rattle.ranges.specs.Answers.{Fits, ExpressionThere, CommandThere, SomeCommand, CommandAs, CommandCarried, SomeBoth, BothCarried}
-use Rattle.ranges.specs.declared.Held.{Held}
-use Rattle.ranges.specs.declared.Outcome.{Outcome}
-use Rattle.ranges.specs.declared.Outcome.the-variants.{Through, Unsafe}
-use Rattle.ranges.proofs.FrameLaws.{keeps-all, keeps-then, keeps-fewer}
-use Rattle.ranges.proofs.StateLaws.{KeptAt, kept-stays, cells-copied, cells-exchanged, copy-exchanged, cells-widened}
-use Rattle.ranges.proofs.ReachLaws.{second-place, reach}
+use Rattle.carrying.specs.States.{CellsAt, StateAt, Room}
+use Rattle.carrying.specs.Frames.{Keeps, Copied, Exchanged, Widened}
+use Rattle.carrying.specs.Answers.{Fits, ExpressionThere, CommandThere, SomeCommand, CommandAs, CommandCarried}
+use Rattle.ranges.specs.Commands.{SomeBoth, BothCarried}
+use Rattle.carrying.specs.declared.Held.{Held}
+use Rattle.carrying.specs.declared.Outcome.{Outcome}
+use Rattle.carrying.specs.declared.Outcome.the-variants.{Through, Unsafe}
+use Rattle.carrying.proofs.FrameLaws.{keeps-all, keeps-then, keeps-fewer}
+use Rattle.carrying.proofs.StateLaws.{KeptAt, kept-stays, cells-copied, cells-exchanged, copy-exchanged, cells-widened}
+use Rattle.carrying.proofs.ReachLaws.{second-place, reach}
 use Rattle.ranges.proofs.OutcomeLaws.{told-through, told-at}
 use Rattle.ranges.proofs.CommandLaws.{Part, Seen, seen-conditional, seen}
 use Rattle.ranges.proofs.BranchLaws.{part-there, part-reach}

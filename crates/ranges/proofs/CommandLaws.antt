@@ -15,20 +15,21 @@ use Rattle.reader.specs.Stored.{kind-is, StoredExpression, StoredCommand, Store
 use Rattle.reader.specs.Stored as Stored
 use Rattle.reader.specs.StoredLaws.{same-command, same-declaration, same-expression}
 use Rattle.reader.specs.StandingLaws.{Rooted, after-node, expression-on, command-on, command-root, command-end, declaration-on, declaration-root, declaration-end, block-root, block-on}
-use Rattle.ranges.specs.States.{CellsAt, StateAt, Sees, Room}
-use Rattle.ranges.specs.Frames.{Keeps, KeepsCells}
-use Rattle.ranges.specs.Answers.{Fits, ExpressionThere, SomeExpression, ExpressionCarried, DeclarationThere, SomeDeclaration, DeclaredState, DeclarationCarried, CommandThere, SomeCommand, CommandAs, CommandCarried, FunctionThere, EnteredAs, entered, not-entered, never-entered, SomeCall, CallCarried, Valued, an-assign, a-conditional, SomeTested, TestedCarried}
-use Rattle.ranges.specs.declared.Held.{Held}
-use Rattle.ranges.specs.declared.Outcome.{Outcome}
-use Rattle.ranges.specs.declared.Outcome.the-variants.{Through, Unsafe}
-use Rattle.ranges.specs.declared.declarations.Declared.{Declared}
-use Rattle.ranges.specs.declared.declarations.Declared.the-variants as Declared
-use Rattle.ranges.specs.declared.functions.Entered.{Entered}
-use Rattle.ranges.specs.declared.functions.Entered.the-variants as Entered
-use Rattle.ranges.proofs.FrameLaws.{kept-nodes, keeps-then, keeps-fewer}
-use Rattle.ranges.proofs.StateLaws.{cells-length, cells-oldest, names-later}
-use Rattle.ranges.proofs.ReachLaws.{second-place, reach, child-reach, function-reach}
-use Rattle.ranges.proofs.ExpressionLaws.{first-fits}
+use Rattle.carrying.specs.States.{CellsAt, StateAt, Sees, Room}
+use Rattle.carrying.specs.Frames.{Keeps, KeepsCells}
+use Rattle.carrying.specs.Answers.{Fits, ExpressionThere, SomeExpression, ExpressionCarried, DeclarationThere, SomeDeclaration, DeclaredState, DeclarationCarried, CommandThere, SomeCommand, CommandAs, CommandCarried, FunctionThere, EnteredAs, entered, not-entered, never-entered, SomeCall, CallCarried}
+use Rattle.ranges.specs.Commands.{Valued, an-assign, a-conditional, SomeTested, TestedCarried}
+use Rattle.carrying.specs.declared.Held.{Held}
+use Rattle.carrying.specs.declared.Outcome.{Outcome}
+use Rattle.carrying.specs.declared.Outcome.the-variants.{Through, Unsafe}
+use Rattle.carrying.specs.declared.declarations.Declared.{Declared}
+use Rattle.carrying.specs.declared.declarations.Declared.the-variants as Declared
+use Rattle.carrying.specs.declared.functions.Entered.{Entered}
+use Rattle.carrying.specs.declared.functions.Entered.the-variants as Entered
+use Rattle.carrying.proofs.FrameLaws.{kept-nodes, keeps-then, keeps-fewer}
+use Rattle.carrying.proofs.StateLaws.{cells-length, cells-oldest, names-later}
+use Rattle.carrying.proofs.ReachLaws.{second-place, reach, child-reach, function-reach}
+use Rattle.carrying.proofs.ExpressionLaws.{first-fits}
 use Rattle.ranges.proofs.OutcomeLaws.{told-through, told-at, told-names, told-undeclared, first-of, later-of, less-room, same-room, state-later}
 
 -- ---- What an expression of a command sees.

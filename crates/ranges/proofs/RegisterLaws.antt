@@ -20,12 +20,12 @@ use Rattle.integers.specs.Words.{integer-of, word-of, integers-of, words-of}
 use Rattle.integers.specs.WordLaws.{integer-in-range, word-of-integer, integers-at, integers-length}
 use Rattle.intervals.specs.Values.{numbers-sort, location-sort, HoldsValue, holds-numbers, holds-truths, holds-location}
 use Rattle.intervals.specs.declared.values.Value.{Value}
-use Rattle.ranges.specs.Layout.{cell-sorts, cell-lows, cell-highs, cell-value}
-use Rattle.ranges.specs.States.{RowAt, NamesAt, no-names, one-value, CellsAt, no-cells, one-cell}
-use Rattle.ranges.specs.Frames.{Keeps, KeepsCells, PutRow, PutCell}
+use Rattle.carrying.specs.Layout.{cell-sorts, cell-lows, cell-highs, cell-value}
+use Rattle.carrying.specs.States.{RowAt, NamesAt, no-names, one-value, CellsAt, no-cells, one-cell}
+use Rattle.carrying.specs.Frames.{Keeps, KeepsCells, PutRow, PutCell}
 use Rattle.ranges.specs.Routine.{RegistersAt, RegisterPut, EndsTaken}
-use Rattle.ranges.proofs.FrameLaws.{row-keeps, row-keeps-cells, cell-keeps, cell-keeps-cells, keeps-all, keeps-then, keeps-fewer, keeps-fewer-cells}
-use Rattle.ranges.proofs.StateLaws.{names-kept, row-there, cells-kept, cells-length, cell-more, CellThere, cell-there}
+use Rattle.carrying.proofs.FrameLaws.{row-keeps, row-keeps-cells, cell-keeps, cell-keeps-cells, keeps-all, keeps-then, keeps-fewer, keeps-fewer-cells}
+use Rattle.carrying.proofs.StateLaws.{names-kept, row-there, cells-kept, cells-length, cell-more, CellThere, cell-there}
 
 -- ---- Whether some limits cross.
 

@@ -20,16 +20,16 @@ use Rattle.intervals.specs.Values.{numbers-sort, HoldsValue, ExpressedAs}
 use Rattle.intervals.specs.declared.values.Value.{Value}
 use Rattle.intervals.specs.declared.values.Expressed.{Expressed}
 use Rattle.intervals.specs.declared.values.Expressed.the-variants as Expressed
-use Rattle.ranges.specs.Layout.{cell-sorts}
-use Rattle.ranges.specs.States.{CellsAt, StateAt, Sees, Room}
-use Rattle.ranges.specs.Frames.{Keeps}
-use Rattle.ranges.specs.Answers.{Fits, ExpressionThere, SomeExpression, ExpressionCarried, CommandThere, SomeCommand, CommandAs, CommandCarried}
+use Rattle.carrying.specs.Layout.{cell-sorts}
+use Rattle.carrying.specs.States.{CellsAt, StateAt, Sees, Room}
+use Rattle.carrying.specs.Frames.{Keeps}
+use Rattle.carrying.specs.Answers.{Fits, ExpressionThere, SomeExpression, ExpressionCarried, CommandThere, SomeCommand, CommandAs, CommandCarried}
 use Rattle.ranges.specs.Routine.{RegistersAt, registers-held, EndsTaken, RootThere, SomeRoot, RootCarried, EnoughRoom, SomeRoutine, EndsGiven, ListsKept, CarriedAs, RoutineCarried}
-use Rattle.ranges.specs.declared.Held.{Held}
-use Rattle.ranges.specs.declared.Outcome.{Outcome}
-use Rattle.ranges.specs.declared.Outcome.the-variants.{Through, Unsafe}
-use Rattle.ranges.proofs.FrameLaws.{kept-nodes, keeps-then, keeps-fewer}
-use Rattle.ranges.proofs.ExpressionLaws.{first-fits, told-value}
+use Rattle.carrying.specs.declared.Held.{Held}
+use Rattle.carrying.specs.declared.Outcome.{Outcome}
+use Rattle.carrying.specs.declared.Outcome.the-variants.{Through, Unsafe}
+use Rattle.carrying.proofs.FrameLaws.{kept-nodes, keeps-then, keeps-fewer}
+use Rattle.carrying.proofs.ExpressionLaws.{first-fits, told-value}
 use Rattle.ranges.proofs.OutcomeLaws.{told-through}
 use Rattle.ranges.proofs.CommandLaws.{state-sees}
 use Rattle.ranges.proofs.TestLaws.{unsafe-value}

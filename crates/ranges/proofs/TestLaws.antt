@@ -19,16 +19,17 @@ use Rattle.intervals.specs.Values.{flag, HoldsValue, holds-numbers, holds-truth
 use Rattle.intervals.specs.declared.values.Value.{Value}
 use Rattle.intervals.specs.declared.values.Expressed.{Expressed}
 use Rattle.intervals.specs.declared.values.Expressed.the-variants as Expressed
-use Rattle.ranges.specs.States.{CellsAt, StateAt, Room}
-use Rattle.ranges.specs.Frames.{Keeps, Copied, Exchanged, Widened}
-use Rattle.ranges.specs.Answers.{Fits, ExpressionThere, SomeExpression, ExpressionCarried, CommandThere, SomeCommand, CommandAs, CommandCarried, AssignThere, assigning, SomeAssign, AssignCarried, Valued, an-assign, a-conditional, SomeTested, TestedCarried, SomeBoth, BothCarried}
-use Rattle.ranges.specs.declared.Held.{Held}
-use Rattle.ranges.specs.declared.Outcome.{Outcome}
-use Rattle.ranges.specs.declared.Outcome.the-variants.{Through, Unsafe}
-use Rattle.ranges.proofs.FrameLaws.{keeps-all, keeps-then, keeps-fewer}
-use Rattle.ranges.proofs.StateLaws.{KeptAt, kept-stays, cells-copied, cells-exchanged, copy-exchanged, cells-widened}
-use Rattle.ranges.proofs.ReachLaws.{second-place, reach}
-use Rattle.ranges.proofs.ExpressionLaws.{first-fits, told-value}
+use Rattle.carrying.specs.States.{CellsAt, StateAt, Room}
+use Rattle.carrying.specs.Frames.{Keeps, Copied, Exchanged, Widened}
+use Rattle.carrying.specs.Answers.{Fits, ExpressionThere, SomeExpression, ExpressionCarried, CommandThere, SomeCommand, CommandAs, CommandCarried}
+use Rattle.ranges.specs.Commands.{AssignThere, assigning, SomeAssign, AssignCarried, Valued, an-assign, a-conditional, SomeTested, TestedCarried, SomeBoth, BothCarried}
+use Rattle.carrying.specs.declared.Held.{Held}
+use Rattle.carrying.specs.declared.Outcome.{Outcome}
+use Rattle.carrying.specs.declared.Outcome.the-variants.{Through, Unsafe}
+use Rattle.carrying.proofs.FrameLaws.{keeps-all, keeps-then, keeps-fewer}
+use Rattle.carrying.proofs.StateLaws.{KeptAt, kept-stays, cells-copied, cells-exchanged, copy-exchanged, cells-widened}
+use Rattle.carrying.proofs.ReachLaws.{second-place, reach}
+use Rattle.carrying.proofs.ExpressionLaws.{first-fits, told-value}
 use Rattle.ranges.proofs.OutcomeLaws.{told-through, told-at}
 use Rattle.ranges.proofs.CommandLaws.{Part, Seen, seen-assign, seen-loop, seen-sequence, seen-block, seen-call, seen-conditional, seen}
 use Rattle.ranges.proofs.BranchLaws.{part-there, part-reach}

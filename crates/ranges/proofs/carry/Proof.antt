@@ -1,6 +1,6 @@
 -- The registers' names and cells, the root, and the ends.
 use native.Mathlib.Omega.{arith}
-use Rattle.ranges.proofs.FrameLaws.{keeps-then, keeps-fewer}
+use Rattle.carrying.proofs.FrameLaws.{keeps-then, keeps-fewer}
 use Rattle.ranges.proofs.RootLaws.{some-root, routine-unsafe, routine-carried}
 use borrow.Author.Needs.{needs}
 use Rattle.ranges.proofs.carry.Statement.{statement}

@@ -5,8 +5,8 @@ use Rattle.ranges.proofs.registers.put_register.Statement.{statement}
 use Rattle.ranges.proofs.registers.put_register.Tie as tie
 use Rattle.ranges.proofs.registers.put_register.Reads as reads
 use Rattle.ranges.proofs.registers.put_register.Lts as lts
-use Rattle.ranges.proofs.cells.put_cell.Reads as put-cell-reads
-use Rattle.ranges.proofs.names.put_row.Reads as put-row-reads
+use Rattle.carrying.proofs.cells.put_cell.Reads as put-cell-reads
+use Rattle.carrying.proofs.names.put_row.Reads as put-row-reads
 
 put-row-requires : tie.Need-put-row-requires
 put-row-requires c κs = search needs

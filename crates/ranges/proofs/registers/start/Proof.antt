@@ -4,9 +4,9 @@ use mathlib.Core.Path.{_≡_, refl, ap, subst}
 use native.Mathlib.Omega.{arith}
 use lib.ListN.{length}
 use denote.Ref.{now}
-use Rattle.ranges.specs.Frames.{Keeps}
+use Rattle.carrying.specs.Frames.{Keeps}
 use Rattle.ranges.specs.Routine.{registers-held, RegistersAt}
-use Rattle.ranges.proofs.FrameLaws.{keeps-all, keeps-then}
+use Rattle.carrying.proofs.FrameLaws.{keeps-all, keeps-then}
 use Rattle.ranges.proofs.RegisterLaws.{no-registers}
 use Rattle.ranges.proofs.registers.start.Statement.{statement}
 use Rattle.ranges.proofs.registers.start.Tie as tie

@@ -4,7 +4,7 @@ use native.Mathlib.Omega.{arith}
 use borrow.Author.Needs.{needs}
 use Rattle.rules.specs.paper.Limits.{most-cells}
 use Rattle.reader.specs.StandingLaws.{command-low, declaration-low}
-use Rattle.ranges.proofs.FrameLaws.{keeps-all, keeps-then, keeps-fewer}
+use Rattle.carrying.proofs.FrameLaws.{keeps-all, keeps-then, keeps-fewer}
 use Rattle.ranges.proofs.BranchLaws.{sequence-first, sequence-unsafe, sequence-second, sequence-carried, block-declaration, block-unsafe, more-held, block-inside, block-carried, call-there, call-unsafe, function-inside, call-carried}
 use Rattle.ranges.proofs.TestLaws.{value-there, value-low, value-unsafe, value-known, value-carried}
 use Rattle.ranges.proofs.commands.command.Reads as command

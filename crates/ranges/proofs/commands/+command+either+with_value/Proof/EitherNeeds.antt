@@ -3,7 +3,7 @@ use Prim.Native.Nat.{ℕ}
 use mathlib.Core.Path.{refl, sym, _∙_}
 use native.Mathlib.Omega.{arith}
 use borrow.Author.Needs.{needs}
-use Rattle.ranges.proofs.FrameLaws.{keeps-then, keeps-fewer}
+use Rattle.carrying.proofs.FrameLaws.{keeps-then, keeps-fewer}
 use Rattle.ranges.proofs.BothLaws.{test-low, cells-few, first-low, first-there, first-unsafe, kept-twice, second-there, second-unsafe, both-carried}
 use Rattle.ranges.proofs.commands.either.Reads as either
 use Rattle.ranges.proofs.commands.+command+either+with_value.Lts-either as either-lts

@@ -7,7 +7,7 @@ use native.Mathlib.Omega.{arith}
 use borrow.Author.Needs.{needs}
 use Rattle.reader.specs.Pack.{packed-end}
 use Rattle.reader.specs.StandingLaws.{command-low}
-use Rattle.ranges.proofs.FrameLaws.{keeps-fewer}
+use Rattle.carrying.proofs.FrameLaws.{keeps-fewer}
 use Rattle.ranges.proofs.TestLaws.{assign-there, assign-tested}
 use Rattle.ranges.proofs.TestLaws as TestLaws
 use Rattle.ranges.proofs.commands.with_value.Reads as with-value
