@@ -1,8 +1,8 @@
 -- The cells copied, exchanged with their copy, and widened by it, one cell after the other: what is done so far, and that the others are as they were.
-use Prim.Native.Nat.{ℕ, suc, _+_, _<_, _≤_}
+use Prim.Native.Nat.{ℕ, _+_, _<_, _≤_}
 use mathlib.Core.Path.{_≡_, refl, sym, ap, _∙_, subst}
 use mathlib.Core.List.{List}
-use mathlib.Core.Option.{Option, none, some, Option·some-injective}
+use mathlib.Core.Option.{none, some}
 use mathlib.Core.Bool.{Bool, true, false, cond}
 use native.Mathlib.Omega.{arith}
 use lib.Dec.{eqb}
@@ -14,7 +14,7 @@ use Rattle.rules.specs.paper.Carried.{Carried, numbers, truths, location, wider
 use Rattle.intervals.specs.Values.{HoldsValue, holds-numbers, holds-truths, holds-location}
 use Rattle.intervals.specs.declared.values.Value.{Value}
 use Rattle.carrying.specs.Layout.{kept-words, cell-sorts, cell-lows, cell-highs, cell-value, kept-value}
-use Rattle.carrying.specs.Frames.{Keeps, SetCell, Copied, Exchanged, Widened}
+use Rattle.carrying.specs.Frames.{SetCell, Copied, Exchanged, Widened}
 use Rattle.carrying.proofs.FrameLaws.{set-keeps, keeps-all, keeps-then}
 use Rattle.carrying.proofs.StateLaws.{holds-same, same-parts, cell-elsewhere}
 

@@ -109,17 +109,15 @@ module _ (words : List ℕ) (environment node which : ℕ) (known : which ≡ pa
         by r (valref l w) = absurd (omega (arith, high, known, kind-is w (omega arith)))
         by r (binary {d = d} {k = m} {o = o} {e₂ = e₂} w a b) =
             let end = expression-end (child-place a) in
-            let second = subst (λ i. StoredExpression words d i m e₂) (sym end) b in
-            (
+            let second = subst (λ i. StoredExpression words d i m e₂) (sym end) b in (
               a-binary (known ∙ kind-is w (operator-low o)) (record { depth = d; next = _; tree = child-place a; sees = there .sees }) (record { depth = d; next = m; tree = second; sees = there .sees })
-              (smaller r (expression-root second) (omega (arith, end, expression-on a)) (expression-on second) (omega arith)),
+                  (smaller r (expression-root second) (omega (arith, end, expression-on a)) (expression-on second) (omega arith)),
               smaller r (expression-root (child-place a)) (omega arith) (expression-on (child-place a)) (omega (arith, expression-on b)),
             )
-        by r (negation {d = d} w a) =
-            (
-              a-negation (known ∙ kind-is w (omega arith)) (record { depth = d; next = _; tree = child-place a; sees = there .sees }),
-              smaller r (expression-root (child-place a)) (omega arith) (expression-on (child-place a)) (omega arith),
-            )
+        by r (negation {d = d} w a) = (
+          a-negation (known ∙ kind-is w (omega arith)) (record { depth = d; next = _; tree = child-place a; sees = there .sees }),
+          smaller r (expression-root (child-place a)) (omega arith) (expression-on (child-place a)) (omega arith),
+        )
 
     pub first-child : SomeExpression words environment node → SomeExpression words environment (node + 1) × (subtree-size words (node + 1) < subtree-size words node)
     unfolding carry-expression
@@ -164,11 +162,10 @@ module _ (words : List ℕ) (environment node which : ℕ) (known : which ≡ pa
       second-child s = by (inner (s .3) .0) (s .4)
         where
           by : {e : Expression} → Inner (s .1) (s .2) e → Fits (carry-expression (s .1) (s .2) e) → SomeExpression words environment next × (subtree-size words next < subtree-size words node)
-          by (a-binary {o = o} {e₁ = e₁} {e₂ = e₂} q a b l) fits =
-              (
-                (e₂, s .1, s .2, moved b, fits-second),
-                subst (λ i. subtree-size words i < subtree-size words node) (sym place) l,
-              )
+          by (a-binary {o = o} {e₁ = e₁} {e₂ = e₂} q a b l) fits = (
+            (e₂, s .1, s .2, moved b, fits-second),
+            subst (λ i. subtree-size words i < subtree-size words node) (sym place) l,
+          )
             where
               fits-second : Fits (carry-expression (s .1) (s .2) e₂)
               fits-second never =

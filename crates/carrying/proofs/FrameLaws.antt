@@ -1,15 +1,14 @@
 -- Rows and cells written in the work words: what a write puts, what it leaves alone, and that what is left alone of two writes in turn is left alone.
 use Prim.Native.Nat.{ℕ, _+_, _<_, _≤_}
-use mathlib.Core.Path.{_≡_, refl, sym, ap, _∙_, subst}
-use mathlib.Core.Logic.{_≢_}
+use mathlib.Core.Path.{_≡_, refl, _∙_}
 use mathlib.Core.List.{List}
 use native.Mathlib.Omega.{arith}
-use lib.ListN.{length, getD, set, length-set}
+use lib.ListN.{length, set, length-set}
 use lib.Seq.{getD-set-same, getD-set-other}
-use Rattle.rules.specs.paper.Limits.{most-nodes, most-bindings, most-cells, names}
+use Rattle.rules.specs.paper.Limits.{most-bindings, most-cells}
 use Rattle.reader.specs.StoredLaws.{SameNodes}
 use Rattle.intervals.specs.declared.values.Value.{Value}
-use Rattle.carrying.specs.Layout.{row-links, row-lows, row-highs, cell-sorts, cell-lows, cell-highs, regions-end, link, cell-value}
+use Rattle.carrying.specs.Layout.{row-links, row-lows, row-highs, cell-sorts, cell-lows, cell-highs, regions-end, link}
 use Rattle.carrying.specs.Frames.{Keeps, KeepsCells, PutRow, PutCell, SetCell}
 
 -- ---- The writes.

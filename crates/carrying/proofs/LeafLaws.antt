@@ -1,32 +1,32 @@
 -- Expressions without children: Num and Boo from their operands, Id, DeRef and ValRef from the row of their name and the cells.
-use Prim.Native.Nat.{ℕ, suc, _-_, _^_, _<_, _≤_}
+use Prim.Native.Nat.{ℕ, suc, _-_, _<_, _≤_}
 use mathlib.Core.Path.{_≡_, refl, sym, ap, _∙_, subst}
 use mathlib.Core.Bool.{Bool, true, false, not}
 use mathlib.Core.List.{List, [], _∷_}
 use mathlib.Core.Option.{Option, none, some, Option·some-injective}
 use native.Mathlib.Omega.{arith}
 use lib.Dec.{T, lt→ltb}
-use lib.IntN.{ℤ, pos}
-use lib.ListN.{length, getD}
+use lib.IntN.{pos}
+use lib.ListN.{getD}
 use Rattle.rules.specs.paper.Limits.{most-cells, most-bindings}
 use Rattle.rules.specs.paper.Limits as Limits
 use Rattle.rules.specs.proofs.Basics.{missing}
 use Rattle.rules.specs.paper.Integers.{in-range, range-bound}
-use Rattle.rules.specs.paper.Tree.{Expression, Num, Boo, Id, DeRef, ValRef, Binary, Not}
-use Rattle.rules.specs.paper.Needs.{Need, Needs}
+use Rattle.rules.specs.paper.Tree.{Expression, Id, DeRef, ValRef}
+use Rattle.rules.specs.paper.Needs.{Needs}
 use Rattle.rules.specs.claims.Listing.{truth-word}
-use Rattle.rules.specs.paper.Carried.{Carried, numbers, truths, location, Carrying, carried, unfit, fitting}
-use Rattle.rules.specs.paper.Carrying.{CarriedCells, CarriedMeaning, a-value, a-function, CarriedName, CarriedNames, carried-at, carried-meaning, value-of, location-in, contents-at, carry-id, located, carry-expression}
+use Rattle.rules.specs.paper.Carried.{Carried, numbers, truths, location, unfit, fitting}
+use Rattle.rules.specs.paper.Carrying.{CarriedCells, CarriedMeaning, a-value, a-function, CarriedNames, carried-at, carried-meaning, value-of, location-in, contents-at, carry-id, located, carry-expression}
 use Rattle.reader.specs.KindNumbers.{num-number, boo-number, id-number, not-number, deref-number, valref-number}
 use Rattle.reader.specs.Pack.{packed-kind, packed-operand}
-use Rattle.reader.specs.Stored.{HasWord, kind-is, operand-is, StoredExpression, num, boo, id, deref, valref, binary, negation}
+use Rattle.reader.specs.Stored.{kind-is, operand-is, StoredExpression, num, boo, id, deref, valref, binary, negation}
 use Rattle.integers.specs.Words.{word-of}
 use Rattle.intervals.specs.Values.{location-sort, flag, HoldsValue, holds-numbers, holds-truths, holds-location, Gives}
 use Rattle.intervals.specs.declared.values.Value.{Value}
 use Rattle.carrying.specs.Layout.{row-value, cell-value}
-use Rattle.carrying.specs.States.{NamesAt, no-names, one-value, one-function, SomeNames, FoundRow, FoundAt, CellsAt, Sees}
+use Rattle.carrying.specs.States.{NamesAt, no-names, one-value, one-function, FoundAt, CellsAt, Sees}
 use Rattle.carrying.specs.Answers.{Fits, IsLeaf, ExpressionThere, SomeLeaf}
-use Rattle.carrying.proofs.StateLaws.{names-few, row-is-value, holds-same, CellThere, cell-there}
+use Rattle.carrying.proofs.StateLaws.{names-few, row-is-value, holds-same, cell-there}
 
 -- ---- The row of a value's name.
 

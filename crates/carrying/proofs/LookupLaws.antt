@@ -1,15 +1,15 @@
 -- Looking for a name along the chain of rows: so far the name was not met, so the names from here on give it the same meaning and need.
-use Prim.Native.Nat.{ℕ, suc, _+_, _-_, _*_, _/_, _%_, _<_, _≤_}
+use Prim.Native.Nat.{ℕ, suc, _+_, _-_, _/_, _%_, _<_, _≤_}
 use mathlib.Core.Path.{_≡_, refl, sym, ap, _∙_, subst}
-use mathlib.Core.Bool.{Bool, true, false, cond}
-use mathlib.Core.List.{List, [], _∷_}
-use mathlib.Core.Option.{Option, none, some, Option·some-injective}
+use mathlib.Core.Bool.{true, false, cond}
+use mathlib.Core.List.{List, _∷_}
+use mathlib.Core.Option.{some, Option·some-injective}
 use native.Mathlib.Omega.{arith}
 use lib.Dec.{T, eqb, eqb→eq, eqb-refl}
 use lib.ListN.{getD}
 use Rattle.rules.specs.paper.Limits.{most-bindings, names}
-use Rattle.rules.specs.paper.Needs.{Need, NameNeed, Needs, nothing, need-of}
-use Rattle.rules.specs.proofs.Basics.{missing, passed-test, true-test, false-test}
+use Rattle.rules.specs.paper.Needs.{Need, Needs, nothing, need-of}
+use Rattle.rules.specs.proofs.Basics.{missing, true-test, false-test}
 use Rattle.rules.specs.paper.Carrying.{CarriedMeaning, CarriedName, CarriedNames, carried-meaning}
 use Rattle.reader.specs.StandingLaws.{bound-on}
 use Rattle.intervals.specs.declared.values.Value.{Value}
@@ -135,8 +135,8 @@ module _ (words : List ℕ) (environment x at : ℕ) (some-names : SomeNames wor
       let is-name : p .name ≡ x = sym (link-name p) ∙ met in
       let equal : eqb (p .name) x ≡ true = true-test (eqb (p .name) x) (subst (λ y. T (eqb (p .name) y)) is-name (eqb-refl (p .name))) in
       let meaning-is : p .meaning ≡ m =
-          Option·some-injective (p .meaning) m
-          (sym (ap (carried-meaning x) (p .names-are) ∙ ap (λ t. cond t (some (p .meaning)) (carried-meaning x (p .others))) equal) ∙ sym (w .same-meaning) ∙ found) in
+      Option·some-injective (p .meaning) m
+      (sym (ap (carried-meaning x) (p .names-are) ∙ ap (λ t. cond t (some (p .meaning)) (carried-meaning x (p .others))) equal) ∙ sym (w .same-meaning) ∙ found) in
       let need-is : p .need ≡ need-of x N = sym (w .same-need ∙ ap (need-of x) (p .needs-are) ∙ ap (λ t. cond t (p .need) (need-of x (p .other-needs))) equal) in
       record {
         others = p .others;

@@ -1,7 +1,6 @@
 -- What falls from call to call: for an expression the size of its tree, for a command how far its tree reaches. A function ends at the node of its
 -- call or before, so a call goes back in the tree, and a child reaches no further than its node and begins after it.
-use Prim.Native.Nat.{ℕ, suc, _+_, _*_, _-_, _<_, _≤_}
-use mathlib.Core.Path.{_≡_}
+use Prim.Native.Nat.{ℕ, _+_, _*_, _-_, _<_, _≤_}
 use mathlib.Core.List.{List}
 use native.Mathlib.Omega.{arith}
 use lib.ListN.{getD}

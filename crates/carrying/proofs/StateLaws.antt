@@ -5,12 +5,12 @@ use mathlib.Core.Bool.{Bool, true, false, cond}
 use mathlib.Core.List.{List, [], _∷_}
 use mathlib.Core.Option.{Option, none, some, Option·some-injective}
 use native.Mathlib.Omega.{arith}
-use lib.Dec.{T, eqb, eqb→eq, eqb-refl}
+use lib.Dec.{eqb, eqb→eq}
 use lib.ListN.{length, getD, drop}
 use Rattle.rules.specs.paper.Limits.{most-bindings, most-cells, names}
 use Rattle.rules.specs.paper.Needs.{Needs}
-use Rattle.rules.specs.proofs.Basics.{missing, passed-test, true-test, false-test}
-use Rattle.rules.specs.paper.Carried.{Carried, numbers, truths, location, wider}
+use Rattle.rules.specs.proofs.Basics.{missing, passed-test}
+use Rattle.rules.specs.paper.Carried.{Carried, wider}
 use Rattle.rules.specs.paper.Carrying.{CarriedCells, CarriedNames, carried-at, carry-to, oldest-cells, wider-cells, one-cell-more, same-sort}
 use Rattle.reader.specs.StoredLaws.{same-bound}
 use Rattle.intervals.specs.Values.{HoldsValue, holds-numbers, holds-truths, holds-location}
@@ -101,7 +101,6 @@ sort-small (holds-truths s l h) = omega (arith, s)
 sort-small (holds-location s l h) = omega (arith, s)
 
 -- ---- Cells.
-
 
 pub cells-kept : {words words′ : List ℕ} {b n m : ℕ} {K : CarriedCells} → Keeps words words′ b n → KeepsCells words words′ n → m ≤ n → CellsAt words m K → CellsAt words′ m K
 cells-kept kept cells h no-cells = no-cells

@@ -5,13 +5,11 @@ use mathlib.Core.Path.{_≡_}
 use mathlib.Core.List.{List, [], _∷_, _++_}
 use mathlib.Core.Option.{some}
 use lib.ListN.{length}
-use Rattle.rules.specs.paper.Limits.{most-bindings, most-cells}
-use Rattle.rules.specs.paper.Tree.{Expression, Num, Boo, Id, DeRef, ValRef, Binary, Not, Formal, Command, Assign, Call, Cond, block, Block, Declaration, Bind, Bound}
+use Rattle.rules.specs.paper.Limits.{most-bindings}
+use Rattle.rules.specs.paper.Tree.{Expression, Num, Boo, Id, DeRef, ValRef, Binary, Not, Formal, Command, Call, Block, Declaration, Bind, Bound}
 use Rattle.rules.specs.paper.Needs.{Needs, cells-left, bindings-left, over-formals, command-need, block-need, declaration-need, names-given}
-use Rattle.rules.specs.paper.Carried.{Carried, truths, Carrying, carried, unsafe, unfit}
-use Rattle.rules.specs.paper.Carrying.{CarriedCells, CarriedNames, CarriedDeclared, carried-meaning, value-of, location-in, carry-formals, carry-expression, carry-actuals, carry-assign, carry-command, carry-block, carry-declaration}
-use mathlib.Core.Bool.{true}
-use Rattle.reader.specs.KindNumbers.{assign-number, conditional-number}
+use Rattle.rules.specs.paper.Carried.{Carried, Carrying, carried, unsafe, unfit}
+use Rattle.rules.specs.paper.Carrying.{CarriedCells, CarriedNames, CarriedDeclared, carry-formals, carry-expression, carry-actuals, carry-command, carry-block, carry-declaration}
 use Rattle.reader.specs.Stored.{StoredExpression, StoredActuals, StoredFormals, StoredCommand, StoredBlock, StoredDeclaration}
 use Rattle.intervals.specs.Values.{HoldsValue, Gives, ExpressedAs}
 use Rattle.intervals.specs.declared.values.Value.{Value}

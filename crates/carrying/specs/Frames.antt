@@ -1,11 +1,11 @@
 -- What is left alone: the tree, the rows of so many bindings, the sorts of so many cells, and the words beyond the regions; and, for what sets no
 -- cell, the cells' words.
-use Prim.Native.Nat.{ℕ, suc, _+_, _<_, _≤_}
+use Prim.Native.Nat.{ℕ, _+_, _<_, _≤_}
 use mathlib.Core.Path.{_≡_}
 use mathlib.Core.List.{List}
 use lib.ListN.{length, getD}
 use mathlib.Core.Option.{some}
-use Rattle.rules.specs.paper.Limits.{most-nodes, most-bindings, most-cells, names}
+use Rattle.rules.specs.paper.Limits.{most-nodes, most-bindings, most-cells}
 use Rattle.rules.specs.paper.Carried.{Carried, wider}
 use Rattle.intervals.specs.Values.{HoldsValue}
 use Rattle.intervals.specs.declared.values.Value.{Value}

@@ -1,10 +1,9 @@
 -- What follows from an answer: where carrying went through, what it left; where it is unsafe, that whatever goes on is unsafe there too. And room for a
 -- part where there is room for the whole, and what stands in the work words later.
-use Prim.Native.Nat.{ℕ, _+_, _≤_, max}
+use Prim.Native.Nat.{ℕ, _+_, _≤_}
 use mathlib.Core.Path.{_≡_, refl, sym, ap, _∙_, subst}
-use mathlib.Core.List.{List, [], _∷_, _++_}
+use mathlib.Core.List.{List, _∷_}
 use native.Mathlib.Omega.{arith}
-use Rattle.rules.specs.paper.Limits.{most-bindings, most-cells}
 use Rattle.rules.specs.paper.Needs.{Figure, bindings, cells, Need, Needs, in-turn}
 use Rattle.rules.specs.paper.Carried.{Carrying, carried, unsafe, unfit, _>>=_}
 use Rattle.rules.specs.paper.Carrying.{CarriedCells, CarriedNames, CarriedDeclared}

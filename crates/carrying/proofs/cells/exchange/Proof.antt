@@ -4,7 +4,6 @@ use lib.ListN.{getD, length-set}
 use Rattle.carrying.specs.Layout.{cell-lows}
 use mathlib.Core.Path.{refl}
 use native.Mathlib.Omega.{arith}
-use denote.Ref.{now}
 use Rattle.carrying.proofs.CopyLaws.{ExchangedSoFar, none-exchanged, one-more-exchanged, all-exchanged}
 use Rattle.carrying.proofs.cells.exchange.Statement.{statement}
 use Rattle.carrying.proofs.cells.exchange.Tie as tie

@@ -32,8 +32,7 @@ same-length c = search needs
 returns : tie.Need-returns
 returns c =
     let start = c .before .before .before .before .before .before .before .before .before .before .before in
-    let small = cell-low _ _ _ _ _ _ (c .before .before .before .before .before .before .before .before .operand .ensures) (c .before .before .before .before .before .before .find .ensures .0) _ (c .before .before .before .before .row-value .ensures) (start .pre .1) in
-    (
+    let small = cell-low _ _ _ _ _ _ (c .before .before .before .before .before .before .before .before .operand .ensures) (c .before .before .before .before .before .before .find .ensures .0) _ (c .before .before .before .before .row-value .ensures) (start .pre .1) in (
       assign-carried _ _ _ _ _ _ (c .before .before .before .before .before .before .before .before .operand .ensures) (c .before .before .before .before .before .before .find .ensures .0) _ (c .before .before .before .before .row-value .ensures) _ (c .before .before .set-cell .ensures),
       set-keeps small (c .before .before .set-cell .ensures),
     )

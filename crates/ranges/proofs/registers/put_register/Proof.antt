@@ -19,8 +19,7 @@ same-length c = search needs
 
 returns : tie.Need-returns
 returns c =
-    let start = c .before .before .before .before .before .before .before .before .before in
-    (
+    let start = c .before .before .before .before .before .before .before .before .before in (
       register-put _ _ _ _ _ _ (start .pre .1) (start .fits .low .fits) (start .fits .high .fits) (c .before .before .before .before .before .before .put-row .ensures) (c .before .before .put-cell .ensures),
       register-keeps _ _ _ _ _ _ (start .pre .1) (start .fits .low .fits) (start .fits .high .fits) (c .before .before .before .before .before .before .put-row .ensures) (c .before .before .put-cell .ensures),
     )

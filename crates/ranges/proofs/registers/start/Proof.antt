@@ -50,8 +50,7 @@ loop-again : tie.Need-loop-again Inv-loop μ-loop
 loop-again c =
     let start = c .before .before .before .before .before .before .before .before .before .before .before in
     let so-far = c .before .before .before .before .before .before .before .loop .inv in
-    let less = c .before .before .before .before .before .before .loop-test .taken in
-    (
+    let less = c .before .before .before .before .before .before .loop-test .taken in (
       omega (arith, less),
       c .before .before .put-register .ensures .0 _ _ less (omega (arith, less, start .pre .1 .1)) refl refl (so-far .1),
       keeps-then (so-far .2) (c .before .before .put-register .ensures .1),
