@@ -36,3 +36,8 @@ pub fn needs_refused(number: u32, place: Place) -> Needs {
 pub fn page_refused(number: u32, place: Place) -> Result<(), Refusal> {
     Err(Refusal::new(number, place))
 }
+
+/// What the ranges are refused with.
+pub fn ends_refused(number: u32, place: Place) -> Result<Vec<(i64, i64)>, Refusal> {
+    Err(Refusal::new(number, place))
+}
