@@ -2,12 +2,18 @@
 //! go by the room figures of the needs.
 
 use crate::helpers::*;
+use crate::towers::tower;
 use second::both_ways::{both_ways, BothWays};
 use second::build::*;
+use second::encode;
+use second::engine::WORK_WORDS;
+use second::generate::steps::of_steps;
+use second::generate::tower::Layer;
 use second::needs::{Needs, Steps, MOST_STEPS};
 use second::reader::read;
 use second::state::Heights;
 use second::tree::*;
+use second::Refusal;
 
 fn set() -> Command {
     assign(0, num(1))
@@ -54,31 +60,6 @@ fn without_a_choice_the_needs() {
         let expected = given(room.control, room.values, room.cells, room.bindings, steps);
         assert_eq!(needed_tree(1, root), expected);
     }
-}
-
-/// A command of exactly so many steps: within 15 functions that call the one before twice as
-/// many Calls as go in, and Assigns for the rest. A Call of the n-th has 22 × 2^(n − 1) − 10.
-fn of_steps(steps: u64) -> Command {
-    const FUNCTIONS: Name = 15;
-    let steps_of_call = |name: Name| (22 << (name - 1)) - 10;
-    let mut left = steps - 6 * u64::from(FUNCTIONS) - 3;
-    let mut all = vec![set()];
-    for name in (1..=FUNCTIONS).rev() {
-        while left >= steps_of_call(name) + 1 + 3 * 7 {
-            left -= steps_of_call(name) + 1;
-            all.push(once(name));
-        }
-    }
-    while left > 0 {
-        let longer = !left.is_multiple_of(4);
-        left -= if longer { 7 } else { 4 };
-        all.push(if longer { assign(0, sum(num(1), num(0))) } else { set() });
-    }
-    let doubling = |name: Name| match name {
-        1 => function(1, set()),
-        _ => function(name, cseq(once(name - 1), once(name - 1))),
-    };
-    (1..=FUNCTIONS).rev().fold(commands(all), |command, name| blk(doubling(name), command))
 }
 
 const STARTS: [(i64, i64); 1] = [(5, 9)];
@@ -203,5 +184,31 @@ fn room_of_a_command_that_is_not_carried() {
         // A function that no one calls adds nothing.
         let idle = bind_abs(4, &[], block(bind(63, num(0)), blocks(count, cells, set())));
         assert_eq!(refusal_of(blk(idle, set())), None);
+    }
+}
+
+/// Entries of either stack, by what runs on a tower: values before control where both pass.
+#[test]
+fn entries_of_both_stacks() {
+    let pair = || assign(0, sum(num(1), num(1)));
+    for (values, control, inner, expected) in [
+        (510, 400, set(), None),
+        (510, 400, pair(), Some(35)),
+        (100, 511, set(), None),
+        (100, 512, set(), Some(36)),
+        (510, 511, set(), None),
+        (510, 512, pair(), Some(35)),
+        (510, 512, set(), Some(36)),
+    ] {
+        for layers in [0, 3] {
+            let mut tower = tower(values, control, inner.clone());
+            // A Cond holds nothing of either stack while its commands are carried.
+            for place in 0..layers {
+                tower.layers.insert(20 * place, Layer::Choice { first: place == 1 });
+            }
+            let image = encode(&tower.routine());
+            let refusal = ends_with(&image, &STARTS, WORK_WORDS).err();
+            assert_eq!(refusal, expected.map(Refusal::whole), "{values}, {control}");
+        }
     }
 }
