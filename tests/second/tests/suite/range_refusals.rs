@@ -4,7 +4,7 @@
 use crate::helpers::*;
 use crate::refused_images::refused_images;
 use second::build::*;
-use second::engine::{ranges, WORK_WORDS};
+use second::engine::WORK_WORDS;
 use second::tree::*;
 use second::Refusal;
 
@@ -49,11 +49,11 @@ fn in_their_order() {
     let all = |command| cseq(command, cseq(unsafe_quotient(), cells(300)));
     let long = || all(doubling());
     let looped = || idle_loop(long());
-    let (fit, crossed): (&[(i64, i64)], &[(i64, i64)]) = (&[(0, 9)], &[(9, 0)]);
+    let (fit, crossed) = ([(0, 9)], [(9, 0)]);
     let with = |root: Command, starts: &[(i64, i64)], work_length| {
         ends_with(&image(1, root), starts, work_length)
     };
-    for starts in [&[], fit, crossed, &[(9, 0), (9, 0)]] {
+    for starts in [&[][..], &fit, &crossed, &[(9, 0), (9, 0)]] {
         for work_length in [0, 1, FEW] {
             assert_eq!(with(looped(), starts, work_length), ends_refused(22, 0));
         }
@@ -64,15 +64,15 @@ fn in_their_order() {
     for work_length in [WORK_WORDS, WORK_WORDS + 1, 3 * WORK_WORDS] {
         assert_eq!(with(looped(), &[], work_length), ends_refused(20, 0));
         assert_eq!(with(looped(), &[(9, 0), (9, 0)], work_length), ends_refused(20, 0));
-        assert_eq!(with(looped(), crossed, work_length), ends_refused(42, 0));
-        assert_eq!(with(looped(), fit, work_length), ends_refused(43, 0));
-        assert_eq!(with(long(), fit, work_length), ends_refused(40, 0));
+        assert_eq!(with(looped(), &crossed, work_length), ends_refused(42, 0));
+        assert_eq!(with(looped(), &fit, work_length), ends_refused(43, 0));
+        assert_eq!(with(long(), &fit, work_length), ends_refused(40, 0));
         assert_eq!(
-            with(cseq(unsafe_quotient(), cells(300)), fit, work_length),
+            with(cseq(unsafe_quotient(), cells(300)), &fit, work_length),
             ends_refused(33, 0)
         );
-        assert_eq!(with(unsafe_quotient(), fit, work_length), ends_refused(44, 1));
-        assert_eq!(with(assign(0, id(0)), fit, work_length), Ok(vec![(0, 9)]));
+        assert_eq!(with(unsafe_quotient(), &fit, work_length), ends_refused(44, 1));
+        assert_eq!(with(assign(0, id(0)), &fit, work_length), Ok(vec![(0, 9)]));
     }
 }
 
@@ -94,8 +94,8 @@ fn either_list_is_20() {
         let root = if registers == 0 { Root::Expression(num(1)) } else { assign(0, num(1)).into() };
         let image = image(registers, root);
         for (low, high) in (0..20).flat_map(|low| (0..20).map(move |high| (low, high))) {
-            let (mut lowest, mut highest) = (vec![5; low], vec![4; high]);
-            let answer = ranges(&image, &mut lowest, &mut highest, WORK_WORDS);
+            let (answer, lowest, highest) =
+                ranges_over(&image, &vec![5; low], &vec![4; high], WORK_WORDS);
             let fits = low == registers as usize && high == registers as usize;
             let number = if !fits { 20 } else { 42 };
             let expected =

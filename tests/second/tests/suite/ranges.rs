@@ -171,14 +171,13 @@ fn every_two_small_ranges() {
     {
         let pairs =
             || (left.0..=left.1).flat_map(|one| (right.0..=right.1).map(move |other| (one, other)));
-        let floor = |(one, other): (i64, i64)| (one as f64 / other as f64).floor() as i64;
-        let numbers: [(Operator, &dyn Fn((i64, i64)) -> i64); 4] = [
-            (Sum, &|(one, other)| one + other),
-            (Sub, &|(one, other)| one - other),
-            (Mul, &|(one, other)| one * other),
-            (Div, &floor),
-        ];
-        for (operator, result) in numbers {
+        for operator in [Sum, Sub, Mul, Div] {
+            let result = |(one, other): (i64, i64)| match operator {
+                Sum => one + other,
+                Sub => one - other,
+                Mul => one * other,
+                _ => (one as f64 / other as f64).floor() as i64,
+            };
             let found = operate(operator, carried(left), carried(right));
             if operator == Div && (right.0..=right.1).contains(&0) {
                 assert_eq!(found, Err(Unsafe));
@@ -188,9 +187,14 @@ fn every_two_small_ranges() {
             let greatest = pairs().map(result).max().expect("a pair");
             assert_eq!(found, Ok(carried((least, greatest))), "{operator:?} {left:?} {right:?}");
         }
-        let truths: [(Operator, fn(&i64, &i64) -> bool); 5] =
-            [(Eq, i64::eq), (Lt, i64::lt), (Le, i64::le), (Gt, i64::gt), (Ge, i64::ge)];
-        for (operator, result) in truths {
+        for operator in [Eq, Lt, Le, Gt, Ge] {
+            let result = |one: &i64, other: &i64| match operator {
+                Eq => one == other,
+                Lt => one < other,
+                Le => one <= other,
+                Gt => one > other,
+                _ => one >= other,
+            };
             let is_true = pairs().any(|(one, other)| result(&one, &other));
             let is_false = pairs().any(|(one, other)| !result(&one, &other));
             let expected = Carried::Truths(Truths { is_true, is_false });
@@ -209,14 +213,14 @@ fn every_two_sets_of_truths() {
         is_false: truths.contains(&false),
     };
     let carried = |truths: &[bool]| Carried::Truths(of(truths));
-    let truths: [(Operator, fn(bool, bool) -> bool); 3] = [
-        (And, |one, other| one && other),
-        (Or, |one, other| one || other),
-        (Eq, |one, other| one == other),
-    ];
     for left in sets {
         for right in sets {
-            for (operator, result) in truths {
+            for operator in [And, Or, Eq] {
+                let result = |one, other| match operator {
+                    And => one && other,
+                    Or => one || other,
+                    _ => one == other,
+                };
                 let choices =
                     left.iter().flat_map(|one| right.iter().map(|other| result(*one, *other)));
                 let choices: Vec<bool> = choices.collect();

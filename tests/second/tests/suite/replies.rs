@@ -37,7 +37,9 @@ pub fn page_refused(number: u32, place: Place) -> Result<(), Refusal> {
     Err(Refusal::new(number, place))
 }
 
-/// What the ranges are refused with.
-pub fn ends_refused(number: u32, place: Place) -> Result<Vec<(i64, i64)>, Refusal> {
+/// The lowest and the highest end of each register, or what they are refused with.
+pub type Ends = Result<Vec<(i64, i64)>, Refusal>;
+
+pub fn ends_refused(number: u32, place: Place) -> Ends {
     Err(Refusal::new(number, place))
 }
