@@ -1,4 +1,7 @@
-/* The ranges of a routine, held to its check, its needs and its runs. What is wrong is a fault of the test. */
+/*
+ * The ranges of a routine, held to its check, its needs and its runs. What is wrong is a fault of the
+ * test.
+ */
 #ifndef ENDS_H
 #define ENDS_H
 

@@ -4,7 +4,7 @@
 
 #include <stddef.h>
 
-/* The bytes of the stack that a call takes: from where its thread stood down to the last that was written. */
+/* The bytes of stack that a call takes: from where its thread stood down to the last that was written. */
 size_t stack_used_by(void (*call)(void));
 
 /* Notes a fault where a form takes more than the header's figure, less what it has to spare. */

@@ -2,7 +2,7 @@
  * How much stack a call for ranges takes, against the header's figure. It goes down the tree and, at a
  * Call, into the function; and for every Cond that it is within and whose test may be both it keeps the
  * cells. So the deepest images have Conds in each other through a chain of functions, three nodes a Cond;
- * others have blocks, sequences and Calls with actuals in a chain like that.
+ * others have sequences, blocks, and blocks with Conds in a chain like that.
  */
 #include "tests.h"
 
@@ -36,12 +36,12 @@ static void ranges_words(void)
 /* What a level of a chain is made of, around the next one. */
 typedef struct Level {
     const char *name;
-    void (*before)(Tree *tree, size_t level); /* the nodes before the next level */
-    void (*behind)(Tree *tree);               /* and behind it */
-    size_t nodes;                             /* so many of both */
-    size_t depth;                             /* how much deeper the next level stands */
-    size_t below;                             /* how much deeper a node of this level stands */
-    size_t most;                              /* the most levels of a chain, for its room */
+    void (*before)(Tree *tree); /* the nodes before the next level */
+    void (*behind)(Tree *tree); /* and behind it */
+    size_t nodes;               /* so many of both */
+    size_t depth;               /* how much deeper the next level stands */
+    size_t below;               /* how much deeper the deepest node of this level stands */
+    size_t most;                /* the most levels of a chain, for its room */
 } Level;
 
 static void call_little(Tree *tree)
@@ -54,46 +54,42 @@ static void nothing(Tree *tree)
     (void)tree;
 }
 
-static void choice(Tree *tree, size_t level)
+static void choice(Tree *tree)
 {
-    (void)level;
     tree_add(tree, PI_KIND_COND, 0);
     tree_add(tree, PI_KIND_ID, TRUTH);
 }
 
-static void second_choice(Tree *tree, size_t level)
+static void second_choice(Tree *tree)
 {
-    choice(tree, level);
+    choice(tree);
     call_little(tree);
 }
 
-
-static void sequence(Tree *tree, size_t level)
+static void sequence(Tree *tree)
 {
-    (void)level;
     tree_add(tree, PI_KIND_CSEQ, 0);
     call_little(tree);
 }
 
-static void block(Tree *tree, size_t level)
+static void block(Tree *tree)
 {
-    (void)level;
     tree_add(tree, PI_KIND_BLK, 0);
     tree_add(tree, PI_KIND_BIND, LOCAL);
     tree_add(tree, PI_KIND_NUM, 0);
 }
 
 /* A block with a cell, and a Cond in it. */
-static void block_and_choice(Tree *tree, size_t level)
+static void block_and_choice(Tree *tree)
 {
     tree_add(tree, PI_KIND_BLK, 0);
     tree_add(tree, PI_KIND_BIND, LOCAL);
     tree_add(tree, PI_KIND_REF, 0);
     tree_add(tree, PI_KIND_NUM, 0);
-    choice(tree, level);
+    choice(tree);
 }
 
-/* Conds without end hold no room; a block has two entries of the value stack, of which there are 512. */
+/* A Cond holds no room while its commands are carried; a block holds two of the 512 value entries. */
 static const Level levels[] = {
     {"first commands", choice, call_little, 3, 1, 1, PI_MOST_NODES},
     {"second commands", second_choice, nothing, 3, 1, 1, PI_MOST_NODES},
@@ -108,7 +104,7 @@ static void add_levels(Tree *tree, const Level *level, size_t count, uint32_t ca
     size_t index;
 
     for (index = 0; index < count; index += 1)
-        level->before(tree, index);
+        level->before(tree);
     tree_add(tree, PI_KIND_CALL, PI_OPERAND(called, 0));
     for (index = 0; index < count; index += 1)
         level->behind(tree);
@@ -134,8 +130,8 @@ static size_t fitting(const Level *level, size_t depth)
 
 /*
  * A chain: each function's Blk has levels around a Call of the one before it, the first around a Call of
- * the little one, and the root's around a Call of the last. DSeqs in each other hold the functions, so the
- * later ones stand deeper. As many levels as go in are there; how many is the answer.
+ * the little one, and the root's around a Call of the last. DSeqs in each other hold the functions, so
+ * the later ones stand deeper. As many levels as go in are there; how many is the answer.
  */
 static size_t tree_of_chain(Tree *tree, const Level *level)
 {
@@ -194,6 +190,7 @@ static size_t tree_of_chain(Tree *tree, const Level *level)
 void test_stack_of_ranges(void)
 {
     static Tree tree;
+    const char *worst = "";
     size_t index, most = 0, deepest = 0;
 
     /* A memory checker has stacks of its own. */
@@ -209,12 +206,13 @@ void test_stack_of_ranges(void)
         if (reply.refusal != PI_REFUSAL_NONE || lowest[0] != 7)
             test_fault("a chain of %s is refused with %lu at %lu", levels[index].name,
                        (unsigned long)reply.refusal, (unsigned long)reply.place);
-        if (taken > most)
+        if (taken > most) {
             most = taken;
-        if (count > deepest)
             deepest = count;
+            worst = levels[index].name;
+        }
     }
     stack_fits("ranges", most, PI_STACK_RANGES);
-    test_end_with("ranges take %lu bytes, with up to %lu levels", (unsigned long)most,
-                  (unsigned long)deepest);
+    test_end_with("ranges take %lu bytes, with %lu levels of %s", (unsigned long)most,
+                  (unsigned long)deepest, worst);
 }

@@ -4,8 +4,9 @@
 //! and shares nothing with the engine it is held against. Data flows one way:
 //!
 //! words → [`reader`] → tree → [`checker`] → [`execution`] (states, rules,
-//! limits), [`needs`] (free runs), [`page`] (the tree line by line) and [`ranges`] (registers
-//! known only within limits) → [`engine`] (the host's calls) → [`bytes`] (the same on bytes) and [`program`] (bytes to text).
+//! limits), [`needs`] (free runs), [`page`] (the tree line by line) and [`ranges`]
+//! (registers known only within limits) → [`engine`] (the host's calls) → [`bytes`] (the
+//! same on bytes) and [`program`] (bytes to text).
 //!
 //! Beside that stand what test programs need: [`build`] to write a tree down,
 //! [`encode`] to turn it into an image, [`show`] to print it, [`generate`] to make
