@@ -1,8 +1,9 @@
 /*
  * How much stack a call for ranges takes, against the header's figure. It goes down the tree and, at a
  * Call, into the function; and for every Cond that it is within and whose test may be both it keeps the
- * cells. So the deepest images have Conds in each other through a chain of functions, three nodes a Cond;
- * others have sequences, blocks, and blocks with Conds in a chain like that.
+ * cells. So the deepest images have Conds in each other through a chain of functions. A Cond has three
+ * nodes at least, so none has more than 666; here are 644, with as few other nodes as can be. Others have
+ * sequences, blocks, and blocks with Conds in such a chain.
  */
 #include "tests.h"
 
@@ -12,13 +13,17 @@
 #include "report.h"
 #include "trees.h"
 
-/* Names: a truth that may be both, a function that does little, and the first of the chain. */
+/* Names: a truth that may be both, a function that does little, and one that no node uses. */
 #define TRUTH 60
 #define LITTLE 61
 #define LOCAL 62
-#define FIRST 1
-/* The most functions of a chain. */
-#define FUNCTIONS 30
+/* Two groups of functions, and the first names of each; so many functions go into each other. */
+#define GROUPS 2
+#define MOST_FUNCTIONS 19
+#define FIRST_NAME(group) (1 + MOST_FUNCTIONS * (uint32_t)(group))
+/* The depths of the root's command and of a group's first; each function within stands 3 deeper. */
+#define ROOT_DEPTH 2
+#define GROUP_DEPTH 7
 
 static uint32_t image[IMAGE_ROOM];
 static size_t image_length;
@@ -110,81 +115,120 @@ static void add_levels(Tree *tree, const Level *level, size_t count, uint32_t ca
         level->behind(tree);
 }
 
-static void add_function(Tree *tree, uint32_t name)
-{
-    tree_add(tree, PI_KIND_BIND, name);
-    tree_add(tree, PI_KIND_ABS, 0);
-    tree_add(tree, PI_KIND_BLK, 0);
-    tree_add(tree, PI_KIND_BIND, LOCAL);
-    tree_add(tree, PI_KIND_NUM, 0);
-}
-
 /* As many levels as go below a command at this depth, and a Call below them. */
 static size_t fitting(const Level *level, size_t depth)
 {
     size_t for_the_call = (PI_MOST_DEPTH - depth) / level->depth;
-    size_t for_the_last = (PI_MOST_DEPTH - level->below - depth) / level->depth + 1;
+    size_t for_the_last = (PI_MOST_DEPTH + level->depth - level->below - depth) / level->depth;
 
     return for_the_call < for_the_last ? for_the_call : for_the_last;
 }
 
+/* The nodes that are no levels: 16 around the groups, 2 in each, and 4 for each function. */
+static size_t overhead(size_t functions)
+{
+    return 16 + GROUPS * (2 + 4 * functions);
+}
+
+/* A chain as it is planned: so many functions in each group, and how many levels each has. */
+typedef struct Plan {
+    size_t functions;
+    size_t root;
+    size_t counts[GROUPS][MOST_FUNCTIONS];
+    size_t total;
+} Plan;
+
+static size_t least(size_t one, size_t other)
+{
+    return one < other ? one : other;
+}
+
+/* As many levels as go in where each group has so many functions, the outermost ones first. */
+static Plan planned(const Level *level, size_t functions)
+{
+    size_t left = least((PI_MOST_NODES - overhead(functions)) / level->nodes, level->most);
+    size_t group = GROUPS, index;
+    Plan plan;
+
+    plan.functions = functions;
+    plan.total = left;
+    plan.root = least(left, fitting(level, ROOT_DEPTH));
+    left -= plan.root;
+    /* The last group is called first. */
+    while (group > 0) {
+        group -= 1;
+        for (index = 0; index < functions; index += 1) {
+            plan.counts[group][index] = least(left, fitting(level, GROUP_DEPTH + 3 * index));
+            left -= plan.counts[group][index];
+        }
+    }
+    plan.total -= left;
+    return plan;
+}
+
+/* The plan with the most levels. */
+static Plan best(const Level *level)
+{
+    Plan found = planned(level, 1);
+    size_t functions;
+
+    for (functions = 2; functions <= MOST_FUNCTIONS; functions += 1) {
+        Plan other = planned(level, functions);
+
+        if (other.total > found.total)
+            found = other;
+    }
+    return found;
+}
+
 /*
- * A chain: each function's Blk has levels around a Call of the one before it, the first around a Call of
- * the little one, and the root's around a Call of the last. DSeqs in each other hold the functions, so
- * the later ones stand deeper. As many levels as go in are there; how many is the answer.
+ * A group: functions each declared in the Blk of the one before it, which calls it from within its
+ * levels. The last one calls the function of the name that is given.
  */
+static void add_group(Tree *tree, const Level *level, const Plan *plan, size_t group, uint32_t called)
+{
+    uint32_t name = FIRST_NAME(group);
+    size_t index;
+
+    for (index = 0; index < plan->functions; index += 1) {
+        tree_add(tree, PI_KIND_BIND, name + (uint32_t)index);
+        tree_add(tree, PI_KIND_ABS, 0);
+        tree_add(tree, PI_KIND_BLK, 0);
+    }
+    tree_add(tree, PI_KIND_BIND, LOCAL);
+    tree_add(tree, PI_KIND_NUM, 0);
+    while (index > 0) {
+        add_levels(tree, level, plan->counts[group][index - 1],
+                   index == plan->functions ? called : name + (uint32_t)index);
+        index -= 1;
+    }
+}
+
+/* A chain through both groups, with as many levels as go in; how many is the answer. */
 static size_t tree_of_chain(Tree *tree, const Level *level)
 {
-    /* The root's Blk, the truth, the little function and their DSeqs; its Call. */
-    size_t left = PI_MOST_NODES - 1 - 4 - 7 - 2 - 1;
-    size_t most = level->most;
-    size_t counts[FUNCTIONS + 1];
-    size_t index, functions = 0, total = 0;
+    Plan plan = best(level);
 
-    /* The root's first. */
-    counts[0] = fitting(level, 2);
-    if (counts[0] * level->nodes > left)
-        counts[0] = left / level->nodes;
-    left -= counts[0] * level->nodes;
-    most -= counts[0] < most ? counts[0] : most;
-    /* A function has a DSeq, its five nodes and its Call besides. */
-    for (index = 1; index <= FUNCTIONS && left > 7 + level->nodes && most > 0; index += 1) {
-        /* Its DSeq, its Bind, its Abs and its Blk are around its command. */
-        size_t count = fitting(level, 2 + 2 + index + 3);
-
-        left -= 7;
-        if (count * level->nodes > left)
-            count = left / level->nodes;
-        if (count > most)
-            count = most;
-        counts[index] = count;
-        left -= count * level->nodes;
-        most -= count;
-        functions = index;
-    }
     tree_clear(tree, 1);
     tree_add(tree, PI_KIND_BLK, 0);
+    tree_add(tree, PI_KIND_DSEQ, 0);
     tree_add(tree, PI_KIND_DSEQ, 0);
     tree_add(tree, PI_KIND_BIND, TRUTH);
     tree_add(tree, PI_KIND_LT, 0);
     tree_add(tree, PI_KIND_ID, 0);
     tree_add(tree, PI_KIND_NUM, 5);
-    for (index = 0; index <= functions; index += 1) {
-        if (index < functions)
-            tree_add(tree, PI_KIND_DSEQ, 0);
-        add_function(tree, index == 0 ? LITTLE : FIRST + (uint32_t)index - 1);
-        if (index == 0) {
-            tree_add(tree, PI_KIND_ASSIGN, 0);
-            tree_add(tree, PI_KIND_NUM, 7);
-        } else {
-            add_levels(tree, level, counts[index],
-                       index == 1 ? LITTLE : FIRST + (uint32_t)index - 2);
-        }
-    }
-    add_levels(tree, level, counts[0], functions == 0 ? LITTLE : FIRST + (uint32_t)functions - 1);
-    for (index = 0; index <= functions; index += 1)
-        total += counts[index];
-    return total;
+    tree_add(tree, PI_KIND_BIND, LITTLE);
+    tree_add(tree, PI_KIND_ABS, 0);
+    tree_add(tree, PI_KIND_BLK, 0);
+    tree_add(tree, PI_KIND_BIND, LOCAL);
+    tree_add(tree, PI_KIND_NUM, 0);
+    tree_add(tree, PI_KIND_ASSIGN, 0);
+    tree_add(tree, PI_KIND_NUM, 7);
+    tree_add(tree, PI_KIND_DSEQ, 0);
+    add_group(tree, level, &plan, 0, LITTLE);
+    add_group(tree, level, &plan, 1, FIRST_NAME(0));
+    add_levels(tree, level, plan.root, FIRST_NAME(1));
+    return plan.total;
 }
 
 void test_stack_of_ranges(void)
