@@ -246,6 +246,8 @@ fn truths_are_not_connected() {
     assert_eq!(truths_of(and(open(), boo(false)), starts), FALSE);
     assert_eq!(truths_of(and(open(), boo(true)), starts), BOTH);
     assert_eq!(truths_of(not(open()), starts), BOTH);
+    assert_eq!(truths_of(not(boo(false)), starts), TRUE);
+    assert_eq!(truths_of(not(or(open(), boo(true))), starts), FALSE);
     assert_eq!(truths_of(eq(boo(false), boo(false)), starts), TRUE);
 }
 

@@ -1,5 +1,6 @@
 //! Ranges: `pi_ranges` held against the second interpreter.
 
+mod deep;
 mod differences;
 mod every_change;
 mod families;
