@@ -174,12 +174,13 @@ static void tree_of_halves(size_t functions)
 /* A Call of function n has 24 x 2^(n - 1) - 12 steps, and each Blk around it 6. */
 static void test_steps(void)
 {
-    size_t functions;
+    static const size_t counts[] = {1, 2, 8, 15, 16, 17, 18, 33, 58};
+    size_t index;
 
     test_begin("ranges, both commands of every Cond count");
-    for (functions = 1; functions <= 58; functions += 1) {
-        tree_of_halves(functions);
-        expect_of_tree(functions <= 16 ? 0 : PI_REFUSAL_TOO_MANY_STEPS, 0);
+    for (index = 0; index < COUNT(counts); index += 1) {
+        tree_of_halves(counts[index]);
+        expect_of_tree(counts[index] <= 16 ? 0 : PI_REFUSAL_TOO_MANY_STEPS, 0);
     }
     test_end();
 }
@@ -206,12 +207,12 @@ static void test_image_first(void)
     test_end();
 }
 
-/* Every count of limits against every count of registers. */
+/* Every count of limits against every count of registers, in either list. */
 static void test_lengths(void)
 {
     static const int64_t zeros[MOST_STARTS] = {0};
     uint32_t registers;
-    size_t lowest, highest;
+    size_t length;
 
     test_begin("ranges, lists of every length");
     for (registers = 0; registers <= PI_MOST_REGISTERS; registers += 1) {
@@ -220,13 +221,13 @@ static void test_lengths(void)
         tree_clear(&tree, registers);
         tree_add(&tree, PI_KIND_NUM, 7);
         call = tree_call(&tree, zeros, image);
-        for (lowest = 0; lowest < MOST_STARTS; lowest += 1) {
-            for (highest = 0; highest < MOST_STARTS; highest += 1) {
-                Ranged ranged = call_ranges(&call, zeros, lowest, zeros, highest);
-                int fits = lowest == registers && highest == registers;
+        for (length = 0; length < MOST_STARTS; length += 1) {
+            uint64_t expected = length == registers ? PI_REFUSAL_NONE : PI_REFUSAL_REGISTERS;
+            Ranged ranged = call_ranges(&call, zeros, length, zeros, registers);
 
-                expect(&ranged, fits ? PI_REFUSAL_NONE : PI_REFUSAL_REGISTERS, 0);
-            }
+            expect(&ranged, expected, 0);
+            ranged = call_ranges(&call, zeros, registers, zeros, length);
+            expect(&ranged, expected, 0);
         }
     }
     test_end();
