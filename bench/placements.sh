@@ -38,6 +38,7 @@ times() { # ARCHIVE'S NUMBER
         /^needs and page/ { table = "beside" }
         /^calls, / { table = "" }
         /^run, / { table = "run" }
+        /^ranges beside run/ { table = "ranges" }
         /^  .*  +[0-9]+( +[0-9.]+)+$/ {
             name = $0
             sub(/  +[0-9]+( +[0-9.]+)+$/, "", name)
@@ -49,6 +50,8 @@ times() { # ARCHIVE'S NUMBER
                 if (!(name in checked)) printf "%d\tcheck, %s\t%s\n", archive, name, $(NF - 4)
                 printf "%d\tneeds, %s\t%s\n", archive, name, $(NF - 3)
                 printf "%d\tpage, %s\t%s\n", archive, name, $(NF - 1)
+            } else if (table == "ranges") {
+                printf "%d\tranges, %s\t%s\n", archive, name, $(NF - 1)
             }
         }'
 }

@@ -1,14 +1,15 @@
 #!/usr/bin/env bash
-# Makes the image of each sample routine, runs it, and compares with the output stored beside it; works out its needs and
-# its page and compares with those stored; and holds the price list, the annex and the service screen to them.
+# Makes the image of each sample routine, runs it, and compares with the output stored beside it; works out its needs, its
+# page and its ranges and compares with those stored; and holds the price list, the annex, the service screen and the tender
+# to them.
 # A part that cannot run counts as failed. The last line is 'N passed, M failed'; the exit status is 0 only when M is 0.
 set -u
 
 help='usage: examples/run.sh [PROGRAM [ARGUMENT..]]
 
 Runs every sample routine and compares what PROGRAM prints with what is stored;
-and compares the needs and the page of each, which the image tool prints, the
-price list, the annex and the service screen.
+and compares the needs, the page and the ranges of each, which the image tool
+prints, the price list, the annex, the service screen and the tender.
 PROGRAM reads an image and its starting values from standard input. It is
 target/bin/pirun if none is named; another one is the second interpreter:
   examples/run.sh tests/second/target/release/second program
@@ -78,6 +79,14 @@ page_as_stored() { # NAME
     "$image" page "examples/$1.pi" >"$made/page" && diff "examples/$1.page" "$made/page"
 }
 
+# The ranges of a routine from its limits, the same way.
+ranges_as_stored() { # NAME
+    local limits
+    limits=$(cat "examples/$1.limits") || return
+    # shellcheck disable=SC2086 # one argument a range
+    "$image" ranges "examples/$1.pi" $limits >"$made/ranges" && diff "examples/$1.ranges" "$made/ranges"
+}
+
 # README.md shows the lines of a file, but for empty ones.
 readme_shows() { # FILE
     local line
@@ -143,6 +152,25 @@ service_screen_as_stored() {
     [ "$first" -gt 0 ] && readme_shows examples/service_screen.out
 }
 
+# The tender, which a C program prints too, has the limits and the ranges that are stored of each routine it names, or why it
+# has none; and README.md shows it.
+tender_as_stored() {
+    local name register starts ends limits rows=0
+    while read -r name register starts ends; do
+        rows=$((rows + 1))
+        if [ "$register" = refused ]; then
+            sed -E 's/^[0-9 ]* at [0-9]+ \((.*)\)$/\1/' <<<"$starts $ends" >"$made/ranges"
+            sed -E 's/^[^ ]* [0-9]+ //' "examples/$name.ranges" | diff - "$made/ranges" || return
+            continue
+        fi
+        grep -qxF "register $register $ends" "examples/$name.ranges" || { echo "$name: register $register $ends"; return 1; }
+        read -r -a limits <"examples/$name.limits"
+        [ "$starts" = "${limits[register]}" ] || [ "$starts" = "${limits[register]}..${limits[register]}" ] ||
+            { echo "$name: register $register starts at $starts"; return 1; }
+    done < <(sed 1d examples/tender.out)
+    [ "$rows" -gt 0 ] && readme_shows examples/tender.out
+}
+
 one_check() { # NAME COMMAND..
     local name=$1
     shift
@@ -155,14 +183,16 @@ one_check() { # NAME COMMAND..
     fi
 }
 
-for name in $(basename -a examples/*.pi examples/*.values examples/*.needs examples/*.page | sed 's/\.[a-z]*$//' | sort -u); do
+for name in $(basename -a examples/*.{pi,values,needs,page,limits,ranges} | sed 's/\.[a-z]*$//' | sort -u); do
     one_check "$name" runs_as_stored "$name"
     one_check "$name, needs" needs_as_stored "$name"
     one_check "$name, page" page_as_stored "$name"
+    one_check "$name, ranges" ranges_as_stored "$name"
 done
 one_check 'price list' price_list_as_stored
 one_check annex annex_as_stored
 one_check 'service screen' service_screen_as_stored
+one_check tender tender_as_stored
 
 echo "$passed passed, $failed failed"
 [ "$failed" -eq 0 ]

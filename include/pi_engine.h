@@ -1,7 +1,7 @@
 /*
  * The Π IR routine engine, for a C host: checks the image of a routine, works out what its runs may
- * need, writes its tree as a page, and runs it over the site's registers. For C99 and later, and C++11
- * and later.
+ * need and between which limits they leave the registers, writes its tree as a page, and runs it over
+ * the site's registers. For C99 and later, and C++11 and later.
  *
  * The target is x86-64 Linux, with the System V calling convention; code for other targets is not
  * made. The static library needs nothing but the C library's memory functions. To make it, and to
@@ -66,7 +66,8 @@
  * pi_check only to know beforehand whether an image passes, pi_needs only to know beforehand how much
  * room and how many steps its runs may take (examples/price_list.c), and pi_page only to print the
  * tree, as on the annex of a contract (examples/annex.c). How near a run came to those needs is shown
- * by examples/service_screen.c.
+ * by examples/service_screen.c. Where the registers are known only within limits, as at tender time,
+ * pi_ranges gives limits of what a run leaves (examples/tender.c).
  *
  * What holds of every call:
  *
@@ -80,10 +81,12 @@
  * - The registers are kept by refusals 1 to 22. Refusals 30 to 36 leave them as before the withheld
  *   step; a run that ends leaves what its last step left.
  * - The page is kept by every refusal of pi_page, and its bytes beyond the last line by every call.
+ * - Both lists of limits are kept by every refusal of pi_ranges.
  * - No memory is used but what is lent and the stack, of which a call takes no more than
- *   PI_STACK_WORD_FORMS or PI_STACK_BYTE_FORMS bytes, whatever the image.
+ *   PI_STACK_WORD_FORMS, PI_STACK_RANGES or PI_STACK_BYTE_FORMS bytes, whatever the image.
  * - Nothing is kept between calls, so calls on different buffers may run at once.
- * - Every call ends: a run makes at most its budget of steps, and the rest goes by the nodes.
+ * - Every call ends: a run makes at most its budget of steps, pi_ranges goes by at most 1,000,000 steps,
+ *   and the rest goes by the nodes.
  */
 #ifndef PI_ENGINE_H
 #define PI_ENGINE_H
@@ -100,9 +103,9 @@ extern "C" {
  * and what changed in which version, is in CHANGELOG.md. PI_VERSION_NUMBER is for #if.
  */
 #define PI_VERSION_MAJOR 8
-#define PI_VERSION_MINOR 0
+#define PI_VERSION_MINOR 1
 #define PI_VERSION_PATCH 0
-#define PI_VERSION "8.0.0"
+#define PI_VERSION "8.1.0"
 #define PI_VERSION_NUMBER (PI_VERSION_MAJOR * 10000 + PI_VERSION_MINOR * 100 + PI_VERSION_PATCH)
 
 /* The work words of 64 bits that a call needs. */
@@ -112,7 +115,8 @@ extern "C" {
 #define PI_MOST_REGISTERS 16
 /* The greatest depth of a node; the root has depth 1. */
 #define PI_MOST_DEPTH 64
-/* The greatest budget of steps, and the greatest figure of steps that pi_needs gives. */
+/* The greatest budget of steps, the greatest figure of steps that pi_needs gives, and the most steps of
+   a routine that pi_ranges gives ends for. */
 #define PI_MOST_BUDGET 1000000
 /* The most live cells (the registers are cells), live bindings, and entries on either stack. */
 #define PI_MOST_CELLS 256
@@ -126,11 +130,13 @@ extern "C" {
 
 /*
  * The most bytes of stack that a call takes, to size a thread's stack with: the word forms, pi_check,
- * pi_run, pi_needs and pi_page; and the byte forms, pi_check_bytes and pi_run_bytes, which lay the words
+ * pi_run, pi_needs and pi_page; pi_ranges, which keeps the cells there for every Cond that it is within
+ * and whose test may be both; and the byte forms, pi_check_bytes and pi_run_bytes, which lay the words
  * out there. What the thread itself and a signal handler take comes on top. The figures are measured
  * with the deepest images (tests/host), not proved, and have 4 KB to spare.
  */
 #define PI_STACK_WORD_FORMS 28672
+#define PI_STACK_RANGES 4194304 /* PI_RANGES_STACK: TO-BE-MEASURED */
 #define PI_STACK_BYTE_FORMS 45056
 
 /*
@@ -213,19 +219,22 @@ typedef enum PiCode {
  * Why a call is refused, one row a refusal: its enumerator, its number, its name, and what it says.
  * A host hands over a macro of four arguments and makes of the rows what it needs: a switch, a table.
  *
- * The place of 3 to 6 and of 10 to 14 is a node, by its number in preorder; the root's is 0. It is
- * the node judged; for 5 the node that may not stand there, or n where a node is missing, or the
+ * The place of 3 to 6, of 10 to 14 and of 44 is a node, by its number in preorder; the root's is 0. It
+ * is the node judged; for 5 the node that may not stand there, or n where a node is missing, or the
  * first of the nodes left over; for 12 the DSeq with a name on both sides, or the Formal that
- * repeats one. The place of 1, 2 and 20 to 41 is 0 and means no node, so look at the refusal first.
+ * repeats one; for 44 the Sum, Sub, Mul or Div. The place of 1, 2 and 20 to 43 is 0 and means no node,
+ * so look at the refusal first.
  *
  * More exactly: 1 is fewer than 2 words, or a length other than 2 + 2n (in bytes: see below); 6 is
  * depth 65; 14 is no function, or one with another count of Formals; 21 and 22 touch nothing. With 30
  * to 36 a step is withheld, and the reply has the steps that were made before it and the high marks up
  * to it; with 30 the steps equal the budget and the routine has not ended. If several of 30 to 36 hold
  * of a step, the first in the order 30, 31, 32, 33, 34, 36, 35 is told: of two full stacks control is
- * named. 40 comes from pi_needs alone: no Loop is in the tree, and the most steps of its runs come out
- * above 1,000,000. 41 comes from pi_page alone: the image passes, and the lent page is shorter than
- * PI_PAGE_BYTES(n).
+ * named. 40 comes from pi_needs and pi_ranges: no Loop is in the tree, and the most steps of its runs,
+ * or for pi_ranges the steps with both commands of every Cond counted, come out above 1,000,000. 41
+ * comes from pi_page alone: the image passes, and the lent page is shorter than PI_PAGE_BYTES(n). 42 to
+ * 44 come from pi_ranges alone, and so do 33 to 36 where no run is made: a figure of room that pi_needs
+ * gives is above its limit, and the lowest number is told.
  */
 #define PI_REFUSAL_LIST(ROW) \
     /* Caused by the maker of the image. */ \
@@ -253,10 +262,15 @@ typedef enum PiCode {
     ROW(PI_REFUSAL_BINDINGS, 34, "bindings", "a 513th binding would be live") \
     ROW(PI_REFUSAL_VALUES, 35, "values", "a 513th entry would be on the value stack") \
     ROW(PI_REFUSAL_CONTROL, 36, "control", "a 513th entry would be on the control stack") \
-    /* Caused by the needs, before any run. */ \
+    /* Caused by the needs or the ranges, before any run. */ \
     ROW(PI_REFUSAL_TOO_MANY_STEPS, 40, "too many steps", "the steps come out above 1,000,000") \
     /* Caused by the host, for the page. */ \
-    ROW(PI_REFUSAL_SHORT_PAGE, 41, "short page", "the page is shorter than 31 bytes a node")
+    ROW(PI_REFUSAL_SHORT_PAGE, 41, "short page", "the page is shorter than 31 bytes a node") \
+    /* Caused by the host and by the routine, for the ranges. */ \
+    ROW(PI_REFUSAL_CROSSED_LIMITS, 42, "crossed limits", "a lowest start is above its highest") \
+    ROW(PI_REFUSAL_LOOP, 43, "loop", "a Loop is in the tree") \
+    ROW(PI_REFUSAL_UNSAFE_ARITHMETIC, 44, "unsafe arithmetic", \
+        "an end leaves the integers, or the divisor's range holds 0")
 
 #define PI_REFUSAL_ENUMERATOR(enumerator, number, name, sentence) enumerator = number,
 typedef enum PiRefusal {
@@ -322,6 +336,12 @@ typedef struct PiPageReply {
     uint64_t refusal; /* a PiRefusal: PI_REFUSAL_NONE where the page is written */
     uint64_t place;   /* the refusal's place; 0 where the page is written */
 } PiPageReply;
+
+/* What pi_ranges answers: two 64-bit words. */
+typedef struct PiRangesReply {
+    uint64_t refusal; /* a PiRefusal: PI_REFUSAL_NONE where the ends are given */
+    uint64_t place;   /* the refusal's place; 0 where the ends are given */
+} PiRangesReply;
 
 /*
  * Checks an image of so many 32-bit words. Tested in this order: the work words (22), the image (1 to
@@ -415,6 +435,43 @@ PiNeedsReply pi_needs(const uint32_t *image, size_t image_length,
 PiPageReply pi_page(const uint32_t *image, size_t image_length,
                     uint8_t *page, size_t page_length,
                     uint64_t *work, size_t work_length);
+
+/*
+ * From a lowest and a highest start for each register gives a lowest and a highest end, from an image of
+ * so many 32-bit words without a Loop. The two lists have a limit for each register; the ends take the
+ * place of the starts. So:
+ *
+ * - A run from registers that start within their limits, both included, is refused with nothing but 30,
+ *   whatever its budget up to the greatest; and where it ends, each register is within its ends.
+ *
+ * How the ends are found:
+ *
+ * - A number is carried as its two ends, which stand for all integers between them; a truth as those that
+ *   are possible; a location exactly. No value is connected with another: with register 0 from 20 to 40,
+ *   Sub(Id 0, Id 0) is -20 to 20.
+ * - Sum, Sub, Mul and Div take the least and the greatest over the four pairs of the operands' ends. A
+ *   comparison or Eq gives each truth that some pair of values gives; And, Or and Not each truth that
+ *   some choice gives.
+ * - A Cond's test narrows nothing. Where it can be only one truth, that command alone is carried. Where
+ *   it may be both, each command is carried from what was there before the Cond, the first one first;
+ *   then each cell takes the wider ends, or every truth that either command leaves.
+ * - A root that is an expression is carried too, and its registers end as they start.
+ *
+ * Tested in this order: the work words (22), the image (1 to 14), the lengths of the two lists, both of
+ * which are r (20), the limits, of which no lowest is above its highest (42), the Loops, of which there
+ * are none anywhere in the tree (43), the steps with both commands of every Cond counted, of which
+ * 1,000,000 pass (40), and the figures of room that pi_needs gives, each within its limit, of which the
+ * lowest number is told (33 to 36). Then 44, at the first node in running order where an end leaves the
+ * integers or the divisor's range holds 0: operands before their operation, the first before the second,
+ * actuals last to first, a Cond's first command before its second; the node may be in a function.
+ *
+ * A refusal keeps both lists. An image with no node keeps them too: its ends are the starts. It takes
+ * more stack than the other calls do, PI_STACK_RANGES. There is no form of this call on bytes.
+ */
+PiRangesReply pi_ranges(const uint32_t *image, size_t image_length,
+                        int64_t *lowest, size_t lowest_length,
+                        int64_t *highest, size_t highest_length,
+                        uint64_t *work, size_t work_length);
 
 #ifdef __cplusplus
 }

@@ -4,20 +4,21 @@ mod images;
 mod measure;
 mod placement;
 mod race;
+mod ranged;
 mod routines;
 mod rows;
 
 use compare::progress::{in_words, Progress};
 use measure::REPETITIONS;
-use race::{beside_table, table, Beside, Race};
-use rows::{beside_check, check_race, clearing, run_race};
+use race::{beside_table, ranges_table, table, Beside, BesideRun, Race};
+use rows::{beside_check, beside_run, check_race, clearing, run_race};
 use second::command_line::{arguments, complain, write_out, Reader};
 use std::process::ExitCode;
 
 const HELP: &str = "\
 bench: times the engine's static library beside the second interpreter
 
-usage: bench           measures, and prints four tables
+usage: bench           measures, and prints five tables
        bench --help    prints this; so do -h and help
 
 The tables:
@@ -28,12 +29,14 @@ The tables:
            the others take; 2 is asked at most of the needs
   calls    nanoseconds a call: checks of the smallest images, with one node and with
            none, the run of a slot with no routine; and to clear the work words
-  run      nanoseconds a step, for seven routines
+  run      nanoseconds a step, for eight routines
+  ranges   nanoseconds a step of the run, for five routines without Loop: the run and
+           the ranges by the engine alone, and how many times longer the ranges take
 
-The others have the engine's time and the second interpreter's, and check and run say how
-many times longer the second takes. A time is the median of 501 repetitions.
+Check, calls and run have the engine's time and the second interpreter's, and check and run
+say how many times longer the second takes. A time is the median of 501 repetitions.
 
-It takes 12 seconds in a release build. On a terminal the row that is measured is shown
+It takes 13 seconds in a release build. On a terminal the row that is measured is shown
 on standard error. The machine should have little else to do.
 
 Exit status: 0 measured, 1 the two give different answers, 2 bad usage or an output that
@@ -88,8 +91,8 @@ fn print(text: &str) -> Result<(), End> {
 fn measure_all() -> Result<(), End> {
     print(&format!("Medians of {REPETITIONS} repetitions, the calls of a row in turn.\n\n"))?;
     let (images, needed, smallest) = (images::checked(), images::needed(), images::smallest());
-    let (empty, routines) = (routines::empty(), routines::timed());
-    let all = images.len() + needed.len() + smallest.len() + 1 + routines.len();
+    let (empty, routines, ranged) = (routines::empty(), routines::timed(), ranged::ranged());
+    let all = images.len() + needed.len() + smallest.len() + 1 + routines.len() + ranged.len();
     let mut rows = Rows::of(all);
 
     let races: Result<Vec<Race>, End> =
@@ -114,6 +117,11 @@ fn measure_all() -> Result<(), End> {
     let races: Result<Vec<Race>, End> =
         routines.iter().map(|routine| rows.measure(routine.name, || run_race(routine))).collect();
     print(&table("run, nanoseconds a step", "steps", &races?))?;
+
+    let beside =
+        ranged.iter().map(|ranged| rows.measure(ranged.routine.name, || beside_run(ranged)));
+    let beside: Result<Vec<BesideRun>, End> = beside.collect();
+    print(&format!("\n{}", ranges_table(&beside?)))?;
     print(&format!("\n{NOTES}"))
 }
 

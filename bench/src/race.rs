@@ -1,5 +1,5 @@
-//! One row of a table: the same work by the engine and the second interpreter, or the
-//! check, the needs and the page of the same image by the engine.
+//! One row of a table: the same work by the engine and the second interpreter, or calls for
+//! the same image by the engine: its check, its needs and its page, or its run and its ranges.
 
 pub struct Race {
     pub name: &'static str,
@@ -72,4 +72,28 @@ pub fn beside_table(all: &[Beside]) -> String {
     let within = all.iter().all(|beside| beside.needs_ratio() <= MOST_RATIO);
     let within = if within { "yes" } else { "NO" };
     text + &format!("  at most {MOST_RATIO:.0} is asked of the needs: {within}\n")
+}
+
+/// The run and the ranges of one routine.
+pub struct BesideRun {
+    pub name: &'static str,
+    /// Those of the run.
+    pub steps: u64,
+    /// Nanoseconds a call.
+    pub run: f64,
+    pub ranges: f64,
+}
+
+/// Run and ranges with the time for each step of the run, and how many times longer the
+/// ranges take.
+pub fn ranges_table(all: &[BesideRun]) -> String {
+    let mut text = "ranges beside run, nanoseconds a step of the run\n".to_string();
+    let (name, steps, run, ranges, ratio) = ("", "steps", "run", "ranges", "ranges/run");
+    text += &format!("  {name:<36} {steps:>7} {run:>9} {ranges:>9} {ratio:>12}\n");
+    for BesideRun { name, steps, run, ranges } in all {
+        let ratio = ranges / run;
+        let [run, ranges] = [run, ranges].map(|time| time / *steps as f64);
+        text += &format!("  {name:<36} {steps:>7} {run:>9.2} {ranges:>9.2} {ratio:>12.2}\n");
+    }
+    text
 }

@@ -18,7 +18,7 @@ pub struct Routine {
 }
 
 impl Routine {
-    fn new(name: &'static str, image: Vec<u32>, starts: &[i64]) -> Routine {
+    pub fn new(name: &'static str, image: Vec<u32>, starts: &[i64]) -> Routine {
         let reply = run(&image, &mut starts.to_vec(), MOST_BUDGET, WORK_WORDS);
         if let Outcome::Refused(refusal) = reply.outcome {
             panic!("{name} is refused with {} at {}", refusal.number, refusal.place);

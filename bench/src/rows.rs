@@ -1,14 +1,16 @@
 //! One row each: the check of an image and the run of a routine, by both, which must
-//! give the same answer first; the needs and the page of an image beside its check; and
-//! the clearing of the work words.
+//! give the same answer first; the needs and the page of an image beside its check, and the
+//! ranges of a routine beside its run; and the clearing of the work words.
 
 use crate::images::Timed;
 use crate::measure::medians;
-use crate::race::{Beside, Race};
+use crate::race::{Beside, BesideRun, Race};
+use crate::ranged::Ranged;
 use crate::routines::Routine;
 use compare::difference::Difference;
+use compare::ranges::Lists;
 use compare::run::as_words;
-use compare::{check, engine, needs, page, run};
+use compare::{check, engine, needs, page, ranges, run};
 use second::engine::{MOST_BUDGET, WORK_WORDS};
 use second::generate::random::Random;
 use second::generate::Case;
@@ -91,6 +93,35 @@ pub fn run_race(routine: &Routine) -> Result<Race, String> {
         },
     ]);
     Ok(Race { name, units: *steps, engine, second })
+}
+
+/// The ranges of one routine beside its run, by the engine. Both interpreters must give the
+/// same ends, and there must be some.
+pub fn beside_run(ranged: &Ranged) -> Result<BesideRun, String> {
+    let Ranged { routine: Routine { name, image, starts, steps }, limits } = ranged;
+    let limits = Lists::of(limits);
+    let found = ranges::compare(image, &limits, WORK_WORDS, &mut Random::new(0));
+    if let Ok(Err(refusal)) = found.as_ref().map(|ranged| ranged.answer) {
+        return Err(format!("{name}: ranges are refused with {}", refusal.number));
+    }
+    must_agree(name, found)?;
+    let [mut of_run, mut of_ranges] = [(); 2].map(|()| vec![0; WORK_WORDS]);
+    let words = as_words(starts);
+    let mut registers = words.clone();
+    let mut lists = limits.clone();
+    let [run, ranges] = medians([
+        &mut || {
+            registers.copy_from_slice(&words);
+            let registers = black_box(&mut registers);
+            black_box(engine::run(black_box(image), registers, MOST_BUDGET, &mut of_run));
+        },
+        &mut || {
+            lists.clone_from(&limits);
+            let Lists { lowest, highest } = black_box(&mut lists);
+            black_box(engine::ranges(black_box(image), lowest, highest, &mut of_ranges));
+        },
+    ]);
+    Ok(BesideRun { name, steps: *steps, run, ranges })
 }
 
 /// The time to clear the work words alone, in nanoseconds.

@@ -1,6 +1,7 @@
 #include "calls.h"
 
 #include "buffers.h"
+#include "ends.h"
 #include "figures.h"
 #include "lines.h"
 #include "replies.h"
@@ -47,7 +48,7 @@ void registers_settled(const Buffer *registers, uint64_t refusal)
 }
 
 /* By the refusal's number, of which this is the last. */
-#define LAST PI_REFUSAL_SHORT_PAGE
+#define LAST PI_REFUSAL_UNSAFE_ARITHMETIC
 static size_t answered[LAST + 1];
 
 size_t times_answered(PiRefusal refusal)
@@ -138,6 +139,39 @@ PiPageReply call_page(const Call *call, size_t page_length, uint8_t *left)
     buffer_free(&page);
     buffer_free(&work);
     return reply;
+}
+
+Ranged call_ranges(const Call *call, const int64_t *lowest, size_t lowest_length,
+                   const int64_t *highest, size_t highest_length)
+{
+    Buffer image = buffer_holding(call->image, call->image_length * sizeof(uint32_t), 0);
+    Buffer low = buffer_holding(lowest, lowest_length * sizeof(int64_t), 0);
+    Buffer high = buffer_holding(highest, highest_length * sizeof(int64_t), 0);
+    Buffer work = lend_work(call->work_length, 0);
+    Ranged ranged;
+    int ends;
+
+    memset(&ranged, 0, sizeof ranged);
+    ranged.reply = pi_ranges((const uint32_t *)(const void *)image.start, call->image_length,
+                             (int64_t *)(void *)low.start, lowest_length,
+                             (int64_t *)(void *)high.start, highest_length,
+                             (uint64_t *)(void *)work.start, call->work_length);
+    ends = ranged.reply.refusal == PI_REFUSAL_NONE;
+    if (low.bytes != 0)
+        memcpy(ranged.lowest, low.start, low.bytes);
+    if (high.bytes != 0)
+        memcpy(ranged.highest, high.start, high.bytes);
+    buffer_kept(&image, "image", 0);
+    buffer_kept(&low, "lowest", ends ? low.bytes : 0);
+    buffer_kept(&high, "highest", ends ? high.bytes : 0);
+    work_settled(&work, ranged.reply.refusal);
+    ranges_make_sense(&ranged.reply, call);
+    count_answer(ranged.reply.refusal);
+    buffer_free(&image);
+    buffer_free(&low);
+    buffer_free(&high);
+    buffer_free(&work);
+    return ranged;
 }
 
 Ran call_run(const Call *call)
@@ -274,6 +308,7 @@ Ran call_all(const Call *call)
     if (expected != PI_REFUSAL_NONE && ran.reply.refusal != expected)
         test_fault("refusal %" PRIu64 " in place of %" PRIu64, ran.reply.refusal, expected);
     fits_the_needs(call, &ran);
+    fits_the_ranges(call);
     fits_the_pages(call);
     if (touches_nothing(ran.reply.refusal))
         return ran;

@@ -26,6 +26,13 @@ typedef struct Ran {
     int64_t left[MOST_STARTS];
 } Ran;
 
+/* What came of a call for ranges: the reply, and both lists after it. */
+typedef struct Ranged {
+    PiRangesReply reply;
+    int64_t lowest[MOST_STARTS];
+    int64_t highest[MOST_STARTS];
+} Ranged;
+
 /* Lends buffers to pi_check, to pi_needs, and to pi_run. */
 PiCheckReply call_check(const Call *call);
 PiNeedsReply call_needs(const Call *call);
@@ -37,6 +44,13 @@ Ran call_run(const Call *call);
  * where this is NULL.
  */
 PiPageReply call_page(const Call *call, size_t page_length, uint8_t *left);
+
+/*
+ * Lends buffers to pi_ranges, with these two lists of limits in the place of the call's starts. The
+ * lists are kept by a refusal.
+ */
+Ranged call_ranges(const Call *call, const int64_t *lowest, size_t lowest_length,
+                   const int64_t *highest, size_t highest_length);
 
 /* The work buffer of a call, which it may clear or not. */
 Buffer lend_work(size_t work_length, uint64_t budget);
@@ -57,7 +71,8 @@ uint64_t refusal_by_lengths(const Call *call);
 /*
  * Checks and runs, and notes where the two do not fit together: the run of what passes, its outcome's
  * sort, the count of registers, and the same run with one step less, just enough, and other junk. And
- * works out the needs, which must fit both, and has pages written.
+ * works out the needs, which must fit both, and the ranges, which must fit all three, and has pages
+ * written.
  */
 Ran call_all(const Call *call);
 

@@ -52,7 +52,7 @@ newest_version() {
 has_every_call() {
     local call missing=0
     nm "$archive" >"$built/symbols" || return
-    for call in pi_check pi_run pi_check_bytes pi_run_bytes pi_needs pi_page; do
+    for call in pi_check pi_run pi_check_bytes pi_run_bytes pi_needs pi_page pi_ranges; do
         grep -q " T $call\$" "$built/symbols" || { echo "it has no $call"; missing=1; }
     done
     return $missing

@@ -52,6 +52,8 @@ int main(int count, char **arguments)
     test_needed_steps();
     test_page();
     test_page_lengths();
+    test_ranges();
+    test_ranges_refused();
     test_names();
     test_chance((size_t)images, seed);
     test_needed_room((size_t)images, seed);
@@ -59,5 +61,6 @@ int main(int count, char **arguments)
     test_bytes((size_t)images, seed);
     test_threads();
     test_stack();
+    test_stack_of_ranges();
     return test_close();
 }

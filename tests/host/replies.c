@@ -24,7 +24,8 @@ static uint64_t places(uint64_t refusal, const Call *call)
 {
     if (refusal == PI_REFUSAL_TREE)
         return (uint64_t)call->image[0] + 1;
-    if (refusal >= PI_REFUSAL_KIND && refusal <= PI_REFUSAL_CALL)
+    if ((refusal >= PI_REFUSAL_KIND && refusal <= PI_REFUSAL_CALL) ||
+        refusal == PI_REFUSAL_UNSAFE_ARITHMETIC)
         return call->image[0];
     return 1;
 }
@@ -83,6 +84,44 @@ void needs_make_sense(const PiNeedsReply *reply, const Call *call)
                 refusal == PI_REFUSAL_TOO_MANY_STEPS);
     if (!fits)
         test_fault("needs answers what makes no sense: " NEEDS_FORMAT, NEEDS_ARGUMENTS(reply));
+}
+
+/* Whether pi_ranges may answer this. */
+static int is_refusal_of_ranges(uint64_t refusal)
+{
+    switch (refusal) {
+    case PI_REFUSAL_REGISTERS:
+    case PI_REFUSAL_WORK:
+    case PI_REFUSAL_CELLS:
+    case PI_REFUSAL_BINDINGS:
+    case PI_REFUSAL_VALUES:
+    case PI_REFUSAL_CONTROL:
+    case PI_REFUSAL_TOO_MANY_STEPS:
+    case PI_REFUSAL_CROSSED_LIMITS:
+    case PI_REFUSAL_LOOP:
+    case PI_REFUSAL_UNSAFE_ARITHMETIC:
+        return 1;
+    default:
+        return is_refusal(refusal) && refusal <= PI_REFUSAL_CALL;
+    }
+}
+
+void ranges_make_sense(const PiRangesReply *reply, const Call *call)
+{
+    uint64_t refusal = reply->refusal;
+    int fits;
+
+    if (refusal == PI_REFUSAL_NONE)
+        fits = reply->place == 0;
+    else
+        fits = is_refusal_of_ranges(refusal) && reply->place < places(refusal, call);
+    /* 44 is at a Sum, Sub, Mul or Div. */
+    if (fits && refusal == PI_REFUSAL_UNSAFE_ARITHMETIC)
+        fits = call->image[2 + reply->place] >= PI_KIND_SUM &&
+               call->image[2 + reply->place] <= PI_KIND_DIV;
+    if (!fits)
+        test_fault("ranges answers what makes no sense: refusal %" PRIu64 " at %" PRIu64, refusal,
+                   reply->place);
 }
 
 static int value_fits(const PiRunReply *reply)

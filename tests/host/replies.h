@@ -10,6 +10,7 @@
 
 void check_makes_sense(const PiCheckReply *reply, const Call *call);
 void needs_make_sense(const PiNeedsReply *reply, const Call *call);
+void ranges_make_sense(const PiRangesReply *reply, const Call *call);
 void run_makes_sense(const PiRunReply *reply, const Call *call);
 
 /* A reply of a run in a message. */

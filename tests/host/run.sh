@@ -186,6 +186,8 @@ all_parts() {
     one_check 'service screen builds' gcc -std=c99 "${stricter[@]}" -o "$built/service_screen" \
         examples/service_screen.c "$archive"
     one_check 'service screen says what is stored' says_as_stored service_screen
+    one_check 'tender builds' gcc -std=c99 "${stricter[@]}" -o "$built/tender" examples/tender.c "$archive"
+    one_check 'tender says what is stored' says_as_stored tender
     one_check 'page of the header' header_page
     one_check 'names of the header' header_names
     one_check 'usage of this script' usage_says

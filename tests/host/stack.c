@@ -1,26 +1,11 @@
 /* How much stack a call takes with the deepest images, against the header's figures. */
-#define _POSIX_C_SOURCE 200112L
-
 #include "tests.h"
 
 #include "buffers.h"
 #include "lines.h"
+#include "measure.h"
 #include "report.h"
 #include "trees.h"
-
-#include <pthread.h>
-#include <string.h>
-
-/* The stack that is lent to a thread, full of one byte, so that what was used shows. */
-#define STACK_BYTES (256 * 1024)
-#define UNUSED 0xa5
-/* So many bytes of the header's figures must be left, as it says. */
-#define TO_SPARE 4096
-
-static union {
-    unsigned char bytes[STACK_BYTES];
-    long double aligned;
-} stack;
 
 static uint32_t image[IMAGE_ROOM];
 static size_t image_length;
@@ -73,46 +58,6 @@ static void run_bytes(void)
     fill_bytes();
     pi_run_bytes(bytes, 4 * image_length, values, 8 * (size_t)image[1], PI_MOST_BUDGET, work,
                  PI_WORK_WORDS);
-}
-
-/* A call, and where the stack stood when its thread made it. */
-typedef struct Measured {
-    void (*call)(void);
-    const unsigned char *stood;
-} Measured;
-
-static void *measure(void *argument)
-{
-    volatile unsigned char here = 0;
-    Measured *measured = argument;
-
-    measured->stood = (const unsigned char *)&here;
-    measured->call();
-    return NULL;
-}
-
-/* The bytes of the stack that a call takes: from where it stood down to the last that was written. */
-static size_t used_by(void (*call)(void))
-{
-    pthread_attr_t attributes;
-    pthread_t thread;
-    Measured measured;
-    const unsigned char *lowest = stack.bytes;
-
-    measured.call = call;
-    measured.stood = NULL;
-    memset(stack.bytes, UNUSED, STACK_BYTES);
-    if (pthread_attr_init(&attributes) != 0)
-        return STACK_BYTES;
-    if (pthread_attr_setstack(&attributes, stack.bytes, STACK_BYTES) == 0 &&
-        pthread_create(&thread, &attributes, measure, &measured) == 0)
-        pthread_join(thread, NULL);
-    pthread_attr_destroy(&attributes);
-    if (measured.stood == NULL)
-        return STACK_BYTES;
-    while (*lowest == UNUSED)
-        lowest += 1;
-    return (size_t)(measured.stood - lowest);
 }
 
 static size_t most(size_t one, size_t other)
@@ -235,14 +180,6 @@ static void deep_expressions(Tree *tree)
     tree_of_depth(tree, PI_MOST_DEPTH);
 }
 
-/* Notes a fault where a form takes more than the header's figure, less what it has to spare. */
-static void fits(const char *what, size_t taken, size_t figure)
-{
-    if (taken + TO_SPARE > figure)
-        test_fault("%s takes %lu bytes, and the header says %lu with %d to spare", what,
-                   (unsigned long)taken, (unsigned long)figure, TO_SPARE);
-}
-
 void test_stack(void)
 {
     static void (*const shapes[])(Tree *) = {
@@ -263,19 +200,19 @@ void test_stack(void)
         image_length = tree_image(&tree, image);
         if (pi_check(image, image_length, work, PI_WORK_WORDS).refusal != PI_REFUSAL_NONE)
             test_fault("shape %lu does not pass", (unsigned long)index);
-        taken[0] = most(taken[0], used_by(check_words));
-        taken[1] = most(taken[1], used_by(run_words));
-        taken[2] = most(taken[2], used_by(check_bytes));
-        taken[3] = most(taken[3], used_by(run_bytes));
-        taken[4] = most(taken[4], used_by(needs_words));
-        taken[5] = most(taken[5], used_by(page_words));
+        taken[0] = most(taken[0], stack_used_by(check_words));
+        taken[1] = most(taken[1], stack_used_by(run_words));
+        taken[2] = most(taken[2], stack_used_by(check_bytes));
+        taken[3] = most(taken[3], stack_used_by(run_bytes));
+        taken[4] = most(taken[4], stack_used_by(needs_words));
+        taken[5] = most(taken[5], stack_used_by(page_words));
     }
-    fits("check", taken[0], PI_STACK_WORD_FORMS);
-    fits("run", taken[1], PI_STACK_WORD_FORMS);
-    fits("check of bytes", taken[2], PI_STACK_BYTE_FORMS);
-    fits("run of bytes", taken[3], PI_STACK_BYTE_FORMS);
-    fits("needs", taken[4], PI_STACK_WORD_FORMS);
-    fits("page", taken[5], PI_STACK_WORD_FORMS);
+    stack_fits("check", taken[0], PI_STACK_WORD_FORMS);
+    stack_fits("run", taken[1], PI_STACK_WORD_FORMS);
+    stack_fits("check of bytes", taken[2], PI_STACK_BYTE_FORMS);
+    stack_fits("run of bytes", taken[3], PI_STACK_BYTE_FORMS);
+    stack_fits("needs", taken[4], PI_STACK_WORD_FORMS);
+    stack_fits("page", taken[5], PI_STACK_WORD_FORMS);
     test_end_with("check takes %lu bytes, run %lu, on bytes %lu and %lu, needs %lu, page %lu",
                   (unsigned long)taken[0], (unsigned long)taken[1], (unsigned long)taken[2],
                   (unsigned long)taken[3], (unsigned long)taken[4], (unsigned long)taken[5]);

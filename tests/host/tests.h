@@ -50,6 +50,10 @@ void test_page_lengths(void);
 /* Pages of routines made by chance. */
 void test_pages_by_chance(size_t count, uint64_t seed);
 
+/* Ranges that are listed by hand, and what they are refused with. */
+void test_ranges(void);
+void test_ranges_refused(void);
+
 /* The header's list of refusals, all of which the calls before have met; and its version. */
 void test_names(void);
 
@@ -62,7 +66,8 @@ void test_bytes(size_t count, uint64_t seed);
 /* Calls at once from several threads. */
 void test_threads(void);
 
-/* How much stack a call takes. */
+/* How much stack a call takes, and how much one for ranges. */
 void test_stack(void);
+void test_stack_of_ranges(void);
 
 #endif

@@ -9,7 +9,7 @@
 #include <string.h>
 
 #define THREADS 4
-/* So many runs, and as many times the needs and a page. */
+/* So many runs, and as many times the needs, a page and ranges. */
 #define CALLS 300
 
 /* What a thread calls with, and how many of its calls went wrong. */
@@ -42,6 +42,23 @@ static int has_its_page(Worker *worker)
            memcmp(worker->page, worker->lines, sizeof worker->page) == 0;
 }
 
+/* Whether the ends of register 0, from this number to 10 more, are those of twice that. */
+static int has_its_ends(Worker *worker)
+{
+    static const uint32_t twice[] = {
+        4, 1, PI_KIND_ASSIGN, PI_KIND_MUL, PI_KIND_ID, PI_KIND_NUM, 0, 0, 0, 2,
+    };
+    int64_t lowest[1], highest[1];
+    PiRangesReply reply;
+
+    lowest[0] = worker->above;
+    highest[0] = worker->above + 10;
+    reply = pi_ranges(twice, sizeof twice / sizeof twice[0], lowest, 1, highest, 1, worker->work,
+                      PI_WORK_WORDS);
+    return reply.refusal == PI_REFUSAL_NONE && lowest[0] == 2 * worker->above &&
+           highest[0] == 2 * worker->above + 20;
+}
+
 static void *work_alone(void *argument)
 {
     Worker *worker = argument;
@@ -64,6 +81,8 @@ static void *work_alone(void *argument)
             needs.cells != 2 || needs.bindings != 2 || needs.open != 1)
             worker->faults += 1;
         if (!has_its_page(worker))
+            worker->faults += 1;
+        if (!has_its_ends(worker))
             worker->faults += 1;
     }
     return NULL;
@@ -97,5 +116,5 @@ void test_threads(void)
             test_fault("thread %lu: %lu calls went wrong", (unsigned long)index,
                        (unsigned long)workers[index].faults);
     }
-    test_end_with("%d threads of %d calls", THREADS, 3 * CALLS);
+    test_end_with("%d threads of %d calls", THREADS, 4 * CALLS);
 }

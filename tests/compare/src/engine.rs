@@ -77,6 +77,15 @@ pub struct PageReply {
     pub place: u64,
 }
 
+/// What `pi_ranges` returns, the header's `PiRangesReply`. Refusal 0: the ends stand in both
+/// lists, and the place is 0. Otherwise the paper's number and place.
+#[repr(C)]
+#[derive(Clone, Copy, Debug, PartialEq, Eq)]
+pub struct RangesReply {
+    pub refusal: u64,
+    pub place: u64,
+}
+
 extern "C" {
     fn pi_check(image: *const u32, image_len: usize, work: *mut u64, work_len: usize)
         -> CheckReply;
@@ -102,6 +111,17 @@ extern "C" {
         work: *mut u64,
         work_len: usize,
     ) -> PageReply;
+
+    fn pi_ranges(
+        image: *const u32,
+        image_len: usize,
+        lowest: *mut i64,
+        lowest_len: usize,
+        highest: *mut i64,
+        highest_len: usize,
+        work: *mut u64,
+        work_len: usize,
+    ) -> RangesReply;
 
     fn pi_check_bytes(
         image: *const u8,
@@ -158,6 +178,28 @@ pub fn page(image: &[u32], page: &mut [u8], work: &mut [u64]) -> PageReply {
             image.len(),
             page.as_mut_ptr(),
             page.len(),
+            work.as_mut_ptr(),
+            work.len(),
+        )
+    }
+}
+
+/// The engine's ranges of an image, in both lists.
+pub fn ranges(
+    image: &[u32],
+    lowest: &mut [i64],
+    highest: &mut [i64],
+    work: &mut [u64],
+) -> RangesReply {
+    // Each pointer is its slice's own, and each length its slice's length.
+    unsafe {
+        pi_ranges(
+            image.as_ptr(),
+            image.len(),
+            lowest.as_mut_ptr(),
+            lowest.len(),
+            highest.as_mut_ptr(),
+            highest.len(),
             work.as_mut_ptr(),
             work.len(),
         )

@@ -60,6 +60,15 @@ impl Junk for u64 {
     }
 }
 
+impl Junk for i64 {
+    const NAME: &'static str = "word";
+
+    /// Never 0, so that clearing it shows.
+    fn of_bits(bits: u64) -> i64 {
+        u64::of_bits(bits) as i64
+    }
+}
+
 pub struct Guarded<T> {
     /// The slice between its guards, now and as it was made.
     now: Vec<T>,

@@ -3,6 +3,7 @@
 use compare::difference::Difference;
 use compare::program::Program;
 use compare::progress::{of_all, Progress};
+use compare::range_sample::{compare_ranges, RANGED};
 use compare::sample::{compare_bytes, compare_check, compare_needs, compare_page};
 use compare::sample::{compare_program, compare_run, Mixture, Sample, CHECKED, NEEDED, RUN};
 use compare::tally::Tally;
@@ -29,6 +30,10 @@ usage: compare COMMAND
   page COUNT SEED            compares the pages of COUNT images, each in lent pages that
                              are too short, exact and longer
   page COUNT SEED FAMILY     the same, of one family
+  ranges COUNT SEED          compares the ranges of COUNT images, each from limits of three
+                             sorts and with lists of other lengths; and holds runs from
+                             starts within the limits, whole and cut off, to the ends
+  ranges COUNT SEED FAMILY   the same, of one family
   bytes COUNT SEED           compares the calls on bytes of COUNT images: whole, at
                              some budgets, and with lengths, bytes, registers, work
                              words or a budget changed
@@ -44,23 +49,24 @@ Exit status: 0 no difference, 1 a difference, 2 bad usage or an output that cann
 written. The program is target/bin/pirun, or what PIRUN names.
 
 In a release build a second is enough for about 5,000 images of check, 500 of run,
-1,500 of needs, 1,500 of page, 1,000 of bytes and 350 of program: 100,000 images take
-20 seconds, 3 minutes, 1 minute, 1 minute, 2 minutes and 5 minutes. On a terminal the
-count and the time left are shown on standard error.
+1,500 of needs, 1,500 of page, 350 of ranges, 1,000 of bytes and 350 of program: 100,000
+images take 20 seconds, 3 minutes, 1 minute, 1 minute, 5 minutes, 2 minutes and 5 minutes.
+On a terminal the count and the time left are shown on standard error.
 
-families: small medium large faulty sequences choices functions divisions limits
-          damaged empty shaped plausible words host
+families: small medium large faulty sequences choices functions divisions ranges
+          limits damaged empty shaped plausible words host
 ";
 
 /// Compares one sample and counts what it was answered.
 type Comparison = fn(Sample, &mut Tally) -> Result<(), Box<Difference>>;
 
 /// The comparisons by their command, each with the mixture of families it takes.
-const COMPARISONS: [(&str, Comparison, &Mixture); 6] = [
+const COMPARISONS: [(&str, Comparison, &Mixture); 7] = [
     ("check", compare_check, &CHECKED),
     ("run", compare_run, &RUN),
     ("needs", compare_needs, &NEEDED),
     ("page", compare_page, &RUN),
+    ("ranges", compare_ranges, &RANGED),
     ("bytes", compare_bytes, &CHECKED),
     (PROGRAM, compare_program, &RUN),
 ];

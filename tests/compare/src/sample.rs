@@ -41,19 +41,20 @@ pub struct Sample {
 }
 
 /// How many of each hundred samples are of which family.
-pub type Mixture = [(usize, Family); 15];
+pub type Mixture = [(usize, Family); 16];
 
 /// For checks, and for calls on bytes. Large cases take the second interpreter
 /// longest and are seldom.
 pub const CHECKED: Mixture = [
     (11, Family::Small),
-    (6, Family::Medium),
+    (5, Family::Medium),
     (2, Family::Large),
-    (6, Family::Faulty),
+    (5, Family::Faulty),
     (8, Family::Sequences),
     (8, Family::Choices),
     (6, Family::Functions),
     (2, Family::Divisions),
+    (2, Family::Ranges),
     (6, Family::Limits),
     (17, Family::Damaged),
     (4, Family::Empty),
@@ -65,14 +66,15 @@ pub const CHECKED: Mixture = [
 
 /// For runs, the program's too, and for pages: more of what passes the checker.
 pub const RUN: Mixture = [
-    (16, Family::Small),
-    (9, Family::Medium),
+    (15, Family::Small),
+    (8, Family::Medium),
     (4, Family::Large),
     (8, Family::Faulty),
     (9, Family::Sequences),
-    (10, Family::Choices),
+    (9, Family::Choices),
     (7, Family::Functions),
     (6, Family::Divisions),
+    (3, Family::Ranges),
     (8, Family::Limits),
     (6, Family::Damaged),
     (3, Family::Empty),
@@ -84,14 +86,15 @@ pub const RUN: Mixture = [
 
 /// For needs: more functions and Conds, and more near the limits.
 pub const NEEDED: Mixture = [
-    (13, Family::Small),
-    (8, Family::Medium),
+    (12, Family::Small),
+    (7, Family::Medium),
     (3, Family::Large),
     (4, Family::Faulty),
     (10, Family::Sequences),
-    (13, Family::Choices),
-    (20, Family::Functions),
+    (12, Family::Choices),
+    (19, Family::Functions),
     (1, Family::Divisions),
+    (4, Family::Ranges),
     (9, Family::Limits),
     (9, Family::Damaged),
     (2, Family::Empty),
@@ -124,7 +127,7 @@ impl Sample {
     }
 
     /// A difference, with this sample named in its call.
-    fn named(self, mut difference: Box<Difference>) -> Box<Difference> {
+    pub(crate) fn named(self, mut difference: Box<Difference>) -> Box<Difference> {
         let Sample { seed, .. } = self;
         difference.call += &format!(", {} {seed}", self.family_name());
         difference
@@ -192,7 +195,7 @@ fn page_lengths(image: &[u32], random: &mut Random) -> Vec<usize> {
 
 /// The lengths of the work slices for a call that has no others: one that is enough, the
 /// case's own where that is another, and sometimes one too short.
-fn work_lengths(own: usize, random: &mut Random) -> Vec<usize> {
+pub(crate) fn work_lengths(own: usize, random: &mut Random) -> Vec<usize> {
     let mut lengths = vec![*random.pick(&ENOUGH)];
     if own != WORK_WORDS {
         lengths.push(own);

@@ -27,6 +27,9 @@ HOLDS(needs_reply_in_order,
           offsetof(PiNeedsReply, steps) == 48 && offsetof(PiNeedsReply, open) == 56);
 HOLDS(page_reply_is_two_words, sizeof(PiPageReply) == 2 * sizeof(uint64_t));
 HOLDS(page_reply_in_order, offsetof(PiPageReply, refusal) == 0 && offsetof(PiPageReply, place) == 8);
+HOLDS(ranges_reply_is_two_words, sizeof(PiRangesReply) == 2 * sizeof(uint64_t));
+HOLDS(ranges_reply_in_order,
+      offsetof(PiRangesReply, refusal) == 0 && offsetof(PiRangesReply, place) == 8);
 HOLDS(smallest_image, PI_IMAGE_WORDS(0) == 2 && PI_IMAGE_BYTES(0) == 8);
 HOLDS(largest_image_in_words, PI_IMAGE_WORDS(PI_MOST_NODES) == 4002);
 HOLDS(largest_image_in_bytes, PI_IMAGE_BYTES(PI_MOST_NODES) == 16008);
@@ -36,7 +39,7 @@ HOLDS(registers_are_cells, PI_MOST_REGISTERS <= PI_MOST_CELLS && PI_MOST_REGISTE
 HOLDS(kinds, PI_KIND_NUM == 1 && PI_KIND_ASSIGN == 20 && PI_KIND_COND == 25 && PI_KIND_BIND == 30);
 HOLDS(limits, PI_MOST_DEPTH == 64 && PI_MOST_BUDGET == 1000000 && PI_MOST_COUNT == 8);
 HOLDS(room, PI_MOST_BINDINGS == 512 && PI_MOST_VALUES == 512 && PI_MOST_CONTROL == 512);
-HOLDS(stack, PI_STACK_WORD_FORMS < PI_STACK_BYTE_FORMS);
+HOLDS(stack, PI_STACK_WORD_FORMS < PI_STACK_BYTE_FORMS && PI_STACK_WORD_FORMS < PI_STACK_RANGES);
 
 /* A table of the refusals. */
 typedef struct Name {
@@ -71,6 +74,11 @@ static const uint8_t bytes[PI_IMAGE_BYTES(1)] = {
     1, 0, 0, 0, 0, 0, 0, 0, PI_KIND_NUM, 0, 0, 0, 7, 0, 0, 0,
 };
 
+/* Register 0 becomes one more: 4 nodes. */
+static const uint32_t one_more[PI_IMAGE_WORDS(4)] = {
+    4, 1, PI_KIND_ASSIGN, PI_KIND_SUM, PI_KIND_ID, PI_KIND_NUM, 0, 0, 0, 1,
+};
+
 static uint64_t work[PI_WORK_WORDS];
 static uint8_t page[PI_PAGE_BYTES(2)];
 
@@ -79,6 +87,10 @@ int main(void)
     /* The call has just this type. */
     PiPageReply (*const write_page)(const uint32_t *, size_t, uint8_t *, size_t, uint64_t *, size_t) =
         pi_page;
+    PiRangesReply (*const give_ends)(const uint32_t *, size_t, int64_t *, size_t, int64_t *, size_t,
+                                     uint64_t *, size_t) = pi_ranges;
+    int64_t lowest[1] = {20}, highest[1] = {40};
+    PiRangesReply ranged;
     const PiKind kind = PI_KIND_CALL;
     PiCheckReply checked = pi_check(image, PI_IMAGE_WORDS(2), work, PI_WORK_WORDS);
     PiRunReply ran = pi_run(image, PI_IMAGE_WORDS(2), 0, 0, PI_MOST_BUDGET, work, PI_WORK_WORDS);
@@ -119,5 +131,15 @@ int main(void)
     if (paged.refusal != PI_REFUSAL_NONE || paged.place != 0 || page[24] != '7' ||
         page[PI_PAGE_LINE_BYTES - 1] != '\n' || page[PI_PAGE_LINE_BYTES] != 0)
         return 10;
+    ranged = pi_ranges(one_more, PI_IMAGE_WORDS(4), highest, 1, lowest, 1, work, PI_WORK_WORDS);
+    if (ranged.refusal != PI_REFUSAL_CROSSED_LIMITS || ranged.place != 0 || lowest[0] != 20)
+        return 11;
+    ranged = give_ends(one_more, PI_IMAGE_WORDS(4), lowest, 1, highest, 1, work, PI_WORK_WORDS);
+    if (ranged.refusal != PI_REFUSAL_NONE || ranged.place != 0 || lowest[0] != 21 || highest[0] != 41)
+        return 12;
+    highest[0] = INT64_MAX;
+    ranged = give_ends(one_more, PI_IMAGE_WORDS(4), lowest, 1, highest, 1, work, PI_WORK_WORDS);
+    if (ranged.refusal != PI_REFUSAL_UNSAFE_ARITHMETIC || ranged.place != 1 || lowest[0] != 21)
+        return 13;
     return 0;
 }

@@ -103,6 +103,10 @@ int of_refusal(PiRefusal refusal)
         return 5;
     case PI_REFUSAL_SHORT_PAGE:
         return 6;
+    case PI_REFUSAL_CROSSED_LIMITS:
+    case PI_REFUSAL_LOOP:
+    case PI_REFUSAL_UNSAFE_ARITHMETIC:
+        return 7;
     }
     return 0;
 }

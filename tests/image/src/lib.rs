@@ -3,8 +3,8 @@
 //!
 //! text → [`pieces`] → [`parse`] → nodes in preorder → words, with the starting
 //! [`values`] behind them; [`find`] says where in the text a node or a refusal is,
-//! [`run`] runs a routine, [`needs`] says what it needs at most, and [`page`] is its page,
-//! line by line.
+//! [`run`] runs a routine, [`needs`] says what it needs at most, [`page`] is its page, line by
+//! line, and [`ranges`] says between which ends it leaves registers that start within limits.
 //! The other way, [`print`] writes an image down as such a text, and [`show`] as a
 //! numbered tree, damaged images too. [`files`] tells texts and images apart.
 
@@ -16,6 +16,7 @@ pub mod page;
 pub mod parse;
 pub mod pieces;
 pub mod print;
+pub mod ranges;
 pub mod run;
 pub mod show;
 pub mod stored;

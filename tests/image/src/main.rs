@@ -6,10 +6,11 @@ use image::needs::needs_of;
 use image::page::page_of;
 use image::parse::{parse, Listing};
 use image::print::print;
+use image::ranges::ranges_of;
 use image::run::run_of;
 use image::show::show;
 use image::stored::split;
-use image::values::{missing, values, values_or_none};
+use image::values::{missing, ranges, values, values_or_none};
 use second::command_line::{arguments, asks_for_help, complain, write_out};
 use second::encode::program_input;
 use second::reader::read;
@@ -40,6 +41,9 @@ usage: image COMMAND FILE
   page FILE              the page of a text's routine, a line for each node: the node, its
                          depth, the kind's name, the operand and the first node after its
                          descendants; or where it is refused
+  ranges FILE RANGE..    between which ends a text's routine leaves each register that
+                         starts within a range, LOWEST..HIGHEST or one integer for both:
+                         `register I LOWEST..HIGHEST`; or where it is refused
   refusals               the refusals, one a line: number, name and what it says
   help                   prints this, and so does --help behind any command
 
@@ -55,8 +59,8 @@ Numbers are 0 to 4294967295, truths are true and false; tests/image/README.md ha
 form of list. A Div gives the largest integer not above the quotient: -7 by 2 and 7 by -2
 are -4.
 
-In `refused N at P` the refusal's number is N, as `image refusals` lists them. For 3 to 6
-and 10 to 14, P is the number of a node, which show marks and find finds. If several of
+In `refused N at P` the refusal's number is N, as `image refusals` lists them. For 3 to 6,
+10 to 14 and 44, P is the number of a node, which show marks and find finds. If several of
 30 to 36 hold of a step, the first in the order 30, 31, 32, 33, 34, 36, 35 is told.
 
 In `most C B V K` C is the most live cells, B the most live bindings, V the most entries of
@@ -67,7 +71,8 @@ Exit status: 0 where the command is done, a refusal shown too; 2 where the text 
 command line is wrong or a stream fails.
 ";
 
-const COMMANDS: [&str; 8] = ["make", "show", "text", "find", "run", "needs", "page", "refusals"];
+const COMMANDS: [&str; 9] =
+    ["make", "show", "text", "find", "run", "needs", "page", "ranges", "refusals"];
 
 /// What a command line gives: the output, and what is to be said beside it.
 struct Given {
@@ -110,6 +115,11 @@ fn answer(arguments: &[String]) -> Result<Given, String> {
             return Ok(Given { output: output.into(), note });
         }
         ["page", file] => page_of(file, &listing(file)?),
+        ["ranges", file, given @ ..] => {
+            let listing = listing(file)?;
+            let starts = ranges(file, listing.registers, given)?;
+            ranges_of(file, &listing, &starts)
+        }
         ["refusals"] => refusal::TABLE.iter().map(|row| format!("{row}\n")).collect(),
         [] => return Err("no command; `image help` lists them".to_string()),
         [command, ..] if COMMANDS.contains(command) => {

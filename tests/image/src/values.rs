@@ -1,7 +1,8 @@
 //! The starting values of a command line: one for each register, or none where an image is
-//! made without them.
+//! made without them; and the ranges of starting values.
 
 use crate::files::named;
+use second::carried::Range;
 
 /// One value for each register, or none; or what is wrong with them for the text in this
 /// file.
@@ -15,12 +16,27 @@ pub fn values_or_none(file: &str, registers: u32, given: &[&str]) -> Result<Vec<
 /// One value for each register; or what is wrong with them for the text in this file.
 pub fn values(file: &str, registers: u32, given: &[&str]) -> Result<Vec<i64>, String> {
     let values = given.iter().map(|word| value(word)).collect::<Result<Vec<i64>, String>>()?;
-    if values.len() == registers as usize {
-        return Ok(values);
+    one_for_each(file, registers, values, "starting value")
+}
+
+/// One range for each register; or what is wrong with them for the text in this file.
+pub fn ranges(file: &str, registers: u32, given: &[&str]) -> Result<Vec<Range>, String> {
+    let ranges = given.iter().map(|word| word.parse()).collect::<Result<Vec<Range>, String>>()?;
+    one_for_each(file, registers, ranges, "range")
+}
+
+fn one_for_each<T>(
+    file: &str,
+    registers: u32,
+    given: Vec<T>,
+    what: &str,
+) -> Result<Vec<T>, String> {
+    if given.len() == registers as usize {
+        return Ok(given);
     }
     let has = format!("{} has {}", named(file), counted(registers as usize, "register"));
-    let were = if values.len() == 1 { "was" } else { "were" };
-    Err(format!("{has}, and {} {were} given", counted(values.len(), "starting value")))
+    let were = if given.len() == 1 { "was" } else { "were" };
+    Err(format!("{has}, and {} {were} given", counted(given.len(), what)))
 }
 
 fn value(word: &str) -> Result<i64, String> {

@@ -1,10 +1,13 @@
-//! What the host calls: `check`, `run`, `needs` and `page`, with the order of refusals, the
-//! registers, the lent page and the work words (the paper's "What the engine says no with").
+//! What the host calls: `check`, `run`, `needs`, `page` and `ranges`, with the order of refusals,
+//! the registers, the lent page, the lists of ends and the work words (the paper's "What the
+//! engine says no with").
 
+use crate::carried::Range;
 use crate::checker::{self, Passed};
 use crate::execution::Execution;
 use crate::needs::{self, Needs};
 use crate::page::lines_of;
+use crate::ranges::ends;
 use crate::reader;
 use crate::refusal::{self, Refusal};
 use crate::state::{Heights, State, ValueEntry};
@@ -111,6 +114,29 @@ pub fn page(image: &[u32], page: &mut [u8], work_length: usize) -> Result<(), Re
     let lines = lines_of(&routine);
     let front = page.get_mut(..lines.len()).ok_or(Refusal::whole(refusal::SHORT_PAGE))?;
     front.copy_from_slice(lines.as_bytes());
+    Ok(())
+}
+
+/// Ranges test 22, then the image, then 20 for either list, then what the starts and the routine
+/// are refused with. The ends take the place of the starts; a refusal keeps both lists.
+pub fn ranges(
+    image: &[u32],
+    lowest: &mut [i64],
+    highest: &mut [i64],
+    work_length: usize,
+) -> Result<(), Refusal> {
+    if work_length < WORK_WORDS {
+        return Err(Refusal::whole(refusal::WORK));
+    }
+    let (routine, _) = pass(image)?;
+    if [lowest.len(), highest.len()] != [routine.registers as usize; 2] {
+        return Err(Refusal::whole(refusal::REGISTERS));
+    }
+    let starts = lowest.iter().zip(highest.iter());
+    let starts: Vec<_> = starts.map(|(lowest, highest)| Range::new(*lowest, *highest)).collect();
+    for (register, end) in ends(&routine, &starts)?.into_iter().enumerate() {
+        (lowest[register], highest[register]) = (end.lowest, end.highest);
+    }
     Ok(())
 }
 

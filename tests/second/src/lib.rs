@@ -4,8 +4,9 @@
 //! and shares nothing with the engine it is held against. Data flows one way:
 //!
 //! words → [`reader`] → tree → [`checker`] → [`execution`] (states, rules,
-//! limits), [`needs`] (free runs) and [`page`] (the tree line by line) → [`engine`] (the
-//! host's calls) → [`bytes`] (the same on bytes) and [`program`] (bytes to text).
+//! limits), [`needs`] (free runs), [`page`] (the tree line by line) and [`ranges`]
+//! (registers known only within limits) → [`engine`] (the host's calls) → [`bytes`] (the
+//! same on bytes) and [`program`] (bytes to text).
 //!
 //! Beside that stand what test programs need: [`build`] to write a tree down,
 //! [`encode`] to turn it into an image, [`show`] to print it, [`generate`] to make
@@ -14,8 +15,11 @@
 
 pub mod alike;
 pub mod arithmetic;
+pub mod both_ways;
 pub mod build;
 pub mod bytes;
+pub mod carried;
+pub mod carrying;
 pub mod chain;
 pub mod checker;
 pub mod command_line;
@@ -30,6 +34,7 @@ pub mod needs;
 pub mod node;
 pub mod page;
 pub mod program;
+pub mod ranges;
 pub mod reader;
 pub mod refusal;
 pub mod rules;
@@ -40,6 +45,6 @@ pub mod streams;
 pub mod tree;
 
 pub use encode::encode;
-pub use engine::{check, needs, page, run, Answer, Outcome, Reply};
+pub use engine::{check, needs, page, ranges, run, Answer, Outcome, Reply};
 pub use program::program;
 pub use refusal::Refusal;

@@ -1,13 +1,15 @@
 //! The command line of the second interpreter.
 
 use second::bytes::{check, whole_image};
+use second::carried::Range;
 use second::command_line::{arguments, asks_for_help, complain, write_out};
-use second::engine::{needs, pass, Answer, WORK_WORDS};
+use second::engine::{needs, pass, ranges, Answer, WORK_WORDS};
 use second::generate::Family;
 use second::needs::{Needs, EFFORT};
 use second::page::lines_of;
-use second::program::{print_answer, print_needs, program, with_budget};
+use second::program::{print_answer, print_needs, print_ranges, program, with_budget};
 use second::reader::read;
+use second::refusal::Refusal;
 use second::show::{from_hexadecimal, hexadecimal, show};
 use std::io::Read;
 use std::process::ExitCode;
@@ -34,6 +36,10 @@ usage: second COMMAND [--hex]
                              each node: the node, its depth, the kind's name, the
                              operand and the first node after its descendants; or
                              `refused N at P`
+  ranges RANGE..             standard input: an image; from a range of each register's
+                             start, LOWEST..HIGHEST or one integer for both, prints
+                             that of its end: `register I LOWEST..HIGHEST`; or
+                             `refused N at P`
   show                       standard input: an image; prints it as a tree
   generate FAMILY SEED COUNT prints COUNT images made from SEED, SEED + 1, and so
                              on, one a line, as words in hexadecimal
@@ -43,17 +49,18 @@ usage: second COMMAND [--hex]
                              the program
   help                       prints this, and so does --help behind any command
 
-With --hex, program, run, check, needs, page and show read words in hexadecimal,
-as generate prints them, in place of little-endian bytes.
+With --hex, program, run, check, needs, page, ranges and show read words in
+hexadecimal, as generate prints them, in place of little-endian bytes.
 
-families: small medium large faulty sequences choices functions divisions limits
-          damaged empty shaped plausible words host
+families: small medium large faulty sequences choices functions divisions ranges
+          limits damaged empty shaped plausible words host
 
 Exit status: 0 where the command is done, a refusal printed too; 2 where the
 command line or the input is wrong or a stream fails.
 ";
 
-const COMMANDS: [&str; 7] = ["program", "run", "check", "needs", "page", "show", "generate"];
+const COMMANDS: [&str; 8] =
+    ["program", "run", "check", "needs", "page", "ranges", "show", "generate"];
 
 fn main() -> ExitCode {
     let done = arguments().and_then(|arguments| answer(&arguments)).and_then(write_out);
@@ -90,6 +97,13 @@ fn answer(arguments: &[String]) -> Result<Vec<u8>, String> {
                 Err(refusal) => Ok(print_answer(Answer::Refused(refusal)).into()),
             }
         }
+        ["ranges", given @ ..] => {
+            let first_option = given.iter().position(|word| word.starts_with("--"));
+            let (given, options) = given.split_at(first_option.unwrap_or(given.len()));
+            let starts = given.iter().map(|word| word.parse()).collect::<Result<Vec<_>, _>>()?;
+            let ends = whole_image(&input(options)?).and_then(|image| ends_of(&image, starts));
+            Ok(print_ranges(ends.as_deref().map_err(|refusal| *refusal)).into())
+        }
         ["show", options @ ..] => {
             match whole_image(&input(options)?).and_then(|image| read(&image)) {
                 Ok(routine) => Ok(show(&routine).into()),
@@ -104,6 +118,17 @@ fn answer(arguments: &[String]) -> Result<Vec<u8>, String> {
         }
         [command, ..] => Err(format!("no command {command}; `second help` lists them")),
     }
+}
+
+/// The ends of an image's registers from these starts.
+fn ends_of(image: &[u32], mut starts: Vec<Range>) -> Result<Vec<Range>, Refusal> {
+    let mut lowest: Vec<i64> = starts.iter().map(|start| start.lowest).collect();
+    let mut highest: Vec<i64> = starts.iter().map(|start| start.highest).collect();
+    ranges(image, &mut lowest, &mut highest, WORK_WORDS)?;
+    for (register, range) in starts.iter_mut().enumerate() {
+        *range = Range::new(lowest[register], highest[register]);
+    }
+    Ok(starts)
 }
 
 fn number(text: &str, what: &str) -> Result<u64, String> {

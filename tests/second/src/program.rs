@@ -2,6 +2,7 @@
 //! "The program and its cases").
 
 use crate::bytes::{integers, words};
+use crate::carried::Range;
 use crate::engine::{run, Answer, Outcome, Reply, MOST_BUDGET, WORK_WORDS};
 use crate::needs::{Figures, Needs, Steps};
 use crate::reader::Counts;
@@ -97,6 +98,17 @@ pub fn print_needs(needs: Needs) -> String {
         Steps::Open => "steps open\n".to_string(),
     };
     lines.concat() + &steps
+}
+
+/// The ends of registers, one line each, for the command line.
+pub fn print_ranges(ends: Result<&[Range], Refusal>) -> String {
+    match ends {
+        Ok(ends) => {
+            let lines = ends.iter().enumerate();
+            lines.map(|(index, range)| format!("register {index} {range}\n")).collect()
+        }
+        Err(refusal) => refused_line(refusal),
+    }
 }
 
 fn refused_line(refusal: Refusal) -> String {

@@ -17,7 +17,7 @@ impl Refusal {
     }
 
     /// A refusal whose place is 0 by the paper: those of the image as a whole,
-    /// of the host, of the run, of the needs and of the page.
+    /// of the host, of the run, of the needs, of the page and, but for 44, of the ranges.
     pub fn whole(number: u32) -> Refusal {
         Refusal { number, place: 0 }
     }
@@ -52,11 +52,16 @@ pub const BINDINGS: u32 = 34;
 pub const VALUES: u32 = 35;
 pub const CONTROL: u32 = 36;
 
-// Caused by the wish for the needs.
+// Caused by the wish for the needs, or for the ranges.
 pub const TOO_MANY_STEPS: u32 = 40;
 
 // Caused by the page that the host lends.
 pub const SHORT_PAGE: u32 = 41;
+
+// Caused by the wish for the ranges: by the host's limits, and by the routine.
+pub const CROSSED_LIMITS: u32 = 42;
+pub const LOOP: u32 = 43;
+pub const UNSAFE_ARITHMETIC: u32 = 44;
 
 /// Refusals 1 to 22 come before the first step: they report 0 steps and keep
 /// the registers.
@@ -83,7 +88,7 @@ const fn whole(number: u32, name: &'static str, sentence: &'static str) -> Row {
 }
 
 /// Every refusal, by number.
-pub const TABLE: [Row; 23] = [
+pub const TABLE: [Row; 26] = [
     whole(LENGTH, "length", "the length does not fit the counts"),
     whole(COUNTS, "counts", "n is above 2,000, or r is above 16"),
     at_node(KIND, "kind", "no such kind of node"),
@@ -107,6 +112,13 @@ pub const TABLE: [Row; 23] = [
     whole(CONTROL, "control", "a 513th entry would be on the control stack"),
     whole(TOO_MANY_STEPS, "too many steps", "the steps come out above 1,000,000"),
     whole(SHORT_PAGE, "short page", "the page is shorter than 31 bytes a node"),
+    whole(CROSSED_LIMITS, "crossed limits", "a lowest start is above its highest"),
+    whole(LOOP, "loop", "a Loop is in the tree"),
+    at_node(
+        UNSAFE_ARITHMETIC,
+        "unsafe arithmetic",
+        "an end leaves the integers, or the divisor's range holds 0",
+    ),
 ];
 
 /// The row of a refusal.

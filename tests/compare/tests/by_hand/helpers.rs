@@ -6,9 +6,10 @@ pub use crate::replies::*;
 use compare::byte_calls::ByteCall;
 use compare::bytes::RanOnBytes;
 use compare::page::Paged;
+use compare::ranges::{Lists, Ranged};
 use compare::run::Ran;
 use compare::sample::SHORT_RUN;
-use compare::{bytes, check, engine, needs, page, run, Difference};
+use compare::{bytes, check, engine, needs, page, ranges, run, Difference};
 use second::build::image;
 use second::encode::{bytes_of, register_bytes};
 use second::engine::{Answer, Outcome, Reply, MOST_BUDGET, WORK_WORDS};
@@ -134,6 +135,40 @@ pub fn paged(image: &[u32]) -> String {
 /// The page of a tree with this many registers.
 pub fn paged_tree(registers: u32, root: impl Into<Root>) -> String {
     paged(&image(registers, root))
+}
+
+/// The answer about ranges, and both lists after it, which held these before. Where there are
+/// ends, runs from starts within the limits are held to them.
+pub fn ranges_over(
+    image: &[u32],
+    lowest: &[i64],
+    highest: &[i64],
+    work_length: usize,
+) -> (Result<(), Refusal>, Vec<i64>, Vec<i64>) {
+    let random = &mut Random::new(work_length as u64);
+    let before = Lists { lowest: lowest.to_vec(), highest: highest.to_vec() };
+    let Ranged { answer, lists } = agreed(ranges::compare(image, &before, work_length, random));
+    if answer.is_ok() {
+        for _ in 0..3 {
+            agreed(ranges::run_within(image, &before.ranges(), &lists.ranges(), random));
+        }
+    }
+    (answer, lists.lowest, lists.highest)
+}
+
+/// The ends of an image's registers from these starts, each a lowest and a highest, with a work
+/// slice of this length; a refusal keeps both lists.
+pub fn ends_with(image: &[u32], starts: &[(i64, i64)], work_length: usize) -> Ends {
+    let (lowest, highest): (Vec<i64>, Vec<i64>) = starts.iter().copied().unzip();
+    let (answer, lowest, highest) = ranges_over(image, &lowest, &highest, work_length);
+    let ends: Vec<_> = lowest.into_iter().zip(highest).collect();
+    assert!(answer.is_ok() || ends == starts, "{answer:?} changes {starts:?} to {ends:?}");
+    answer.map(|()| ends)
+}
+
+/// The ends of a tree's registers from these starts.
+pub fn ends_of(root: impl Into<Root>, starts: &[(i64, i64)]) -> Ends {
+    ends_with(&image(starts.len() as u32, root), starts, WORK_WORDS)
 }
 
 fn agreed<T>(compared: Result<T, Box<Difference>>) -> T {

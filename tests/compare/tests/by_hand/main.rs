@@ -51,6 +51,18 @@ mod page_limits;
 mod page_refusals;
 #[path = "../../../second/tests/suite/pages.rs"]
 mod pages;
+#[path = "../../../second/tests/suite/range_choices.rs"]
+mod range_choices;
+#[path = "../../../second/tests/suite/range_functions.rs"]
+mod range_functions;
+#[path = "../../../second/tests/suite/range_limits.rs"]
+mod range_limits;
+#[path = "../../../second/tests/suite/range_places.rs"]
+mod range_places;
+#[path = "../../../second/tests/suite/range_refusals.rs"]
+mod range_refusals;
+#[path = "../../../second/tests/suite/ranges.rs"]
+mod ranges;
 #[path = "../../../second/tests/suite/refused_images.rs"]
 mod refused_images;
 #[path = "../../../second/tests/suite/sequence_limits.rs"]

@@ -56,6 +56,17 @@ fn page_counts_what_it_compared() {
 }
 
 #[test]
+fn ranges_counts_what_it_compared() {
+    let (output, _, status) = compare(&["ranges", "300", "9"]);
+    assert_eq!(status, Some(0), "{output}");
+    assert!(output.contains("ranges: 300 images, "), "{output}");
+    assert!(output.contains(" calls, no difference"), "{output}");
+    for words in ["  ends\n", "  run within the limits\n", "  refused 43\n", "  refused 44\n"] {
+        assert!(output.contains(words), "{output}");
+    }
+}
+
+#[test]
 fn bytes_counts_what_it_compared() {
     let (output, _, status) = compare(&["bytes", "100", "9"]);
     assert_eq!(status, Some(0), "{output}");
@@ -100,7 +111,7 @@ fn another_program_is_named_by_pirun() {
 #[test]
 fn each_command_takes_each_family() {
     for (family, _) in second::generate::Family::ALL {
-        for command in ["check", "run", "needs", "page", "bytes", "program"] {
+        for command in ["check", "run", "needs", "page", "ranges", "bytes", "program"] {
             let (output, _, status) = compare(&[command, "3", "18446744073709551614", family]);
             assert_eq!(status, Some(0), "{output}");
             assert!(output.contains(&format!("{command}: 3 images, ")), "{output}");
@@ -112,23 +123,26 @@ fn each_command_takes_each_family() {
 #[test]
 fn help_goes_to_standard_output() {
     let mut asked: Vec<Vec<&str>> = vec![vec!["help"], vec!["--help"], vec!["-h"]];
-    for command in ["check", "run", "needs", "page", "bytes", "program", "help"] {
+    for command in ["check", "run", "needs", "page", "ranges", "bytes", "program", "help"] {
         asked.extend([vec![command, "--help"], vec![command, "-h"], vec!["help", command]]);
         asked.push(vec![command, "100000", "1", "--help"]);
     }
     for arguments in asked {
         let (output, error, status) = compare(&arguments);
         assert_eq!((status, error.as_str()), (Some(0), ""), "{arguments:?}");
-        for command in ["check", "run", "needs", "page", "bytes", "program"] {
+        for command in ["check", "run", "needs", "page", "ranges", "bytes", "program"] {
             assert!(output.contains(&format!("  {command} COUNT SEED")), "{arguments:?}");
         }
-        assert!(output.contains("100,000 images take"), "{arguments:?}");
+        assert!(
+            output.contains("In a release build a second is enough for about "),
+            "{arguments:?}"
+        );
     }
 }
 
 #[test]
 fn bad_usage_says_what_is_wrong() {
-    let cases: [(&[&str], &str); 13] = [
+    let cases: [(&[&str], &str); 14] = [
         (&[], "no command"),
         (&["compare"], "no command compare"),
         (&["check"], "check takes COUNT, SEED"),
@@ -136,6 +150,7 @@ fn bad_usage_says_what_is_wrong() {
         (&["run", "1"], "run takes COUNT, SEED"),
         (&["needs", "1"], "needs takes COUNT, SEED"),
         (&["page", "1"], "page takes COUNT, SEED"),
+        (&["ranges", "1"], "ranges takes COUNT, SEED"),
         (&["bytes", "1"], "bytes takes COUNT, SEED"),
         (&["program", "1"], "program takes COUNT, SEED"),
         (&["check", "1", "2", "small", "4"], "check takes COUNT, SEED"),

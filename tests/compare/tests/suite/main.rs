@@ -11,5 +11,6 @@ mod image_calls;
 mod needs;
 mod page;
 mod program;
+mod ranges;
 mod run;
 mod scripts;

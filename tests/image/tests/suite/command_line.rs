@@ -40,6 +40,8 @@ command
     let needs = "control 0\nvalues 0\ncells 2\nbindings 2\nsteps 0\n";
     assert_eq!(text_said(&["needs", "-"], text.as_bytes()), needs);
     assert_eq!(text_said(&["page", "-"], text.as_bytes()), "");
+    let ends = "register 0 -5..5\nregister 1 6..6\n";
+    assert_eq!(text_said(&["ranges", "-", "-5..5", "6"], text.as_bytes()), ends);
     let ran = "none\nsteps 0\nmost 2 2 0 0\nregister 0 -5\nregister 1 6\n";
     assert_eq!(text_said(&["run", "-", "-5", "6"], text.as_bytes()), ran);
     let no_node = |number: &str| {
@@ -110,7 +112,8 @@ fn refusals_prints_the_table() {
     assert!(lines.contains("\n13 not assignable: the name cannot be set\n"));
     assert!(lines.contains("\n36 control: a 513th entry would be on the control stack\n"));
     assert!(lines.contains("\n40 too many steps: the steps come out above 1,000,000\n"));
-    assert!(lines.ends_with("\n41 short page: the page is shorter than 31 bytes a node\n"));
+    let last = "an end leaves the integers, or the divisor's range holds 0";
+    assert!(lines.ends_with(&format!("\n44 unsafe arithmetic: {last}\n")));
     assert_eq!(lines.lines().count(), second::refusal::TABLE.len());
 }
 
@@ -123,7 +126,7 @@ fn help_is_everywhere() {
     for arguments in [&["--help"], &["-h"]] {
         assert_eq!(text_said(arguments, &[]), help);
     }
-    for command in ["make", "show", "text", "find", "run", "needs", "page", "refusals"] {
+    for command in ["make", "show", "text", "find", "run", "needs", "page", "ranges", "refusals"] {
         assert!(help.contains(&format!("\n  {command} ")), "{command}");
         assert_eq!(text_said(&["help", command], &[]), help);
         assert_eq!(text_said(&[command, "--help"], &[]), help);
@@ -147,13 +150,13 @@ fn bad_usage_says_what_is_wrong() {
     wrong(&[], b"", "no command; `image help` lists them");
     wrong(&["walk"], b"", "no command walk; `image help` lists them");
     wrong(&["walk", "--help"], b"", "no command walk; `image help` lists them");
-    for command in ["make", "show", "text", "find", "run", "needs", "page"] {
+    for command in ["make", "show", "text", "find", "run", "needs", "page", "ranges"] {
         wrong(&[command], b"", &format!("wrong arguments for {command}; see `image help`"));
     }
     wrong(&["needs", "-", "8192"], b"", "wrong arguments for needs; see `image help`");
     wrong(&["page", "-", "62"], b"", "wrong arguments for page; see `image help`");
     wrong(&["refusals", "-"], b"", "wrong arguments for refusals; see `image help`");
-    for command in ["make", "find", "run", "needs", "page"] {
+    for command in ["make", "find", "run", "needs", "page", "ranges"] {
         let no_expression = "-:2:6: an expression must stand here, not `5`";
         wrong(&[command, "-"], b"registers 0\n(Not 5)", no_expression);
     }

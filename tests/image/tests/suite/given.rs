@@ -113,6 +113,7 @@ fn an_image_where_a_text_is_wanted() {
         wrong(&["run", &file, "5"], b"", &message);
         wrong(&["needs", &file], b"", &message);
         wrong(&["page", &file], b"", &message);
+        wrong(&["ranges", &file, "5"], b"", &message);
     }
     let message = "standard input is an image, not a text; `image text -` makes a text of it";
     wrong(&["make", "-"], &bytes_of(&double()), message);

@@ -106,6 +106,7 @@ impl Generator<'_> {
                 let (declaration, declared) = self.declaration(scope, room, 0, 3);
                 blk(declaration, self.choices_within(&scope.with(&declared), settings - 1))
             }
+            Rounds if !self.temper.has_loops() => self.chain(scope, settings),
             Rounds => self.counted_loop(scope, |generator, inner| generator.chain(inner, settings)),
             Function => self.choosing_function(scope, settings),
             Sequence => {

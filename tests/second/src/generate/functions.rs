@@ -53,6 +53,7 @@ impl Generator<'_> {
                 let count = self.random.between(2, 5);
                 // Without Loops the steps are a figure, without Conds too there is one run.
                 let (choices, loops) = (self.random.chance(2, 3), self.random.chance(1, 6));
+                let loops = loops && self.temper.has_loops();
                 self.within_functions(scope, count, Tasks { levels: 2, choices, loops })
             };
             if Node::from(&command).preorder().len() <= MOST_NODES {
@@ -117,7 +118,7 @@ impl Generator<'_> {
         let (declaration, declared) = self.declaration(&inside, DECLARATION, 0, 2);
         let inside = inside.with(&declared);
         let mut command = self.task(&inside, tasks);
-        if idle && self.random.chance(1, 3) {
+        if idle && self.random.chance(1, 3) && self.temper.has_loops() {
             command = repeat(self.expression(&inside, 1, EXPRESSION), command);
         }
         let codes = formals.iter().map(|(_, code)| *code).collect();
@@ -197,7 +198,7 @@ impl Generator<'_> {
     /// Loop in one that no one calls.
     fn doubling(&mut self, scope: &Scope) -> Command {
         let (count, with_a_loop) = match self.random.below(12) {
-            0 | 1 => (self.random.between(12, 16), true),
+            0 | 1 => (self.random.between(12, 16), self.temper.has_loops()),
             2 => (self.random.between(28, 34), false),
             _ => (self.random.between(12, 19), false),
         };

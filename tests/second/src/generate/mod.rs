@@ -9,7 +9,10 @@ pub mod functions;
 pub mod limits;
 pub mod noise;
 pub mod random;
+pub mod ranges;
 pub mod scope;
+pub mod starts;
+pub mod steps;
 pub mod tower;
 pub mod well_typed;
 
@@ -54,6 +57,9 @@ pub enum Family {
     /// Quotients of every sign, of each other, in Assigns, Conds, loops and functions, up to
     /// some 120 nodes, with starting values of every sign and size.
     Divisions,
+    /// Without Loop, with Conds whose tests may be both, up to 300 nodes; a few have a Loop, an
+    /// operation that is not safe, or near 1,000,000 steps.
+    Ranges,
     /// Near a limit of nodes, depth, cells, bindings or stack entries.
     Limits,
     /// A well-typed image with one fault.
@@ -71,7 +77,7 @@ pub enum Family {
 }
 
 impl Family {
-    pub const ALL: [(&'static str, Family); 15] = [
+    pub const ALL: [(&'static str, Family); 16] = [
         ("small", Family::Small),
         ("medium", Family::Medium),
         ("large", Family::Large),
@@ -80,6 +86,7 @@ impl Family {
         ("choices", Family::Choices),
         ("functions", Family::Functions),
         ("divisions", Family::Divisions),
+        ("ranges", Family::Ranges),
         ("limits", Family::Limits),
         ("damaged", Family::Damaged),
         ("empty", Family::Empty),
@@ -120,6 +127,7 @@ impl Family {
                 damage::change_a_function_of,
             ),
             Family::Divisions => divisions_case(random),
+            Family::Ranges => ranges_case(random),
             Family::Limits => {
                 let image = encode(&limits::near_a_limit(random));
                 case_of(random, image, false)
@@ -198,6 +206,14 @@ fn divisions_case(random: &mut Random) -> Case {
         *start = divisions::position(random);
     }
     case
+}
+
+/// A case whose registers may be known within limits, as `starts::starts` gives them.
+fn ranges_case(random: &mut Random) -> Case {
+    let temper = if random.chance(1, 2) { Temper::Straight } else { Temper::Risky };
+    let registers = *random.pick(&[0, 1, 2, 2, 3, 4, 8, 16]);
+    let root = Generator { random, temper }.ranges(&Scope::of_registers(registers));
+    case_of(random, encode(&Routine { registers, root }), true)
 }
 
 fn damaged_case(random: &mut Random) -> Case {

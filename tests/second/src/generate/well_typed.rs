@@ -66,6 +66,10 @@ pub enum Temper {
     /// Faults stand in many places, so that the first one met tells in which
     /// order things run.
     Faulty,
+    /// Calm, and without Loops.
+    Straight,
+    /// The same, with operations here and there that hang on what names hold.
+    Risky,
 }
 
 pub struct Generator<'r> {
@@ -94,6 +98,9 @@ impl Generator<'_> {
         if code == 0 && self.temper == Temper::Faulty && self.random.chance(1, 6) {
             return self.fault();
         }
+        if code == 0 && self.temper == Temper::Risky && self.random.chance(1, 3) {
+            return self.risk(scope);
+        }
         if code == 1 && self.random.chance(1, 5) {
             return not(self.expression(scope, 1, room.below(room.nodes - 1)));
         }
@@ -102,10 +109,10 @@ impl Generator<'_> {
         let (operator, operands) = self.operator(code);
         let first = self.expression(scope, operands, left);
         let second = match operator {
-            Operator::Div if self.temper == Temper::Calm || self.random.chance(1, 2) => {
+            Operator::Div if self.temper.is_calm() || self.random.chance(1, 2) => {
                 self.divisor(right)
             }
-            Operator::Mul if self.temper == Temper::Calm => num(self.random.below(3) as u32),
+            Operator::Mul if self.temper.is_calm() => num(self.random.below(3) as u32),
             _ => self.expression(scope, operands, right),
         };
         binary(operator, first, second)
@@ -186,7 +193,7 @@ impl Generator<'_> {
         if code == 1 {
             return boo(self.random.chance(1, 2));
         }
-        let most = if self.temper == Temper::Calm { 6 } else { 10 };
+        let most = if self.temper.is_calm() { 6 } else { 10 };
         num([0, 1, 2, 3, 5, 7, 10, 1000, 1 << 31, u32::MAX][self.random.below(most)])
     }
 
@@ -255,10 +262,14 @@ impl Generator<'_> {
         if room.nodes > 2 * LEAST_COMMAND.nodes && room.levels > LEAST_COMMAND.levels {
             fitting.push((if large { 8 } else { 3 }, Shape::Sequence));
         }
-        if room.nodes >= 2 + LEAST_COMMAND.nodes && room.levels > LEAST_COMMAND.levels {
+        let loops = self.temper.has_loops() && room.levels > LEAST_COMMAND.levels;
+        if loops && room.nodes >= 2 + LEAST_COMMAND.nodes {
             fitting.push((1, Shape::Loop));
         }
-        if room.nodes >= COUNTED + LEAST_COMMAND.nodes && room.levels >= 3 + LEAST_COMMAND.levels {
+        if loops
+            && room.nodes >= COUNTED + LEAST_COMMAND.nodes
+            && room.levels >= 3 + LEAST_COMMAND.levels
+        {
             fitting.push((2, Shape::CountedLoop));
         }
         if room.holds(LEAST_BLOCK) {

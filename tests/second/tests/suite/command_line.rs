@@ -108,6 +108,25 @@ fn page_says_lines_or_refusal() {
 }
 
 #[test]
+fn ranges_says_ends_or_refusal() {
+    let double = bytes_of(&image(2, assign(1, mul(id(0), num(2)))));
+    let ends = "register 0 20..40\nregister 1 40..80\n";
+    assert_eq!(said(&["ranges", "20..40", "7"], &double), ends);
+    assert_eq!(
+        said(&["ranges", "-3..-1", "-7..7"], &double),
+        "register 0 -3..-1\nregister 1 -6..-2\n"
+    );
+    assert_eq!(said(&["ranges", "5", "6", "--hex"], b"0 2"), "register 0 5..5\nregister 1 6..6\n");
+    assert_eq!(said(&["ranges", "--hex"], b"0 0"), "");
+    assert_eq!(said(&["ranges", "0..9223372036854775807", "7"], &double), "refused 44 at 1\n");
+    assert_eq!(said(&["ranges", "1..0", "7"], &double), "refused 42 at 0\n");
+    assert_eq!(said(&["ranges", "1..0"], &double), "refused 20 at 0\n");
+    assert_eq!(said(&["ranges", "1"], &bytes_of(&image(0, id(3)))), "refused 10 at 0\n");
+    let rounds = bytes_of(&image(2, factorial()));
+    assert_eq!(said(&["ranges", "1", "2"], &rounds), "refused 43 at 0\n");
+}
+
+#[test]
 fn show_prints_the_tree() {
     let body = block(bind_ref(3, id(2)), assign(0, id(3)));
     let root = blk(bind_abs(1, &[(2, 5)], body), call(1, vec![num(7)]));
@@ -168,6 +187,11 @@ fn bad_usage_says_what_is_wrong() {
     wrong(&["check", "--octal"], "no option --octal");
     wrong(&["needs", "7"], "no option 7");
     wrong(&["page", "62"], "no option 62");
+    wrong(&["ranges", "--octal"], "no option --octal");
+    wrong(&["ranges", "1.."], "a range is LOWEST..HIGHEST or one integer, not 1..");
+    wrong(&["ranges", "1", "few"], "a range is LOWEST..HIGHEST or one integer, not few");
+    wrong(&["ranges", "1..2..3"], "a range is LOWEST..HIGHEST or one integer, not 1..2..3");
+    wrong(&["ranges", "0..9223372036854775808"], "9223372036854775808 is out of range: an end is");
     wrong(&["check", "--hex"], "zz is no 32-bit word");
     wrong(&["walk", "--help"], "no command walk");
     let mut bytes = command(&["check"]);
@@ -184,7 +208,7 @@ fn help_is_everywhere() {
     for arguments in [&["--help"], &["-h"]] {
         assert_eq!(said(arguments, &[]), help);
     }
-    for command in ["program", "run", "check", "needs", "page", "show", "generate"] {
+    for command in ["program", "run", "check", "needs", "page", "ranges", "show", "generate"] {
         assert!(help.contains(&format!("\n  {command} ")), "{command}");
         assert_eq!(said(&["help", command], &[]), help);
         assert_eq!(said(&[command, "--help"], &[]), help);

@@ -3,7 +3,8 @@
 pub use crate::replies::*;
 use second::build::image;
 use second::bytes;
-use second::engine::{check, needs, page, run, Answer, Outcome, Reply, MOST_BUDGET, WORK_WORDS};
+use second::engine::{check, needs, page, ranges, run};
+use second::engine::{Answer, Outcome, Reply, MOST_BUDGET, WORK_WORDS};
 pub use second::needs::{given, open};
 use second::needs::{Figures, Needs, Steps, EFFORT};
 use second::refusal::TOO_MANY_STEPS;
@@ -114,4 +115,31 @@ pub fn paged(image: &[u32]) -> String {
 /// The page of a tree with this many registers.
 pub fn paged_tree(registers: u32, root: impl Into<Root>) -> String {
     paged(&image(registers, root))
+}
+
+/// The answer about ranges, and both lists after it, which held these before.
+pub fn ranges_over(
+    image: &[u32],
+    lowest: &[i64],
+    highest: &[i64],
+    work_length: usize,
+) -> (Result<(), Refusal>, Vec<i64>, Vec<i64>) {
+    let (mut lowest, mut highest) = (lowest.to_vec(), highest.to_vec());
+    let answer = ranges(image, &mut lowest, &mut highest, work_length);
+    (answer, lowest, highest)
+}
+
+/// The ends of an image's registers from these starts, each a lowest and a highest, with a work
+/// slice of this length; a refusal keeps both lists.
+pub fn ends_with(image: &[u32], starts: &[(i64, i64)], work_length: usize) -> Ends {
+    let (lowest, highest): (Vec<i64>, Vec<i64>) = starts.iter().copied().unzip();
+    let (answer, lowest, highest) = ranges_over(image, &lowest, &highest, work_length);
+    let ends: Vec<_> = lowest.into_iter().zip(highest).collect();
+    assert!(answer.is_ok() || ends == starts, "{answer:?} changes {starts:?} to {ends:?}");
+    answer.map(|()| ends)
+}
+
+/// The ends of a tree's registers from these starts.
+pub fn ends_of(root: impl Into<Root>, starts: &[(i64, i64)]) -> Ends {
+    ends_with(&image(starts.len() as u32, root), starts, WORK_WORDS)
 }

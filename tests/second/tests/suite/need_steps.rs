@@ -5,6 +5,7 @@
 use crate::helpers::*;
 use second::build::*;
 use second::engine::Outcome;
+use second::generate::steps::of_steps;
 use second::needs::{needs, Needs, Steps, MOST_STEPS};
 use second::reader::read;
 use second::tree::*;
@@ -54,27 +55,6 @@ fn the_steps_of_functions_that_call_twice() {
         let needs = needed_tree(1, within_doubling(count, once(count)));
         assert_eq!(needs, needs_refused(40, 0), "{count} functions");
     }
-}
-
-/// A command of exactly so many steps, some hundreds at least: within 15 doubling functions as
-/// many Calls as go in, the longest first, and Assigns for the rest.
-fn of_steps(steps: u64) -> Command {
-    const FUNCTIONS: Name = 15;
-    let mut left = steps - 6 * u64::from(FUNCTIONS) - 3;
-    let mut all = vec![set()];
-    // Each command behind the first takes a CSeq more.
-    for name in (1..=FUNCTIONS).rev() {
-        while left >= steps_of_call(name) + 1 + 3 * 7 {
-            left -= steps_of_call(name) + 1;
-            all.push(once(name));
-        }
-    }
-    while left > 0 {
-        let longer = !left.is_multiple_of(4);
-        left -= if longer { 7 } else { 4 };
-        all.push(if longer { assign(0, sum(num(1), num(1))) } else { set() });
-    }
-    within_doubling(FUNCTIONS, commands(all))
 }
 
 fn steps_of(needs: Needs) -> Steps {

@@ -36,3 +36,10 @@ pub fn needs_refused(number: u32, place: Place) -> Needs {
 pub fn page_refused(number: u32, place: Place) -> Result<(), Refusal> {
     Err(Refusal::new(number, place))
 }
+
+/// The lowest and the highest end of each register, or what they are refused with.
+pub type Ends = Result<Vec<(i64, i64)>, Refusal>;
+
+pub fn ends_refused(number: u32, place: Place) -> Ends {
+    Err(Refusal::new(number, place))
+}
