@@ -8,9 +8,9 @@ ghost use Rattle.carrying.specs.Frames.{PutCell, SetCell, Copied, Exchan
 use crate::layout::CELL_HIGHS;
 use crate::layout::CELL_LOWS;
 use crate::layout::CELL_SORTS;
-use crate::layout::MOST_CELLS;
 use intervals::operators::wider;
 use intervals::values::Value;
+use machine::layout::MOST_CELLS;
 
 // What a cell holds.
 pub fn contents(work: &[u64], at: usize) -> Value

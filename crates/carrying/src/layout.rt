@@ -1,15 +1,8 @@
 // Where names and cells stand in the work words, behind the tree's nodes. Layout.antt has the same.
+use machine::layout::MOST_BINDINGS;
+use machine::layout::MOST_CELLS;
 use reader::MOST_NODES;
 use reader::NAMES;
-
-// The paper's limits.
-pub const MOST_CELLS: usize = 256;
-
-pub const MOST_BINDINGS: usize = 512;
-
-pub const MOST_VALUE_ENTRIES: usize = 512;
-
-pub const MOST_CONTROL_ENTRIES: usize = 512;
 
 // A row for each live binding: a word for its name, the sort of its value and the pointer of the row below it; and the two words of the value.
 pub const ROW_LINKS: usize = MOST_NODES;
