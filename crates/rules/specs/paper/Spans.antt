@@ -1,9 +1,11 @@
--- The ranges, by examples: ends over all pairs of the operands' ends, both commands of a Cond or one, the place of 44, and what is refused before.
+-- The ranges, by examples: ends over all pairs of the operands' ends, both commands of a Cond or one, the place of 44, and what is refused before;
+-- and the steps with both commands of a Cond counted.
 use Prim.Native.Nat.{ℕ}
 use mathlib.Core.Path.{_≡_, refl}
 use mathlib.Core.List.{List, [], _∷_}
 use lib.IntN.{ℤ, pos, negsuc}
 use lib.ListN.{replicate}
+use Rattle.rules.specs.paper.Tree.{Root, command, Cond, Assign, Binary, Id, Num, order, Lt, arithmetic, Sum}
 use Rattle.rules.specs.paper.Refusals.{Registers, CrossedLimits, HasLoop, UnsafeArithmetic}
 use Rattle.rules.specs.paper.Limits.{work-words}
 use Rattle.rules.specs.paper.Integers.{greatest-integer, compute, compare, equal-integers}
@@ -47,6 +49,13 @@ calling =
     23 ∷ 30 ∷ 41 ∷ 42 ∷ 23 ∷ 30 ∷ 40 ∷ 3 ∷ 20 ∷ 4 ∷ 3 ∷ 3 ∷ 24 ∷ 6 ∷ 3 ∷ 1 ∷
     0 ∷ 1 ∷ 1 ∷ 2 ∷ 0 ∷ 3 ∷ 0 ∷ 2 ∷ 0 ∷ 0 ∷ 3 ∷ 0 ∷ 65 ∷ 0 ∷ 0 ∷ 2 ∷ []
 
+-- Blk(Bind(1, Abs(Formal 2 of code 0, Formal 3 of code 0, Blk(Bind(4, 1), Assign(0, Id 2)))), Call(1, Div(1, Id 0), Div(2, Id 0))), one register
+abbrev two-actuals : List ℕ
+two-actuals =
+    17 ∷ 1 ∷
+    23 ∷ 30 ∷ 41 ∷ 42 ∷ 42 ∷ 23 ∷ 30 ∷ 1 ∷ 20 ∷ 3 ∷ 24 ∷ 7 ∷ 1 ∷ 3 ∷ 7 ∷ 1 ∷ 3 ∷
+    0 ∷ 1 ∷ 2 ∷ 2 ∷ 3 ∷ 0 ∷ 4 ∷ 1 ∷ 0 ∷ 2 ∷ 129 ∷ 0 ∷ 1 ∷ 0 ∷ 0 ∷ 2 ∷ 0 ∷ []
+
 -- `negsuc n` is −(n + 1).
 abbrev pub spans : List Span
 spans =
@@ -64,8 +73,17 @@ spans =
     kept guarded (pos 0 ∷ pos 0 ∷ []) (pos 10 ∷ pos 0 ∷ []) (no-ends UnsafeArithmetic 7) ∷
     -- Assign(0, Sum(Mul(Id 0, Id 0), Div(1, Id 0))) over 0 to 2^63 − 1: 44 at the first of two such nodes
     kept (8 ∷ 1 ∷ 20 ∷ 4 ∷ 6 ∷ 3 ∷ 3 ∷ 7 ∷ 1 ∷ 3 ∷ 0 ∷ 0 ∷ 0 ∷ 0 ∷ 0 ∷ 0 ∷ 1 ∷ 0 ∷ []) (pos 0 ∷ []) (greatest-integer ∷ []) (no-ends UnsafeArithmetic 2) ∷
-    -- a function called with twice the register: 2 to 20 and 1 to 10
+    -- Cond(Lt(Id 0, 10), Assign(0, Div(1, Id 0)), Assign(0, Div(2, Id 0))) over 0 to 20: 44 in the first command
+    kept (
+    12 ∷ 1 ∷
+    25 ∷ 9 ∷ 3 ∷ 1 ∷ 20 ∷ 7 ∷ 1 ∷ 3 ∷ 20 ∷ 7 ∷ 1 ∷ 3 ∷
+    0 ∷ 0 ∷ 0 ∷ 10 ∷ 0 ∷ 0 ∷ 1 ∷ 0 ∷ 0 ∷ 0 ∷ 2 ∷ 0 ∷ []
+    ) (pos 0 ∷ []) (pos 20 ∷ []) (no-ends UnsafeArithmetic 5) ∷
+    -- actuals run last to first: 44 at the second
+    kept two-actuals (pos 0 ∷ []) (pos 1 ∷ []) (no-ends UnsafeArithmetic 14) ∷
+    -- a function called with twice the register: 2 to 20 and 1 to 10; and where three times the register leaves the integers, 44 at the Sum in its Blk
     span calling (pos 1 ∷ []) (pos 10 ∷ []) (pos 3 ∷ []) (pos 30 ∷ []) ∷
+    kept calling (pos 1 ∷ []) (pos 4000000000000000000 ∷ []) (no-ends UnsafeArithmetic 9) ∷
     -- Loop(Lt(Id 0, 10), Assign(0, Sum(Id 0, 1))): 43
     kept (8 ∷ 1 ∷ 21 ∷ 9 ∷ 3 ∷ 1 ∷ 20 ∷ 4 ∷ 3 ∷ 1 ∷ 0 ∷ 0 ∷ 0 ∷ 10 ∷ 0 ∷ 0 ∷ 0 ∷ 1 ∷ []) (pos 0 ∷ []) (pos 5 ∷ []) (no-ends HasLoop 0) ∷
     -- a lowest start that exceeds its highest: 42; a list that is too short: 20
@@ -90,25 +108,14 @@ AllHold (s ∷ ss) = Holds s × AllHold ss
 
 pub spans-hold : AllHold spans
 unfolding AllHold
-spans-hold = (
-  (refl, refl, refl),
-  (
-    (refl, refl, refl),
-    (
-      (refl, refl, refl),
-      (
-        (refl, refl, refl),
-        (
-          (refl, refl, refl),
-          (
-            (refl, refl, refl),
-            (
-              (refl, refl, refl),
-              ((refl, refl, refl), ((refl, refl, refl), ((refl, refl, refl), ((refl, refl, refl), ((refl, refl, refl), ((refl, refl, refl), tt)))))),
-            ),
-          ),
-        ),
-      ),
-    ),
-  ),
-)
+spans-hold = ((refl, refl, refl), ((refl, refl, refl), ((refl, refl, refl), ((refl, refl, refl), ((refl, refl, refl), ((refl, refl, refl), ((refl, refl, refl), ((refl, refl, refl), ((refl, refl, refl), ((refl, refl, refl), ((refl, refl, refl), ((refl, refl, refl), ((refl, refl, refl), ((refl, refl, refl), ((refl, refl, refl), ((refl, refl, refl), tt))))))))))))))))
+
+-- ---- 40 counts both commands of a Cond: of Cond(Lt(Id 0, 10), Assign(1, 1), Assign(1, Sum(Id 1, 5))) a test of 4 steps and commands of 3 and 6.
+
+abbrev choosing : Root
+choosing =
+    command (Cond 0 (Binary 1 (order Lt) (Id 2 0) (Num 3 10)) (Assign 4 1 (Num 5 1)) (Assign 6 1 (Binary 7 (arithmetic Sum) (Id 8 1) (Num 9 5))))
+
+pub both-counted : (routine-need 2 choosing .steps ≡ 12) × (routine-need 2 choosing .all-steps ≡ 15)
+unfolding in-turn expression-need need-of tested-need command-need root-need routine-need register-needs
+both-counted = (refl, refl)
