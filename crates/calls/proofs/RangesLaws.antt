@@ -323,8 +323,19 @@ tree-loaded image before after e loaded number count nodes g =
 pub small-tree : {count nodes : ℕ} {words : List ℕ} → TreeStands count words nodes → (count ≤ most-registers) × SmallTree words count nodes
 small-tree {count} s = (check-exact (s .0) count (s .1) (s .2) .0 (s .3) .shape .registers, (s .1, s .4, figures-small (s .0) count (s .1) (s .2) (s .3)))
 
+-- As many limits as registers.
+pub stands-counted : (count registers : ℕ) (words : List ℕ) (nodes : ℕ) → count ≡ registers → TreeStands registers words nodes → TreeStands count words nodes
+stands-counted count registers words nodes q s = subst (λ n. TreeStands n words nodes) (sym q) s
+
+pub ranged-counted : (count registers : ℕ) (words : List ℕ) (nodes : ℕ) (lowest highest : List ℕ) (r : Ranged) (lowest′ highest′ : List ℕ) → count ≡ registers →
+    TreeRanged count words nodes lowest highest r lowest′ highest′ → TreeRanged registers words nodes lowest highest r lowest′ highest′
+ranged-counted count registers words nodes lowest highest r lowest′ highest′ q done = subst (λ n. TreeRanged n words nodes lowest highest r lowest′ highest′) q done
+
 pub beyond-regions : {a b : List ℕ} {bindings cells : ℕ} → Keeps a b bindings cells → KeptBeyond work-words a b
 beyond-regions {a} {b} k = record { same-length = k .same-length; same-beyond = drop-same work-words a b (k .same-length) (λ i h. k .same-beyond i (omega (arith, h))) }
+
+pub none-touched : (work : List ℕ) → KeptBeyond work-words work work
+none-touched work = record { same-length = refl; same-beyond = refl }
 
 pub answered : (image lowest highest lowest′ highest′ work after last : List ℕ) (r : Ranged) → work-words ≤ length work → ImageRanged (check-image image) lowest highest r lowest′ highest′ →
     KeptBeyond work-words work after → last ≡ cleared after → RangedAs (ranges-call image lowest highest work) r lowest′ highest′ last

@@ -1,3 +1,9 @@
+-- The image, then its ranges.
+use native.Mathlib.Omega.{arith}
+use denote.Ref.{now}
+use Rattle.loader.proofs.LoadLaws.{beyond-then}
+use Rattle.calls.proofs.LoadedLaws.{loaded-beyond}
+use Rattle.calls.proofs.RangesLaws.{tree-loaded, passed-ranged, refusal-ranged}
 use borrow.Author.Needs.{needs}
 use Rattle.calls.proofs.limits.limit_image.Statement.{statement}
 use Rattle.calls.proofs.limits.limit_image.Tie as tie
@@ -13,7 +19,9 @@ enum-known-loaded : tie.Need-enum-known-loaded
 enum-known-loaded c = search needs
 
 limit-tree-requires : tie.Need-limit-tree-requires
-limit-tree-requires c κs = ?
+limit-tree-requires c κs =
+    let loaded = c .before .before .before .before .before .before .before .before .load .ensures in
+    (omega (arith, c .before .before .before .before .before .before .before .before .before .before .before .before .before .before .pre, loaded-beyond _ _ _ _ loaded .same-length), tree-loaded _ _ _ _ loaded _ _ _ (c .before .before .before .before .loaded .given .1))
 
 enum-known-loaded-2 : tie.Need-enum-known-loaded-2
 enum-known-loaded-2 c = search needs
@@ -28,13 +36,24 @@ same-length-3 : tie.Need-same-length-3
 same-length-3 c = search needs
 
 returns : tie.Need-returns
-returns c = ?
+returns c =
+    let start = c .before .before .before .before .before .before .before .before .before .before .before .before .before .before .before .before .before .before .before .before .before in
+    let low = c .before .before .before .before .before .before .before .before .before .before .before .before .before .before .before .before .before .before .before .slice-known .given in
+    let high = c .before .before .before .before .before .before .before .before .before .before .before .before .before .before .before .before .before .before .slice-known2 .given in
+    let loaded = c .before .before .before .before .before .before .before .before .before .before .before .before .before .before .before .load .ensures in
+    let done = c .before .before .before .before .before .before .limit-tree .ensures in
+    (passed-ranged (now (start .args .lowest)) (now (start .args .highest)) (λ i h. low i .fits) (λ i h. high i .fits) _ _ _ _ loaded _ _ _ (c .before .before .before .before .before .before .before .before .before .before .before .loaded .given .1) _ _ _ (done .0), beyond-then (loaded-beyond _ _ _ _ loaded) (done .1))
 
 same-length-4 : tie.Need-same-length-4
 same-length-4 c = search needs
 
 returns-2 : tie.Need-returns-2
-returns-2 c = ?
+returns-2 c =
+    let start = c .before .before .before .before .before .before .before .before .before .before .before in
+    let low = c .before .before .before .before .before .before .before .before .before .slice-known .given in
+    let high = c .before .before .before .before .before .before .before .before .slice-known2 .given in
+    let loaded = c .before .before .before .before .before .load .ensures in
+    (refusal-ranged (now (start .args .lowest)) (now (start .args .highest)) (λ i h. low i .fits) (λ i h. high i .fits) _ _ _ _ loaded _ _ (c .before .loaded2 .given .1), loaded-beyond _ _ _ _ loaded)
 
 pub limit-image-spec : {M : Type 1} → statement M
 limit-image-spec =
