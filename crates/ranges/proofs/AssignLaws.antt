@@ -8,19 +8,20 @@ use native.Mathlib.Omega.{arith}
 use lib.ListN.{getD}
 use Rattle.rules.specs.paper.Limits.{most-bindings, most-cells}
 use Rattle.rules.specs.paper.Tree.{Expression, Assign}
-use Rattle.rules.specs.paper.Carried.{Carried, numbers, truths, location, Carrying, carried, unsafe, unfit}
+use Rattle.rules.specs.paper.Carried.{Carried, numbers, truths, location, carried, unfit}
 use Rattle.rules.specs.paper.Carrying.{CarriedCells, CarriedMeaning, a-value, a-function, CarriedNames, carried-at, carried-meaning, value-of, location-in, contents-at, same-sort, set-cell, carry-assign, carry-to}
 use Rattle.reader.specs.Pack.{packed-operand}
 use Rattle.reader.specs.Stored.{operand-is, StoredCommand, assign}
 use Rattle.intervals.specs.Values.{HoldsValue, holds-location}
 use Rattle.intervals.specs.declared.values.Value.{Value}
-use Rattle.ranges.specs.Layout.{row-value}
-use Rattle.ranges.specs.States.{NamesAt, FoundAt, CellsAt, Sees}
-use Rattle.ranges.specs.Frames.{SetCell}
-use Rattle.ranges.specs.Answers.{Fits, CommandAs, AssignThere, assigning, SomeAssign, AssignCarried}
-use Rattle.ranges.specs.declared.Outcome.the-variants.{Through}
-use Rattle.ranges.proofs.StateLaws.{holds-same, cell-there, cells-set}
-use Rattle.ranges.proofs.LeafLaws.{ValueRow, found-value}
+use Rattle.carrying.specs.Layout.{row-value}
+use Rattle.carrying.specs.States.{FoundAt, Sees}
+use Rattle.carrying.specs.Frames.{SetCell}
+use Rattle.carrying.specs.Answers.{Fits, CommandAs}
+use Rattle.ranges.specs.Commands.{AssignThere, assigning, SomeAssign, AssignCarried}
+use Rattle.carrying.specs.declared.Outcome.the-variants.{Through}
+use Rattle.carrying.proofs.StateLaws.{holds-same, cell-there, cells-set}
+use Rattle.carrying.proofs.LeafLaws.{ValueRow, found-value}
 
 -- What it needs: the name bound to a location, and a value of the same sort in its cell.
 record Target (x : ℕ) (v : Carried) (A : CarriedNames) (K : CarriedCells) : Type 0 where
@@ -98,10 +99,9 @@ module _ (words : List ℕ) (environment node word r : ℕ) (value : Value) (ope
       where
         by : Assigned x v A K → CommandAs words′ count (assigning x v A K) Through
         by (sets t q) =
-            subst (λ c. CommandAs words′ count c Through) (sym q)
-            (
+            subst (λ c. CommandAs words′ count c Through) (sym q) (
               refl,
               cells-set (t .place) (value .low) (value .high) (subst (λ l. SetCell words words′ l (value .low) (value .high)) (place-is there t) written) v (t .old) (there .count-few) refl refl (there .value-is)
-              (there .cells-are) (t .cell-is) (t .sorted),
+                  (there .cells-are) (t .cell-is) (t .sorted),
             )
         by (never-sets q) = subst (λ c. CommandAs words′ count c Through) (sym q) tt

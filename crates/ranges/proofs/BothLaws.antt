@@ -1,6 +1,6 @@
 -- A Cond whose test may be both: the first command is carried from the cells before it, with a copy kept; then cells and copy change places, the second
 -- is carried from the cells before it, with what the first left in the copy; and the cells are widened by the copy.
-use Prim.Native.Nat.{ℕ, suc, _+_, _<_, _≤_}
+use Prim.Native.Nat.{ℕ, _+_, _<_, _≤_}
 use mathlib.Core.Path.{_≡_, refl, sym, ap, _∙_, subst}
 use mathlib.Core.Bool.{true}
 use mathlib.Core.List.{List}
@@ -10,20 +10,20 @@ use lib.ListN.{getD}
 use Rattle.rules.specs.paper.Limits.{most-nodes, most-bindings, most-cells}
 use Rattle.rules.specs.paper.Tree.{Expression, Command, Cond}
 use Rattle.rules.specs.paper.Needs.{Needs, command-need}
-use Rattle.rules.specs.paper.Carried.{Carried, truths, Carrying, carried, unsafe, unfit, _>>=_, fitting}
+use Rattle.rules.specs.paper.Carried.{truths, Carrying, carried, _>>=_, fitting}
 use Rattle.rules.specs.paper.Carrying.{CarriedCells, CarriedNames, wider-cells, carry-expression, carry-choosing, carry-command}
 use Rattle.reader.specs.Pack.{packed-kind, packed-end}
-use Rattle.reader.specs.Stored.{StoredCommand}
 use Rattle.reader.specs.StandingLaws.{expression-low, command-low}
-use Rattle.ranges.specs.States.{CellsAt, StateAt, Room}
-use Rattle.ranges.specs.Frames.{Keeps, Copied, Exchanged, Widened}
-use Rattle.ranges.specs.Answers.{Fits, ExpressionThere, CommandThere, SomeCommand, CommandAs, CommandCarried, SomeBoth, BothCarried}
-use Rattle.ranges.specs.declared.Held.{Held}
-use Rattle.ranges.specs.declared.Outcome.{Outcome}
-use Rattle.ranges.specs.declared.Outcome.the-variants.{Through, Unsafe}
-use Rattle.ranges.proofs.FrameLaws.{keeps-all, keeps-then, keeps-fewer}
-use Rattle.ranges.proofs.StateLaws.{KeptAt, kept-stays, cells-copied, cells-exchanged, copy-exchanged, cells-widened}
-use Rattle.ranges.proofs.ReachLaws.{second-place, reach}
+use Rattle.carrying.specs.States.{CellsAt, Room}
+use Rattle.carrying.specs.Frames.{Keeps, Copied, Exchanged, Widened}
+use Rattle.carrying.specs.Answers.{ExpressionThere, CommandThere, SomeCommand, CommandAs, CommandCarried}
+use Rattle.ranges.specs.Commands.{SomeBoth, BothCarried}
+use Rattle.carrying.specs.declared.Held.{Held}
+use Rattle.carrying.specs.declared.Outcome.{Outcome}
+use Rattle.carrying.specs.declared.Outcome.the-variants.{Through, Unsafe}
+use Rattle.carrying.proofs.FrameLaws.{keeps-all, keeps-then, keeps-fewer}
+use Rattle.carrying.proofs.StateLaws.{KeptAt, kept-stays, cells-copied, cells-exchanged, copy-exchanged, cells-widened}
+use Rattle.carrying.proofs.ReachLaws.{second-place, reach}
 use Rattle.ranges.proofs.OutcomeLaws.{told-through, told-at}
 use Rattle.ranges.proofs.CommandLaws.{Part, Seen, seen-conditional, seen}
 use Rattle.ranges.proofs.BranchLaws.{part-there, part-reach}
@@ -78,18 +78,17 @@ module _ (words : List ℕ) (held : Held) (node : ℕ) where
     first-low s = command-low (first-command (s .6) .tree)
 
     pub first-there : SomeBoth words held node → SomeCommand words held first × (reach words first < reach words node)
-    first-there s =
-        (
-          (
-            s .1,
-            s .3,
-            s .4,
-            s .5,
-            first-command (s .6),
-            λ never. s .8 (whole-is (s .3) (s .5) (s .0) (s .1) (s .2) (s .7) ∙ ap (λ o. of-both o (carry-command (s .3) (s .5) (s .2))) never),
-          ),
-          subst (λ i. reach words i < reach words node) (sym place) (part-reach words held node which refl words kept-here (s .6 .tree) (parts (s .6) .first)),
-        )
+    first-there s = (
+      (
+        s .1,
+        s .3,
+        s .4,
+        s .5,
+        first-command (s .6),
+        λ never. s .8 (whole-is (s .3) (s .5) (s .0) (s .1) (s .2) (s .7) ∙ ap (λ o. of-both o (carry-command (s .3) (s .5) (s .2))) never),
+      ),
+      subst (λ i. reach words i < reach words node) (sym place) (part-reach words held node which refl words kept-here (s .6 .tree) (parts (s .6) .first)),
+    )
 
     pub first-unsafe : (words₁ : List ℕ) (r : Outcome) (p : ℕ) → r ≡ Unsafe p → CommandCarried words words₁ held first r → BothCarried words words₁ held node r
     first-unsafe words₁ r p told ran e c₁ c₂ A N K there same =
@@ -121,8 +120,7 @@ module _ (words : List ℕ) (held : Held) (node : ℕ) where
       pub second-there : SomeBoth words held node → SomeCommand words₂ held second × (reach words₂ second < reach words node)
       second-there s =
           told-through (carry-command (s .3) (s .5) (s .1)) r told (ran (s .1) (s .3) (s .4) (s .5) (first-command (s .6)))
-          (λ M same now.
-          (
+          (λ M same now. (
             (
               s .2,
               s .3,
@@ -130,8 +128,8 @@ module _ (words : List ℕ) (held : Held) (node : ℕ) where
               s .5,
               second-command (s .6),
               λ never.
-              s .8
-              (whole-is (s .3) (s .5) (s .0) (s .1) (s .2) (s .7) ∙ ap (λ o. of-both o (carry-command (s .3) (s .5) (s .2))) same ∙ ap (λ o. o >>= λ L. fitting (wider-cells M L)) never),
+                  s .8
+                  (whole-is (s .3) (s .5) (s .0) (s .1) (s .2) (s .7) ∙ ap (λ o. of-both o (carry-command (s .3) (s .5) (s .2))) same ∙ ap (λ o. o >>= λ L. fitting (wider-cells M L)) never),
             ),
             subst (λ i. reach words₂ i < reach words node) (sym place-is) (part-reach words held node which refl words₂ kept-twice (s .6 .tree) (parts (s .6) .second)),
           ))

@@ -1,33 +1,33 @@
 -- CSeq, Blk and Call: their parts, each over the names and cells that it finds, and what the node leaves from what they leave.
-use Prim.Native.Nat.{ℕ, suc, _+_, _<_, _≤_}
+use Prim.Native.Nat.{ℕ, _+_, _<_, _≤_}
 use mathlib.Core.Path.{_≡_, refl, sym, ap, _∙_, subst}
-use mathlib.Core.List.{List, [], _∷_, _++_}
+use mathlib.Core.List.{List, _++_}
 use native.Mathlib.Omega.{arith}
 use lib.ListN.{length, getD}
-use Rattle.rules.specs.paper.Limits.{most-nodes, most-bindings, most-cells}
-use Rattle.rules.specs.paper.Tree.{Expression, Command, Assign, Loop, CSeq, block, Call, Cond, Block, Blk, Declaration}
-use Rattle.rules.specs.paper.Needs.{Figure, bindings, cells, sizes, Need, Needs, over, cells-left, bindings-left, command-need, block-need, declaration-need, names-given}
-use Rattle.rules.specs.paper.Carried.{Carried, Carrying, carried, unsafe, unfit, _>>=_}
-use Rattle.rules.specs.paper.Carrying.{CarriedCells, CarriedNames, CarriedDeclared, oldest-cells, carry-expression, carry-command, carry-block, carry-declaration}
-use Rattle.reader.specs.KindNumbers.{assign-number, loop-number, cseq-number, blk-number, call-number, conditional-number}
+use Rattle.rules.specs.paper.Limits.{most-nodes}
+use Rattle.rules.specs.paper.Tree.{Expression, Command, Loop, CSeq, block, Call, Block, Blk, Declaration}
+use Rattle.rules.specs.paper.Needs.{bindings, cells, sizes, Needs, over, cells-left, bindings-left, command-need, names-given}
+use Rattle.rules.specs.paper.Carried.{Carrying, carried, unsafe, unfit, _>>=_}
+use Rattle.rules.specs.paper.Carrying.{CarriedCells, CarriedNames, CarriedDeclared, oldest-cells, carry-command, carry-block, carry-declaration}
+use Rattle.reader.specs.KindNumbers.{cseq-number, blk-number, call-number}
 use Rattle.reader.specs.Pack.{packed-kind, packed-end}
 use Rattle.reader.specs.Stored.{StoredCommand, block-of}
-use Rattle.reader.specs.StoredLaws.{same-command, same-declaration}
-use Rattle.reader.specs.StandingLaws.{Rooted, command-on, command-root, command-low, command-end, declaration-low, declaration-end, block-root, block-on}
-use Rattle.ranges.specs.States.{CellsAt, StateAt, Sees, Room}
-use Rattle.ranges.specs.Frames.{Keeps, KeepsCells}
-use Rattle.ranges.specs.Answers.{Fits, ExpressionThere, DeclarationThere, SomeDeclaration, DeclaredState, DeclarationCarried, CommandThere, SomeCommand, CommandAs, CommandCarried, FunctionThere, EnteredAs, entered, not-entered, never-entered, SomeCall, CallCarried}
-use Rattle.ranges.specs.declared.Held.{Held}
-use Rattle.ranges.specs.declared.Outcome.{Outcome}
-use Rattle.ranges.specs.declared.Outcome.the-variants.{Through, Unsafe}
-use Rattle.ranges.specs.declared.declarations.Declared.{Declared}
-use Rattle.ranges.specs.declared.declarations.Declared.the-variants as Declared
-use Rattle.ranges.specs.declared.functions.Entered.{Entered}
-use Rattle.ranges.specs.declared.functions.Entered.the-variants as Entered
-use Rattle.ranges.proofs.FrameLaws.{kept-nodes, keeps-all, keeps-then, keeps-fewer}
-use Rattle.ranges.proofs.StateLaws.{cells-length, cells-oldest}
-use Rattle.ranges.proofs.ReachLaws.{second-place, reach, child-reach, function-reach}
-use Rattle.ranges.proofs.ExpressionLaws.{first-fits}
+use Rattle.reader.specs.StoredLaws.{same-command}
+use Rattle.reader.specs.StandingLaws.{command-on, command-root, block-root}
+use Rattle.carrying.specs.States.{CellsAt, StateAt, Room}
+use Rattle.carrying.specs.Frames.{Keeps}
+use Rattle.carrying.specs.Answers.{Fits, DeclarationThere, SomeDeclaration, DeclaredState, DeclarationCarried, CommandThere, SomeCommand, CommandAs, CommandCarried, FunctionThere, EnteredAs, entered, not-entered, never-entered, SomeCall, CallCarried}
+use Rattle.carrying.specs.declared.Held.{Held}
+use Rattle.carrying.specs.declared.Outcome.{Outcome}
+use Rattle.carrying.specs.declared.Outcome.the-variants.{Through, Unsafe}
+use Rattle.carrying.specs.declared.declarations.Declared.{Declared}
+use Rattle.carrying.specs.declared.declarations.Declared.the-variants as Declared
+use Rattle.carrying.specs.declared.functions.Entered.{Entered}
+use Rattle.carrying.specs.declared.functions.Entered.the-variants as Entered
+use Rattle.carrying.proofs.FrameLaws.{kept-nodes, keeps-all}
+use Rattle.carrying.proofs.StateLaws.{cells-length, cells-oldest}
+use Rattle.carrying.proofs.ReachLaws.{second-place, reach, child-reach, function-reach}
+use Rattle.carrying.proofs.ExpressionLaws.{first-fits}
 use Rattle.ranges.proofs.OutcomeLaws.{told-through, told-at, told-names, told-undeclared, less-room, state-later}
 use Rattle.ranges.proofs.CommandLaws.{Part, Seen, seen-assign, seen-loop, seen-sequence, seen-block, seen-call, seen-conditional, seen}
 
@@ -68,8 +68,7 @@ module _ (words : List ℕ) (held : Held) (node which : ℕ) (known : which ≡ 
     unfolding carry-command
     sequence-first s =
         only-sequence (λ c. StoredCommand words (s .4 .depth) node (s .4 .next) c → Fits (carry-command (s .1) (s .3) c) → SomeCommand words held (node + 1) × (reach words (node + 1) < reach words node))
-        (λ c₁ c₂ a b f g tree fits.
-        (
+        (λ c₁ c₂ a b f g tree fits. (
           (c₁, s .1, s .2, s .3, part-there words kept-here a (s .4 .state) (s .4 .state .cells-are) f, first-fits (λ M. carry-command (s .1) M c₂) (carry-command (s .1) (s .3) c₁) fits),
           part-reach words kept-here tree a,
         ))
@@ -99,8 +98,7 @@ module _ (words : List ℕ) (held : Held) (node which : ℕ) (known : which ≡ 
           only-sequence (λ c. StoredCommand words (s .4 .depth) node (s .4 .next) c → Fits (carry-command (s .1) (s .3) c) → SomeCommand words₁ held after × (reach words₁ after < reach words node))
           (λ c₁ c₂ a b f g tree fits.
           told-through (carry-command (s .1) (s .3) c₁) r told (first c₁ (s .1) (s .2) (s .3) (part-there words kept-here a (s .4 .state) (s .4 .state .cells-are) f))
-          (λ M same now.
-          (
+          (λ M same now. (
             (c₂, s .1, s .2, M, second-there b (s .4 .state) now g, λ never. fits (ap (λ o. o >>= λ M. carry-command (s .1) M c₂) same ∙ never)),
             subst (λ i. reach words₁ i < reach words node) (sym after-is) (part-reach words₁ kept tree b),
           ))
@@ -182,8 +180,7 @@ module _ (words : List ℕ) (held : Held) (node which : ℕ) (known : which ≡ 
           only-block (λ c. StoredCommand words (s .4 .depth) node (s .4 .next) c → Fits (carry-command (s .1) (s .3) c) → SomeCommand words₁ inner inside × (reach words₁ inside < reach words node))
           (λ d c m e a b room tree fits.
           told-names (carry-declaration (s .1) (s .3) d) r inner told (declared m d (s .1) (s .2) (s .3) a)
-          (λ D same state.
-          (
+          (λ D same state. (
             (
               c,
               D .names-declared ++ s .1,
@@ -191,7 +188,7 @@ module _ (words : List ℕ) (held : Held) (node which : ℕ) (known : which ≡ 
               D .cells-after,
               inside-there {d = d} e b room state,
               λ never.
-              fits (ap (λ o. o >>= inside-then (s .1) (s .3) c) same ∙ ap (λ o. o >>= λ M. carried (oldest-cells (length (s .3)) M)) never),
+                  fits (ap (λ o. o >>= inside-then (s .1) (s .3) c) same ∙ ap (λ o. o >>= λ M. carried (oldest-cells (length (s .3)) M)) never),
             ),
             subst (λ i. reach words₁ i < reach words node) (sym (inside-is ∙ e)) (part-reach words₁ kept tree b),
           ))
@@ -279,9 +276,8 @@ module _ (words : List ℕ) (held : Held) (node which : ℕ) (known : which ≡ 
               SomeCommand words₁ inner inside × (reach words₁ inside < reach words node) × (held .bindings ≤ inner .bindings) × (inner .cells ≡ held .cells)
           by whole tree fits (entered x i b F M same function is) =
               let here : FunctionThere words₁ held node inner inside b F M (s .3) =
-                  subst (λ y. FunctionThere words₁ held node y inside b F M (s .3)) (same-inner (sym same ∙ told))
-                  (subst (λ k. FunctionThere words₁ held node x k b F M (s .3)) (same-inside (sym same ∙ told)) function) in
-              (
+              subst (λ y. FunctionThere words₁ held node y inside b F M (s .3)) (same-inner (sym same ∙ told))
+              (subst (λ k. FunctionThere words₁ held node x k b F M (s .3)) (same-inside (sym same ∙ told)) function) in (
                 (block b, F, M, s .3, function-there here, λ never. fits (is ∙ never)),
                 function-reach (command-root tree) (block-root (here .tree)) (command-on tree) (here .before),
                 here .more-bindings,
@@ -299,8 +295,8 @@ module _ (words : List ℕ) (held : Held) (node which : ℕ) (known : which ≡ 
           by : (whole : Carrying CarriedCells) → EnteredAs words₁ held node K whole r → CommandAs words₂ (held .cells) whole t
           by whole (entered x i b F M same function is) =
               let here : FunctionThere words₁ held node inner inside b F M K =
-                  subst (λ y. FunctionThere words₁ held node y inside b F M K) (same-inner (sym same ∙ told))
-                  (subst (λ k. FunctionThere words₁ held node x k b F M K) (same-inside (sym same ∙ told)) function) in
+              subst (λ y. FunctionThere words₁ held node y inside b F M K) (same-inner (sym same ∙ told))
+              (subst (λ k. FunctionThere words₁ held node x k b F M K) (same-inside (sym same ∙ told)) function) in
               subst (λ w. CommandAs words₂ (held .cells) w t) (sym is) (subst (λ n. CommandAs words₂ n (carry-block F K b) t) (here .same-cells) (ran (block b) F M K (function-there here)))
           by whole (not-entered o same is) = not-both (sym told ∙ same)
           by whole (never-entered is) = subst (λ w. CommandAs words₂ (held .cells) w t) (sym is) tt

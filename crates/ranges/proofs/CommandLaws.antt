@@ -1,35 +1,23 @@
 -- Commands by the kind of their node: what stands there, that its parts' carrying is fit where its own is, and what it leaves from what they leave.
 use Prim.Native.Nat.{ℕ, suc, _+_, _<_, _≤_}
-use mathlib.Core.Path.{_≡_, refl, sym, ap, _∙_, subst}
+use mathlib.Core.Path.{_≡_, sym, _∙_, subst}
 use mathlib.Core.List.{List, [], _∷_, _++_}
 use native.Mathlib.Omega.{arith}
-use lib.ListN.{length, getD}
-use Rattle.rules.specs.paper.Limits.{most-bindings, most-cells}
-use Rattle.rules.specs.paper.Tree.{Expression, Command, Assign, Loop, CSeq, block, Call, Cond, Block, Blk, Declaration}
-use Rattle.rules.specs.paper.Needs.{Figure, bindings, cells, sizes, Need, Needs, step, over, either, node-step, in-turn, expression-need, cells-left, bindings-left, tested-need, command-need, block-need, declaration-need, names-given}
-use Rattle.rules.specs.paper.Carried.{Carried, Carrying, carried, unsafe, unfit, _>>=_}
-use Rattle.rules.specs.paper.Carrying.{CarriedCells, CarriedNames, CarriedDeclared, oldest-cells, carry-expression, carry-command, carry-block, carry-declaration}
-use Rattle.reader.specs.KindNumbers.{assign-number, loop-number, cseq-number, blk-number, call-number, conditional-number}
+use lib.ListN.{getD}
+use Rattle.rules.specs.paper.Tree.{Expression, Command, Assign, Loop, CSeq, block, Call, Cond, Blk, Declaration}
+use Rattle.rules.specs.paper.Needs.{Figure, cells, sizes, Need, Needs, step, over, either, node-step, in-turn, expression-need, cells-left, bindings-left, tested-need, command-need, block-need, declaration-need, names-given}
+use Rattle.rules.specs.paper.Carrying.{CarriedCells, CarriedNames}
+use Rattle.reader.specs.KindNumbers.{assign-number, cseq-number, blk-number, call-number, conditional-number}
 use Rattle.reader.specs.Pack.{packed-kind, packed-end}
-use Rattle.reader.specs.Stored.{kind-is, StoredExpression, StoredCommand, StoredBlock, blk, StoredDeclaration}
+use Rattle.reader.specs.Stored.{kind-is, StoredExpression, StoredCommand, blk, StoredDeclaration}
 use Rattle.reader.specs.Stored as Stored
-use Rattle.reader.specs.StoredLaws.{same-command, same-declaration, same-expression}
-use Rattle.reader.specs.StandingLaws.{Rooted, after-node, expression-on, command-on, command-root, command-end, declaration-on, declaration-root, declaration-end, block-root, block-on}
-use Rattle.ranges.specs.States.{CellsAt, StateAt, Sees, Room}
-use Rattle.ranges.specs.Frames.{Keeps, KeepsCells}
-use Rattle.ranges.specs.Answers.{Fits, ExpressionThere, SomeExpression, ExpressionCarried, DeclarationThere, SomeDeclaration, DeclaredState, DeclarationCarried, CommandThere, SomeCommand, CommandAs, CommandCarried, FunctionThere, EnteredAs, entered, not-entered, never-entered, SomeCall, CallCarried, Valued, an-assign, a-conditional, SomeTested, TestedCarried}
-use Rattle.ranges.specs.declared.Held.{Held}
-use Rattle.ranges.specs.declared.Outcome.{Outcome}
-use Rattle.ranges.specs.declared.Outcome.the-variants.{Through, Unsafe}
-use Rattle.ranges.specs.declared.declarations.Declared.{Declared}
-use Rattle.ranges.specs.declared.declarations.Declared.the-variants as Declared
-use Rattle.ranges.specs.declared.functions.Entered.{Entered}
-use Rattle.ranges.specs.declared.functions.Entered.the-variants as Entered
-use Rattle.ranges.proofs.FrameLaws.{kept-nodes, keeps-then, keeps-fewer}
-use Rattle.ranges.proofs.StateLaws.{cells-length, cells-oldest, names-later}
-use Rattle.ranges.proofs.ReachLaws.{second-place, reach, child-reach, function-reach}
-use Rattle.ranges.proofs.ExpressionLaws.{first-fits}
-use Rattle.ranges.proofs.OutcomeLaws.{told-through, told-at, told-names, told-undeclared, first-of, later-of, less-room, same-room, state-later}
+use Rattle.reader.specs.StandingLaws.{after-node, expression-on, expression-end, command-on, command-end, declaration-on, declaration-end}
+use Rattle.carrying.specs.States.{StateAt, Sees, Room}
+use Rattle.carrying.specs.Answers.{ExpressionThere, DeclarationThere, CommandThere}
+use Rattle.carrying.specs.declared.Held.{Held}
+use Rattle.carrying.proofs.StateLaws.{names-later}
+use Rattle.carrying.proofs.ReachLaws.{second-place}
+use Rattle.ranges.proofs.OutcomeLaws.{first-of, later-of, same-room}
 
 -- ---- What an expression of a command sees.
 
@@ -123,26 +111,23 @@ module _ (words : List ℕ) (held : Held) (node which : ℕ) (known : which ≡ 
           room)
       by (Stored.call l g h a) room = seen-call (known ∙ kind-is h (omega arith))
       by (Stored.conditional {d = d} {j = j} {k = k} {l = m} {e = e} {c₁ = c₁} {c₂ = c₂} h a b c) room =
-          let place : second-place words node ≡ j = expression-end′ a in
+          let place : second-place words node ≡ j = expression-end (child-expression a) in
           let first = subst (λ i. StoredCommand words d i k c₁) (sym place) b in
           let end : packed-end (getD words (second-place words node) 0) ≡ k = command-end first in
           let test = over (sizes 1 1 0 0) (expression-need e) in
           let mark = step (sizes 1 2 0 0) in
           let commands = either (command-need N c₁) (command-need N c₂) in
           let larger : (f : Figure) → commands .most f ≤ command-need N (Cond node e c₁ c₂) .most f =
-              λ f.
-              omega (
-                arith,
-                first-of commands [] f,
-                later-of mark (commands ∷ []) f,
-                first-of (in-turn (mark ∷ commands ∷ [])) [] f,
-                later-of test (in-turn (mark ∷ commands ∷ []) ∷ []) f,
-                later-of node-step (test ∷ in-turn (mark ∷ commands ∷ []) ∷ []) f,
-              ) in
+          λ f.
+          omega (
+            arith,
+            first-of commands [] f,
+            later-of mark (commands ∷ []) f,
+            first-of (in-turn (mark ∷ commands ∷ [])) [] f,
+            later-of test (in-turn (mark ∷ commands ∷ []) ∷ []) f,
+            later-of node-step (test ∷ in-turn (mark ∷ commands ∷ []) ∷ []) f,
+          ) in
           seen-conditional (known ∙ kind-is h (omega arith)) (expression-there a)
           (record { depth = d; end = k; tree = first; later = omega (arith, place, expression-on a); within = omega (arith, command-on c) })
           (record { depth = d; end = m; tree = subst (λ i. StoredCommand words d i m c₂) (sym end) c; later = omega (arith, end, place, expression-on a, command-on b); within = omega arith })
           (same-room (λ f. omega (arith, larger f)) room) (same-room (λ f. omega (arith, larger f)) room)
-        where
-          expression-end′ : {d j : ℕ} {e : Expression} → StoredExpression words d (suc node) j e → second-place words node ≡ j
-          expression-end′ s = Rattle.reader.specs.StandingLaws.expression-end (child-expression s)

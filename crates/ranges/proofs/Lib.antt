@@ -1,14 +1,3 @@
-pub mod FrameLaws
-pub mod StateLaws
-pub mod CopyLaws
-pub mod LookupLaws
-pub mod LeafLaws
-pub mod ReachLaws
-pub mod ExpressionLaws
-pub mod DeclarationLaws
-pub mod DeclarationSequences
-pub mod ActualLaws
-pub mod CallLaws
 pub mod AssignLaws
 pub mod OutcomeLaws
 pub mod CommandLaws

@@ -1,23 +1,22 @@
 -- What follows from an answer: where carrying went through, what it left; where it is unsafe, that whatever goes on is unsafe there too. And room for a
 -- part where there is room for the whole, and what stands in the work words later.
-use Prim.Native.Nat.{ℕ, _+_, _≤_, max}
+use Prim.Native.Nat.{ℕ, _+_, _≤_}
 use mathlib.Core.Path.{_≡_, refl, sym, ap, _∙_, subst}
-use mathlib.Core.List.{List, [], _∷_, _++_}
+use mathlib.Core.List.{List, _∷_}
 use native.Mathlib.Omega.{arith}
-use Rattle.rules.specs.paper.Limits.{most-bindings, most-cells}
 use Rattle.rules.specs.paper.Needs.{Figure, bindings, cells, Need, Needs, in-turn}
 use Rattle.rules.specs.paper.Carried.{Carrying, carried, unsafe, unfit, _>>=_}
 use Rattle.rules.specs.paper.Carrying.{CarriedCells, CarriedNames, CarriedDeclared}
 use Rattle.rules.specs.paper.Tree.{Declaration}
-use Rattle.ranges.specs.States.{CellsAt, StateAt, Room}
-use Rattle.ranges.specs.Frames.{Keeps}
-use Rattle.ranges.specs.Answers.{CommandAs, DeclaredState, DeclaredAs}
-use Rattle.ranges.specs.declared.Held.{Held}
-use Rattle.ranges.specs.declared.Outcome.{Outcome}
-use Rattle.ranges.specs.declared.Outcome.the-variants.{Through, Unsafe}
-use Rattle.ranges.specs.declared.declarations.Declared.{Declared}
-use Rattle.ranges.specs.declared.declarations.Declared.the-variants as Declared
-use Rattle.ranges.proofs.StateLaws.{names-kept, names-later}
+use Rattle.carrying.specs.States.{CellsAt, StateAt, Room}
+use Rattle.carrying.specs.Frames.{Keeps}
+use Rattle.carrying.specs.Answers.{CommandAs, DeclaredState, DeclaredAs}
+use Rattle.carrying.specs.declared.Held.{Held}
+use Rattle.carrying.specs.declared.Outcome.{Outcome}
+use Rattle.carrying.specs.declared.Outcome.the-variants.{Through, Unsafe}
+use Rattle.carrying.specs.declared.declarations.Declared.{Declared}
+use Rattle.carrying.specs.declared.declarations.Declared.the-variants as Declared
+use Rattle.carrying.proofs.StateLaws.{names-kept, names-later}
 
 -- ---- Outcomes.
 

@@ -3,29 +3,30 @@ use Prim.Native.Nat.{ℕ, zero, suc, _+_, _-_, _<_, _≤_}
 use mathlib.Core.Path.{_≡_, refl, sym, ap, _∙_, subst}
 use mathlib.Core.Bool.{Bool, true, false, _||_}
 use mathlib.Core.List.{List, [], _∷_}
-use mathlib.Core.Option.{Option, none, some}
+use mathlib.Core.Option.{Option, some}
 use native.Mathlib.Omega.{arith}
-use lib.Dec.{T, eqb, eqb→eq, eqb-refl}
+use lib.Dec.{T, eqb, eqb-refl}
 use lib.IntN.{ℤ, pos}
 use lib.ListN.{length, getD, set, drop, length-set}
 use lib.Seq.{drop-cons, drop-length, getD-set-same, getD-set-other}
 use lib.Signed.{ltZ}
-use Rattle.rules.specs.paper.Limits.{most-registers, most-bindings, most-cells, names}
+use Rattle.rules.specs.paper.Limits.{most-registers, most-bindings, most-cells}
+use Rattle.rules.specs.paper.Integers.{in-range}
 use Rattle.rules.specs.paper.Needs.{register-needs}
-use Rattle.rules.specs.proofs.Basics.{by-order, missing, passed-test, true-test, false-test}
-use Rattle.rules.specs.paper.Carried.{Carried, numbers, truths, location}
+use Rattle.rules.specs.proofs.Basics.{by-order}
+use Rattle.rules.specs.paper.Carried.{Carried}
 use Rattle.rules.specs.paper.Carrying.{CarriedCells, carried-at, register-names, register-cells}
 use Rattle.rules.specs.paper.Ranges.{lowest-of, highest-of, ends-from, limits-cross}
 use Rattle.integers.specs.Words.{integer-of, word-of, integers-of, words-of}
-use Rattle.integers.specs.WordLaws.{integer-in-range, word-of-integer, integers-at, integers-length}
+use Rattle.integers.specs.WordLaws.{integer-in-range, word-of-integer, integers-at}
 use Rattle.intervals.specs.Values.{numbers-sort, location-sort, HoldsValue, holds-numbers, holds-truths, holds-location}
 use Rattle.intervals.specs.declared.values.Value.{Value}
-use Rattle.ranges.specs.Layout.{cell-sorts, cell-lows, cell-highs, cell-value}
-use Rattle.ranges.specs.States.{RowAt, NamesAt, no-names, one-value, CellsAt, no-cells, one-cell}
-use Rattle.ranges.specs.Frames.{Keeps, KeepsCells, PutRow, PutCell}
+use Rattle.carrying.specs.Layout.{cell-sorts, cell-lows, cell-highs, cell-value}
+use Rattle.carrying.specs.States.{RowAt, no-names, one-value, CellsAt, no-cells, one-cell}
+use Rattle.carrying.specs.Frames.{Keeps, KeepsCells, PutRow, PutCell}
 use Rattle.ranges.specs.Routine.{RegistersAt, RegisterPut, EndsTaken}
-use Rattle.ranges.proofs.FrameLaws.{row-keeps, row-keeps-cells, cell-keeps, cell-keeps-cells, keeps-all, keeps-then, keeps-fewer, keeps-fewer-cells}
-use Rattle.ranges.proofs.StateLaws.{names-kept, row-there, cells-kept, cells-length, cell-more, CellThere, cell-there}
+use Rattle.carrying.proofs.FrameLaws.{row-keeps, row-keeps-cells, cell-keeps, cell-keeps-cells, keeps-then, keeps-fewer}
+use Rattle.carrying.proofs.StateLaws.{names-kept, row-there, cells-kept, cells-length, cell-more, cell-there}
 
 -- ---- Whether some limits cross.
 
@@ -47,13 +48,12 @@ module _ (lowest highest : List ℕ) (as-long : length highest ≡ length lowest
   crosses less q = sym (next-limits less ∙ ap (λ t. t || limits-cross (integers-of (drop (suc i) lowest)) (integers-of (drop (suc i) highest))) q)
 
   pub not-here : i < length lowest → ltZ (integer-of (getD highest i 0)) (integer-of (getD lowest i 0)) ≡ false → NoneCross lowest highest (i + 1)
-  not-here less q =
-      (
-        omega (arith, less),
-        next-limits less
+  not-here less q = (
+    omega (arith, less),
+    next-limits less
         ∙ ap (λ t. t || limits-cross (integers-of (drop (suc i) lowest)) (integers-of (drop (suc i) highest))) q
         ∙ ap (λ k. limits-cross (integers-of (drop k lowest)) (integers-of (drop k highest))) (one-more i),
-      )
+  )
     where
       one-more : (i : ℕ) → suc i ≡ i + 1
       one-more i = omega arith
@@ -114,10 +114,10 @@ module _ (words middle words′ : List ℕ) (i low high : ℕ) (few : i < most-r
             below-older = r .below-older;
           }
 
-  held-integer : (ws : List ℕ) (w : ℕ) → i < length ws → w ≡ getD ws i 0 → w < 18446744073709551616 → (w ≡ word-of (getD (integers-of ws) i (pos 0))) × T (Rattle.rules.specs.paper.Integers.in-range (getD (integers-of ws) i (pos 0)))
+  held-integer : (ws : List ℕ) (w : ℕ) → i < length ws → w ≡ getD ws i 0 → w < 18446744073709551616 → (w ≡ word-of (getD (integers-of ws) i (pos 0))) × T (in-range (getD (integers-of ws) i (pos 0)))
   held-integer ws w among q fits =
       let same : getD (integers-of ws) i (pos 0) ≡ integer-of w = integers-at ws i among ∙ ap integer-of (sym q) in
-      (sym (ap word-of same ∙ word-of-integer w fits), subst (λ z. T (Rattle.rules.specs.paper.Integers.in-range z)) (sym same) (integer-in-range w fits))
+      (sym (ap word-of same ∙ word-of-integer w fits), subst (λ z. T (in-range z)) (sym same) (integer-in-range w fits))
 
   pub register-put : RegisterPut words words′ i low high
   unfolding register-names register-needs register-cells
@@ -192,7 +192,7 @@ unfolding carried-at
 some-cell i no-cells h = absurd (omega (arith, h))
 some-cell i (one-cell {n = n} {v = v} {K = K} held older) h = choose (eqb (length K) i) refl (some-cell i older)
   where
-    choose : (t : Bool) → eqb (length K) i ≡ t → (i < n → (w : Carried) × (carried-at i K ≡ some w)) → (w : Carried) × (Rattle.rules.specs.paper.Carrying.carried-at i (v ∷ K) ≡ some w)
+    choose : (t : Bool) → eqb (length K) i ≡ t → (i < n → (w : Carried) × (carried-at i K ≡ some w)) → (w : Carried) × (carried-at i (v ∷ K) ≡ some w)
     choose true t below = (v, rw t refl)
     choose false t below =
         let other : length K ≡ i → ⊥ = λ e. absurd (subst T t (subst (λ k. T (eqb (length K) k)) e (eqb-refl (length K)))) in
@@ -207,16 +207,15 @@ number-words q (holds-location s l h) = absurd (omega (arith, q, s))
 
 pub all-taken : (words first-lowest first-highest lowest highest : List ℕ) (at : ℕ) → length first-highest ≡ length first-lowest → TakenSoFar words first-lowest first-highest lowest highest at → length lowest ≤ at →
     EndsTaken words (length first-lowest) lowest highest
-all-taken words first-lowest first-highest lowest highest at as-long so done K cells sorts =
-    (
-      same-list lowest (words-of (ends-from lowest-of 0 (length first-lowest) K)) (so .lowest-long ∙ sym (ends-length lowest-of 0 (length first-lowest) K))
+all-taken words first-lowest first-highest lowest highest at as-long so done K cells sorts = (
+  same-list lowest (words-of (ends-from lowest-of 0 (length first-lowest) K)) (so .lowest-long ∙ sym (ends-length lowest-of 0 (length first-lowest) K))
       (λ i h. so .lows-taken i (omega (arith, h, done)) ∙ words-are i (omega (arith, h, so .lowest-long)) .0 ∙ sym (end-at lowest-of 0 (length first-lowest) i K (omega (arith, h, so .lowest-long)))),
-      same-list highest (words-of (ends-from highest-of 0 (length first-lowest) K)) (so .highest-long ∙ as-long ∙ sym (ends-length highest-of 0 (length first-lowest) K))
+  same-list highest (words-of (ends-from highest-of 0 (length first-lowest) K)) (so .highest-long ∙ as-long ∙ sym (ends-length highest-of 0 (length first-lowest) K))
       (λ i h.
       so .highs-taken i (omega (arith, h, done, so .highest-long, so .lowest-long, as-long))
       ∙ words-are i (omega (arith, h, so .highest-long, as-long)) .1
       ∙ sym (end-at highest-of 0 (length first-lowest) i K (omega (arith, h, so .highest-long, as-long)))),
-    )
+)
   where
     words-are : (i : ℕ) → i < length first-lowest → (getD words (cell-lows + i) 0 ≡ word-of (lowest-of (carried-at (0 + i) K))) × (getD words (cell-highs + i) 0 ≡ word-of (highest-of (carried-at (0 + i) K)))
     words-are i h =

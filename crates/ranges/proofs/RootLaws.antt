@@ -4,10 +4,9 @@ use mathlib.Core.Path.{_≡_, refl, sym, ap, _∙_, subst}
 use mathlib.Core.List.{List}
 use native.Mathlib.Omega.{arith}
 use lib.ListN.{length, getD}
-use Rattle.rules.specs.paper.Limits.{most-registers, most-bindings, most-cells}
-use Rattle.rules.specs.paper.Tree.{Root, expression, command, absent}
+use Rattle.rules.specs.paper.Tree.{Expression, Command, Root, expression, command}
 use Rattle.rules.specs.paper.Needs.{bindings, cells, Needs, register-needs, root-need, routine-need}
-use Rattle.rules.specs.paper.Carried.{Carried, Carrying, carried, unsafe, unfit, _>>=_}
+use Rattle.rules.specs.paper.Carried.{Carrying, carried, unsafe, unfit, _>>=_}
 use Rattle.rules.specs.paper.Carrying.{CarriedCells, CarriedNames, register-names, register-cells, carry-expression, carry-root, carry-routine}
 use Rattle.reader.specs.KindNumbers.{assign-number}
 use Rattle.reader.specs.KindTrees.{stored-expression-kind, stored-command-kind}
@@ -16,20 +15,20 @@ use Rattle.reader.specs.Stored.{StoredRoot, root-expression, root-command, root
 use Rattle.reader.specs.StoredLaws.{same-root}
 use Rattle.reader.specs.StandingLaws.{expression-on, command-on}
 use Rattle.integers.specs.Words.{integers-of}
-use Rattle.intervals.specs.Values.{numbers-sort, HoldsValue, ExpressedAs}
+use Rattle.intervals.specs.Values.{numbers-sort}
 use Rattle.intervals.specs.declared.values.Value.{Value}
 use Rattle.intervals.specs.declared.values.Expressed.{Expressed}
 use Rattle.intervals.specs.declared.values.Expressed.the-variants as Expressed
-use Rattle.ranges.specs.Layout.{cell-sorts}
-use Rattle.ranges.specs.States.{CellsAt, StateAt, Sees, Room}
-use Rattle.ranges.specs.Frames.{Keeps}
-use Rattle.ranges.specs.Answers.{Fits, ExpressionThere, SomeExpression, ExpressionCarried, CommandThere, SomeCommand, CommandAs, CommandCarried}
-use Rattle.ranges.specs.Routine.{RegistersAt, registers-held, EndsTaken, RootThere, SomeRoot, RootCarried, EnoughRoom, SomeRoutine, EndsGiven, ListsKept, CarriedAs, RoutineCarried}
-use Rattle.ranges.specs.declared.Held.{Held}
-use Rattle.ranges.specs.declared.Outcome.{Outcome}
-use Rattle.ranges.specs.declared.Outcome.the-variants.{Through, Unsafe}
-use Rattle.ranges.proofs.FrameLaws.{kept-nodes, keeps-then, keeps-fewer}
-use Rattle.ranges.proofs.ExpressionLaws.{first-fits, told-value}
+use Rattle.carrying.specs.Layout.{cell-sorts}
+use Rattle.carrying.specs.States.{CellsAt, StateAt, Sees, Room}
+use Rattle.carrying.specs.Frames.{Keeps}
+use Rattle.carrying.specs.Answers.{Fits, ExpressionThere, SomeExpression, ExpressionCarried, CommandThere, SomeCommand, CommandAs, CommandCarried}
+use Rattle.ranges.specs.Routine.{RegistersAt, registers-held, EndsTaken, RootThere, SomeRoot, RootCarried, EnoughRoom, SomeRoutine, CarriedAs, RoutineCarried}
+use Rattle.carrying.specs.declared.Held.{Held}
+use Rattle.carrying.specs.declared.Outcome.{Outcome}
+use Rattle.carrying.specs.declared.Outcome.the-variants.{Through, Unsafe}
+use Rattle.carrying.proofs.FrameLaws.{kept-nodes}
+use Rattle.carrying.proofs.ExpressionLaws.{first-fits, told-value}
 use Rattle.ranges.proofs.OutcomeLaws.{told-through}
 use Rattle.ranges.proofs.CommandLaws.{state-sees}
 use Rattle.ranges.proofs.TestLaws.{unsafe-value}
@@ -50,7 +49,7 @@ module _ (words : List ℕ) (held : Held) (nodes : ℕ) where
   module _ (some-nodes : nodes ≡ 0 → ⊥) (which : ℕ) (known : which ≡ packed-kind (getD words 0 0)) where
     -- An expression.
     module _ (low : which < assign-number) where
-      only-expression : {A : CarriedNames} {N : Needs} {K : CarriedCells} {t : Root} (X : Root → Type 0) → ((e : Rattle.rules.specs.paper.Tree.Expression) → ExpressionThere words (held .environment) 0 e A K → X (expression e)) →
+      only-expression : {A : CarriedNames} {N : Needs} {K : CarriedCells} {t : Root} (X : Root → Type 0) → ((e : Expression) → ExpressionThere words (held .environment) 0 e A K → X (expression e)) →
           RootThere words held nodes t A N K → X t
       only-expression {A = A} {N = N} {K = K} X give there = by (λ q. some-nodes q) (there .tree .stored) (state-sees (there .room) (there .state))
         where
@@ -84,7 +83,7 @@ module _ (words : List ℕ) (held : Held) (nodes : ℕ) where
 
     -- A command.
     module _ (high : assign-number ≤ which) where
-      only-command : {A : CarriedNames} {N : Needs} {K : CarriedCells} {t : Root} (X : Root → Type 0) → ((c : Rattle.rules.specs.paper.Tree.Command) → CommandThere words held 0 c A N K → X (command c)) →
+      only-command : {A : CarriedNames} {N : Needs} {K : CarriedCells} {t : Root} (X : Root → Type 0) → ((c : Command) → CommandThere words held 0 c A N K → X (command c)) →
           RootThere words held nodes t A N K → X t
       unfolding root-need
       only-command {A = A} {N = N} {K = K} X give there = by (λ q. some-nodes q) (there .tree .stored) (there .state) (there .room)
@@ -105,12 +104,6 @@ module _ (words : List ℕ) (held : Held) (nodes : ℕ) where
 -- ---- The routine.
 
 module _ (words words₁ : List ℕ) (nodes : ℕ) (lowest highest : List ℕ) (held : Held) (is-held : held ≡ registers-held (length lowest)) (there : RegistersAt words₁ (length lowest) lowest highest) (kept : Keeps words words₁ 0 0) where
-  names : CarriedNames
-  names = register-names (length lowest)
-
-  limits : CarriedCells
-  limits = register-cells (length lowest) (integers-of lowest) (integers-of highest)
-
   start-state : StateAt words₁ 0 held (register-names (length lowest)) (register-needs (length lowest)) (register-cells (length lowest) (integers-of lowest) (integers-of highest))
   start-state =
       subst (λ h. StateAt words₁ 0 h (register-names (length lowest)) (register-needs (length lowest)) (register-cells (length lowest) (integers-of lowest) (integers-of highest))) (sym is-held)
@@ -130,15 +123,14 @@ module _ (words words₁ : List ℕ) (nodes : ℕ) (lowest highest : List ℕ) (
 
   pub some-root : SomeRoutine words nodes lowest highest → SomeRoot words₁ held nodes
   unfolding carry-routine
-  some-root s =
-      (
-        s .0,
-        register-names (length lowest),
-        register-needs (length lowest),
-        register-cells (length lowest) (integers-of lowest) (integers-of highest),
-        root-there (s .1) (s .2),
-        s .3,
-      )
+  some-root s = (
+    s .0,
+    register-names (length lowest),
+    register-needs (length lowest),
+    register-cells (length lowest) (integers-of lowest) (integers-of highest),
+    root-there (s .1) (s .2),
+    s .3,
+  )
 
   held-cells : held .cells ≡ length lowest
   held-cells = ap (λ h. h .cells) is-held

@@ -1,35 +1,33 @@
 -- Assign and Cond: their value or test, the command that a Cond takes where its test can be only one truth, and both where it may be both.
-use Prim.Native.Nat.{ℕ, suc, _+_, _<_, _≤_}
+use Prim.Native.Nat.{ℕ, _+_, _<_}
 use mathlib.Core.Path.{_≡_, refl, sym, ap, _∙_, subst}
-use mathlib.Core.Bool.{Bool, true, false}
+use mathlib.Core.Bool.{true, false}
 use mathlib.Core.List.{List}
-use mathlib.Core.Option.{Option, none, some}
 use native.Mathlib.Omega.{arith}
-use lib.ListN.{length, getD}
-use Rattle.rules.specs.paper.Limits.{most-nodes, most-bindings, most-cells}
+use lib.ListN.{getD}
+use Rattle.rules.specs.paper.Limits.{most-nodes}
 use Rattle.rules.specs.paper.Tree.{Expression, Command, Assign, Loop, CSeq, block, Call, Cond}
 use Rattle.rules.specs.paper.Needs.{Needs, command-need}
-use Rattle.rules.specs.paper.Carried.{Carried, numbers, truths, location, Carrying, carried, unsafe, unfit, _>>=_, fitting}
-use Rattle.rules.specs.paper.Carrying.{CarriedCells, CarriedNames, wider-cells, carry-expression, carry-choosing, carry-command}
-use Rattle.reader.specs.KindNumbers.{assign-number, cseq-number, blk-number, call-number, conditional-number}
+use Rattle.rules.specs.paper.Carried.{Carried, truths, Carrying, carried, unsafe, unfit, _>>=_}
+use Rattle.rules.specs.paper.Carrying.{CarriedCells, CarriedNames, carry-expression, carry-choosing, carry-command}
+use Rattle.reader.specs.KindNumbers.{assign-number, cseq-number, blk-number, call-number}
 use Rattle.reader.specs.Pack.{packed-kind, packed-end}
 use Rattle.reader.specs.Stored.{StoredCommand}
-use Rattle.reader.specs.StandingLaws.{expression-low, command-low, command-root}
-use Rattle.intervals.specs.Values.{flag, HoldsValue, holds-numbers, holds-truths, holds-location, ExpressedAs}
+use Rattle.reader.specs.StandingLaws.{expression-low, command-low}
+use Rattle.intervals.specs.Values.{HoldsValue, holds-numbers, holds-truths, holds-location, ExpressedAs}
 use Rattle.intervals.specs.declared.values.Value.{Value}
 use Rattle.intervals.specs.declared.values.Expressed.{Expressed}
 use Rattle.intervals.specs.declared.values.Expressed.the-variants as Expressed
-use Rattle.ranges.specs.States.{CellsAt, StateAt, Room}
-use Rattle.ranges.specs.Frames.{Keeps, Copied, Exchanged, Widened}
-use Rattle.ranges.specs.Answers.{Fits, ExpressionThere, SomeExpression, ExpressionCarried, CommandThere, SomeCommand, CommandAs, CommandCarried, AssignThere, assigning, SomeAssign, AssignCarried, Valued, an-assign, a-conditional, SomeTested, TestedCarried, SomeBoth, BothCarried}
-use Rattle.ranges.specs.declared.Held.{Held}
-use Rattle.ranges.specs.declared.Outcome.{Outcome}
-use Rattle.ranges.specs.declared.Outcome.the-variants.{Through, Unsafe}
-use Rattle.ranges.proofs.FrameLaws.{keeps-all, keeps-then, keeps-fewer}
-use Rattle.ranges.proofs.StateLaws.{KeptAt, kept-stays, cells-copied, cells-exchanged, copy-exchanged, cells-widened}
-use Rattle.ranges.proofs.ReachLaws.{second-place, reach}
-use Rattle.ranges.proofs.ExpressionLaws.{first-fits, told-value}
-use Rattle.ranges.proofs.OutcomeLaws.{told-through, told-at}
+use Rattle.carrying.specs.States.{Room}
+use Rattle.carrying.specs.Frames.{Keeps}
+use Rattle.carrying.specs.Answers.{Fits, ExpressionThere, SomeExpression, ExpressionCarried, CommandThere, SomeCommand, CommandAs, CommandCarried}
+use Rattle.ranges.specs.Commands.{AssignThere, assigning, SomeAssign, AssignCarried, Valued, an-assign, a-conditional, SomeTested, TestedCarried, SomeBoth, BothCarried}
+use Rattle.carrying.specs.declared.Held.{Held}
+use Rattle.carrying.specs.declared.Outcome.{Outcome}
+use Rattle.carrying.specs.declared.Outcome.the-variants.{Through, Unsafe}
+use Rattle.carrying.proofs.FrameLaws.{keeps-all}
+use Rattle.carrying.proofs.ReachLaws.{second-place, reach}
+use Rattle.carrying.proofs.ExpressionLaws.{first-fits, told-value}
 use Rattle.ranges.proofs.CommandLaws.{Part, Seen, seen-assign, seen-loop, seen-sequence, seen-block, seen-call, seen-conditional, seen}
 use Rattle.ranges.proofs.BranchLaws.{part-there, part-reach}
 
@@ -226,8 +224,7 @@ module _ (words : List ℕ) (held : Held) (node which : ℕ) (value : Value) (kn
       first-there s =
           only-conditional
           (λ c. CommandThere words held node c (s .2) (s .3) (s .4) → StoredCommand words (s .5 .depth) node (s .5 .next) c → Fits (carry-command (s .2) (s .4) c) → SomeCommand words held first × (reach words first < reach words node))
-          (λ e c₁ c₂ same there a b f g whole tree fits.
-          (
+          (λ e c₁ c₂ same there a b f g whole tree fits. (
             (
               c₁,
               s .2,
@@ -271,8 +268,7 @@ module _ (words : List ℕ) (held : Held) (node which : ℕ) (value : Value) (kn
       second-there s =
           only-conditional
           (λ c. CommandThere words held node c (s .2) (s .3) (s .4) → StoredCommand words (s .5 .depth) node (s .5 .next) c → Fits (carry-command (s .2) (s .4) c) → SomeCommand words held second × (reach words second < reach words node))
-          (λ e c₁ c₂ same there a b f g whole tree fits.
-          (
+          (λ e c₁ c₂ same there a b f g whole tree fits. (
             (
               c₂,
               s .2,

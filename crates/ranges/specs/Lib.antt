@@ -1,5 +1,2 @@
-pub mod Layout
-pub mod States
-pub mod Frames
-pub mod Answers
+pub mod Commands
 pub mod Routine

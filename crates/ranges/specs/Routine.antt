@@ -12,12 +12,12 @@ use Rattle.rules.specs.paper.Ranges.{lowest-of, highest-of, ends-from}
 use Rattle.reader.specs.Stored.{RootAt}
 use Rattle.integers.specs.Words.{integers-of, words-of}
 use Rattle.intervals.specs.Values.{numbers-sort}
-use Rattle.ranges.specs.Layout.{cell-sorts}
-use Rattle.ranges.specs.States.{NamesAt, CellsAt, StateAt, Room}
-use Rattle.ranges.specs.Answers.{Fits, CommandAs}
-use Rattle.ranges.specs.declared.Held.{Held}
-use Rattle.ranges.specs.declared.Outcome.{Outcome}
-use Rattle.ranges.specs.declared.Outcome.the-variants.{Through, Unsafe}
+use Rattle.carrying.specs.Layout.{cell-sorts}
+use Rattle.carrying.specs.States.{NamesAt, CellsAt, StateAt, Room}
+use Rattle.carrying.specs.Answers.{Fits, CommandAs}
+use Rattle.carrying.specs.declared.Held.{Held}
+use Rattle.carrying.specs.declared.Outcome.{Outcome}
+use Rattle.carrying.specs.declared.Outcome.the-variants.{Through, Unsafe}
 
 -- ---- The registers.
 

@@ -1,41 +1,24 @@
 // Registers known only within limits: a routine's tree is carried over the lowest and highest start of each register, from the reader's answers
 // alone.
-mod cells;
 mod commands;
-mod declarations;
-mod expressions;
-mod functions;
-pub mod layout;
-mod names;
 pub mod registers;
 
 ghost use mathlib.Core.Path.{_≡_};
 ghost use Prim.Native.Nat.{_≤_};
 ghost use lib.ListN.{length};
 ghost use Rattle.rules.specs.paper.Limits.{most-registers};
-ghost use Rattle.ranges.specs.Layout.{regions-end};
-ghost use Rattle.ranges.specs.Frames.{Keeps};
+ghost use Rattle.carrying.specs.Layout.{regions-end};
+ghost use Rattle.carrying.specs.Frames.{Keeps};
 ghost use Rattle.ranges.specs.Routine.{SomeRoot, RootCarried, SomeRoutine, RoutineCarried};
 use crate::commands::command;
-use crate::expressions::expression;
 use crate::registers::start;
 use crate::registers::take_ends;
+use carrying::Held;
+use carrying::Outcome;
+use carrying::expressions::expression;
 use intervals::values::Expressed;
 use reader::kind;
 use reader::kinds;
-
-// The names and cells that there are: the pointer of the newest name, the live bindings, which are the rows in use, and the live cells.
-pub(crate) struct Held {
-    pub environment: usize,
-    pub bindings: usize,
-    pub cells: usize,
-}
-
-// What carrying comes to: it goes through, or is unsafe at a node, where an end leaves the integers or a divisor's range holds 0.
-pub enum Outcome {
-    Through,
-    Unsafe(usize),
-}
 
 // The root of a tree of so many nodes; with no node it is absent, and the cells are left as they are.
 fn root(work: &mut [u64], held: Held, nodes: usize) -> Outcome

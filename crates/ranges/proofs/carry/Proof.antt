@@ -1,6 +1,6 @@
 -- The registers' names and cells, the root, and the ends.
 use native.Mathlib.Omega.{arith}
-use Rattle.ranges.proofs.FrameLaws.{keeps-then, keeps-fewer}
+use Rattle.carrying.proofs.FrameLaws.{keeps-then, keeps-fewer}
 use Rattle.ranges.proofs.RootLaws.{some-root, routine-unsafe, routine-carried}
 use borrow.Author.Needs.{needs}
 use Rattle.ranges.proofs.carry.Statement.{statement}
@@ -35,11 +35,10 @@ same-length-3 : tie.Need-same-length-3
 same-length-3 c = search needs
 
 returns : tie.Need-returns
-returns c =
-    (
-      routine-unsafe _ _ _ _ _ _ (c .before .before .before .before .before .before .before .before .start .ensures .0) (c .before .before .before .before .before .before .before .before .start .ensures .1 .0) (c .before .before .before .before .before .before .before .before .start .ensures .1 .1) _ _ _ (c .enum-told2 .given .1) (c .before .before .before .before .root .ensures .0),
-      keeps-then (c .before .before .before .before .before .before .before .before .start .ensures .1 .1) (keeps-fewer (omega arith) (omega arith) (c .before .before .before .before .root .ensures .1)),
-    )
+returns c = (
+  routine-unsafe _ _ _ _ _ _ (c .before .before .before .before .before .before .before .before .start .ensures .0) (c .before .before .before .before .before .before .before .before .start .ensures .1 .0) (c .before .before .before .before .before .before .before .before .start .ensures .1 .1) _ _ _ (c .enum-told2 .given .1) (c .before .before .before .before .root .ensures .0),
+  keeps-then (c .before .before .before .before .before .before .before .before .start .ensures .1 .1) (keeps-fewer (omega arith) (omega arith) (c .before .before .before .before .root .ensures .1)),
+)
 
 take-ends-requires : tie.Need-take-ends-requires
 take-ends-requires c κs = search needs
@@ -54,11 +53,10 @@ same-length-6 : tie.Need-same-length-6
 same-length-6 c = search needs
 
 returns-2 : tie.Need-returns-2
-returns-2 c =
-    (
-      routine-carried _ _ _ _ _ _ (c .before .before .before .before .before .before .before .before .before .before .before .before .before .before .before .before .start .ensures .0) (c .before .before .before .before .before .before .before .before .before .before .before .before .before .before .before .before .start .ensures .1 .0) (c .before .before .before .before .before .before .before .before .before .before .before .before .before .before .before .before .start .ensures .1 .1) _ _ (c .before .before .before .before .before .before .before .before .enum-told .given .1) (c .before .before .before .before .before .before .before .before .before .before .before .before .root .ensures .0) (c .before .before .before .before .before .before .before .before .before .before .before .before .root .ensures .1) _ _ (c .before .before .before .before .take-ends .ensures),
-      keeps-then (c .before .before .before .before .before .before .before .before .before .before .before .before .before .before .before .before .start .ensures .1 .1) (keeps-fewer (omega arith) (omega arith) (c .before .before .before .before .before .before .before .before .before .before .before .before .root .ensures .1)),
-    )
+returns-2 c = (
+  routine-carried _ _ _ _ _ _ (c .before .before .before .before .before .before .before .before .before .before .before .before .before .before .before .before .start .ensures .0) (c .before .before .before .before .before .before .before .before .before .before .before .before .before .before .before .before .start .ensures .1 .0) (c .before .before .before .before .before .before .before .before .before .before .before .before .before .before .before .before .start .ensures .1 .1) _ _ (c .before .before .before .before .before .before .before .before .enum-told .given .1) (c .before .before .before .before .before .before .before .before .before .before .before .before .root .ensures .0) (c .before .before .before .before .before .before .before .before .before .before .before .before .root .ensures .1) _ _ (c .before .before .before .before .take-ends .ensures),
+  keeps-then (c .before .before .before .before .before .before .before .before .before .before .before .before .before .before .before .before .start .ensures .1 .1) (keeps-fewer (omega arith) (omega arith) (c .before .before .before .before .before .before .before .before .before .before .before .before .root .ensures .1)),
+)
 
 pub carry-spec : {M : Type 1} → statement M
 carry-spec =

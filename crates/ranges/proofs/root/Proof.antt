@@ -1,5 +1,5 @@
 -- The root by the kind of node 0.
-use Rattle.ranges.proofs.FrameLaws.{keeps-all}
+use Rattle.carrying.proofs.FrameLaws.{keeps-all}
 use Rattle.ranges.proofs.RootLaws.{absent-carried, expression-there, expression-carried, expression-unsafe, command-there, command-carried}
 use borrow.Author.Needs.{needs}
 use Rattle.ranges.proofs.root.Statement.{statement}
@@ -7,7 +7,7 @@ use Rattle.ranges.proofs.root.Tie as tie
 use Rattle.ranges.proofs.root.Reads as reads
 use Rattle.ranges.proofs.root.Lts as lts
 use Rattle.ranges.proofs.commands.command.Reads as command-reads
-use Rattle.ranges.proofs.expressions.expression.Reads as expression-reads
+use Rattle.carrying.proofs.expressions.expression.Reads as expression-reads
 use Rattle.reader.proofs.kind.Reads as kind-reads
 
 returns : tie.Need-returns

@@ -2,13 +2,12 @@
 -- carried as two ends and stands for every integer from one to the other; a boolean as the set of truths possible; a location is known.
 -- No value is connected with another. That a comparison gives just the truths that some pair of carried values gives is stated in
 -- claims/Ranges.antt.
-use Prim.Native.Nat.{ℕ, zero, suc}
+use Prim.Native.Nat.{ℕ}
 use mathlib.Core.Bool.{Bool, true, false, cond, not, _&&_, _||_, Bool·beq}
-use mathlib.Core.List.{List, [], _∷_}
 use mathlib.Core.Option.{Option, none, some}
 use lib.Dec.{eqb}
 use lib.IntN.{ℤ, pos}
-use lib.Signed.{ltZ, leZ}
+use lib.Signed.{ltZ}
 use Rattle.rules.specs.paper.Tree.{Arithmetic, Sum, Sub, Mul, Div, Order, Lt, Le, Gt, Ge, Operator, arithmetic, Eq, order, logic}
 use Rattle.rules.specs.paper.Integers.{Result, number, failed, compute, compare, equal-integers, equal-truths, combine}
 

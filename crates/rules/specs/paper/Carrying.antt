@@ -9,7 +9,7 @@ use lib.Dec.{eqb}
 use lib.IntN.{ℤ, pos}
 use lib.ListN.{length, drop, getD}
 use Rattle.rules.specs.paper.Tree.{Expression, Num, Boo, Id, DeRef, ValRef, Binary, Not, Formal, Command, Assign, Loop, CSeq, block, Call, Cond, Block, Blk, Declaration, Bind, DSeq, Bound, plain, Ref, Abs, Root, expression, command, absent}
-use Rattle.rules.specs.paper.Carried.{Carried, numbers, truths, location, only-number, only-truth, Carrying, carried, unsafe, unfit, _>>=_, fitting, carry-operator, carry-negation, wider}
+use Rattle.rules.specs.paper.Carried.{Carried, numbers, truths, location, only-number, only-truth, Carrying, carried, unfit, _>>=_, fitting, carry-operator, carry-negation, wider}
 
 -- ---- Cells: newest first; a cell's location is the number of cells that are older.
 

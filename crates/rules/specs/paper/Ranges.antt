@@ -2,7 +2,7 @@
 -- words to the answer, the final lists and the final work words. 22 is tested first, then the image, 20 for either list, 42, 43, 40, 33 to 36
 -- by the room figures, and 44.
 use Prim.Native.Nat.{ℕ, zero, suc}
-use mathlib.Core.Bool.{Bool, true, false, cond, _&&_, _||_}
+use mathlib.Core.Bool.{Bool, false, cond, _&&_, _||_}
 use mathlib.Core.List.{List, [], _∷_}
 use mathlib.Core.Option.{Option, none, some}
 use lib.Dec.{eqb, ltb}

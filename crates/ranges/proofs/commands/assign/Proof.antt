@@ -1,16 +1,16 @@
 -- An Assign: its name's row tells the cell.
 use native.Mathlib.Omega.{arith}
 use Rattle.reader.specs.StandingLaws.{command-low}
-use Rattle.ranges.proofs.FrameLaws.{set-keeps}
+use Rattle.carrying.proofs.FrameLaws.{set-keeps}
 use Rattle.ranges.proofs.AssignLaws.{row-there, cell-low, assign-carried}
 use borrow.Author.Needs.{needs}
 use Rattle.ranges.proofs.commands.assign.Statement.{statement}
 use Rattle.ranges.proofs.commands.assign.Tie as tie
 use Rattle.ranges.proofs.commands.assign.Reads as reads
 use Rattle.ranges.proofs.commands.assign.Lts as lts
-use Rattle.ranges.proofs.cells.set_cell.Reads as set-cell-reads
-use Rattle.ranges.proofs.names.find.Reads as find-reads
-use Rattle.ranges.proofs.names.row_value.Reads as row-value-reads
+use Rattle.carrying.proofs.cells.set_cell.Reads as set-cell-reads
+use Rattle.carrying.proofs.names.find.Reads as find-reads
+use Rattle.carrying.proofs.names.row_value.Reads as row-value-reads
 use Rattle.reader.proofs.operand.Reads as operand-reads
 
 operand-requires : tie.Need-operand-requires
@@ -32,8 +32,7 @@ same-length c = search needs
 returns : tie.Need-returns
 returns c =
     let start = c .before .before .before .before .before .before .before .before .before .before .before in
-    let small = cell-low _ _ _ _ _ _ (c .before .before .before .before .before .before .before .before .operand .ensures) (c .before .before .before .before .before .before .find .ensures .0) _ (c .before .before .before .before .row-value .ensures) (start .pre .1) in
-    (
+    let small = cell-low _ _ _ _ _ _ (c .before .before .before .before .before .before .before .before .operand .ensures) (c .before .before .before .before .before .before .find .ensures .0) _ (c .before .before .before .before .row-value .ensures) (start .pre .1) in (
       assign-carried _ _ _ _ _ _ (c .before .before .before .before .before .before .before .before .operand .ensures) (c .before .before .before .before .before .before .find .ensures .0) _ (c .before .before .before .before .row-value .ensures) _ (c .before .before .set-cell .ensures),
       set-keeps small (c .before .before .set-cell .ensures),
     )

@@ -5,8 +5,8 @@ use Rattle.ranges.proofs.registers.put_register.Statement.{statement}
 use Rattle.ranges.proofs.registers.put_register.Tie as tie
 use Rattle.ranges.proofs.registers.put_register.Reads as reads
 use Rattle.ranges.proofs.registers.put_register.Lts as lts
-use Rattle.ranges.proofs.cells.put_cell.Reads as put-cell-reads
-use Rattle.ranges.proofs.names.put_row.Reads as put-row-reads
+use Rattle.carrying.proofs.cells.put_cell.Reads as put-cell-reads
+use Rattle.carrying.proofs.names.put_row.Reads as put-row-reads
 
 put-row-requires : tie.Need-put-row-requires
 put-row-requires c κs = search needs
@@ -19,8 +19,7 @@ same-length c = search needs
 
 returns : tie.Need-returns
 returns c =
-    let start = c .before .before .before .before .before .before .before .before .before in
-    (
+    let start = c .before .before .before .before .before .before .before .before .before in (
       register-put _ _ _ _ _ _ (start .pre .1) (start .fits .low .fits) (start .fits .high .fits) (c .before .before .before .before .before .before .put-row .ensures) (c .before .before .put-cell .ensures),
       register-keeps _ _ _ _ _ _ (start .pre .1) (start .fits .low .fits) (start .fits .high .fits) (c .before .before .before .before .before .before .put-row .ensures) (c .before .before .put-cell .ensures),
     )

@@ -4,9 +4,9 @@ use mathlib.Core.Path.{_≡_, refl, ap, subst}
 use native.Mathlib.Omega.{arith}
 use lib.ListN.{length}
 use denote.Ref.{now}
-use Rattle.ranges.specs.Frames.{Keeps}
+use Rattle.carrying.specs.Frames.{Keeps}
 use Rattle.ranges.specs.Routine.{registers-held, RegistersAt}
-use Rattle.ranges.proofs.FrameLaws.{keeps-all, keeps-then}
+use Rattle.carrying.proofs.FrameLaws.{keeps-all, keeps-then}
 use Rattle.ranges.proofs.RegisterLaws.{no-registers}
 use Rattle.ranges.proofs.registers.start.Statement.{statement}
 use Rattle.ranges.proofs.registers.start.Tie as tie
@@ -50,8 +50,7 @@ loop-again : tie.Need-loop-again Inv-loop μ-loop
 loop-again c =
     let start = c .before .before .before .before .before .before .before .before .before .before .before in
     let so-far = c .before .before .before .before .before .before .before .loop .inv in
-    let less = c .before .before .before .before .before .before .loop-test .taken in
-    (
+    let less = c .before .before .before .before .before .before .loop-test .taken in (
       omega (arith, less),
       c .before .before .put-register .ensures .0 _ _ less (omega (arith, less, start .pre .1 .1)) refl refl (so-far .1),
       keeps-then (so-far .2) (c .before .before .put-register .ensures .1),

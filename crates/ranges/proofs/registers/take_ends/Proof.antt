@@ -7,7 +7,7 @@ use Rattle.ranges.proofs.registers.take_ends.Statement.{statement}
 use Rattle.ranges.proofs.registers.take_ends.Tie as tie
 use Rattle.ranges.proofs.registers.take_ends.Reads as reads
 use Rattle.ranges.proofs.registers.take_ends.Lts as lts
-use Rattle.ranges.proofs.cells.contents.Reads as contents-reads
+use Rattle.carrying.proofs.cells.contents.Reads as contents-reads
 
 abbrev Inv-loop : tie.InvT-loop
 Inv-loop work lowest₀ highest₀ i₀ lowest highest i = TakenSoFar work lowest₀ highest₀ lowest highest i

@@ -2,7 +2,7 @@
 -- tree at the node reaches; at one node a command comes before what is done with its value, and that before both commands of a Cond.
 use Prim.Native.Nat.{ℕ, _+_, _*_, _<_}
 use denote.Ref.{now}
-use Rattle.ranges.proofs.ReachLaws.{reach}
+use Rattle.carrying.proofs.ReachLaws.{reach}
 use borrow.Fn.Kinds.{In}
 use borrow.Fn.PlainCycle.{Measures, is, falls, and}
 use Rattle.ranges.proofs.commands.command.Reads as command
@@ -14,13 +14,13 @@ use Rattle.ranges.proofs.commands.+command+either+with_value.Lts-either
 use Rattle.ranges.proofs.commands.with_value.Reads as with-value
 use Rattle.ranges.proofs.commands.with_value.Kinds as with-value-kinds
 use Rattle.ranges.proofs.commands.+command+either+with_value.Lts-with_value as with-value-lts
-use Rattle.ranges.proofs.cells.copy.Reads as copy-reads
-use Rattle.ranges.proofs.cells.exchange.Reads as exchange-reads
-use Rattle.ranges.proofs.cells.widen.Reads as widen-reads
+use Rattle.carrying.proofs.cells.copy.Reads as copy-reads
+use Rattle.carrying.proofs.cells.exchange.Reads as exchange-reads
+use Rattle.carrying.proofs.cells.widen.Reads as widen-reads
 use Rattle.ranges.proofs.commands.assign.Reads as assign-reads
-use Rattle.ranges.proofs.declarations.declaration.Reads as declaration-reads
-use Rattle.ranges.proofs.expressions.expression.Reads as expression-reads
-use Rattle.ranges.proofs.functions.enter.Reads as enter-reads
+use Rattle.carrying.proofs.declarations.declaration.Reads as declaration-reads
+use Rattle.carrying.proofs.expressions.expression.Reads as expression-reads
+use Rattle.carrying.proofs.functions.enter.Reads as enter-reads
 use Rattle.reader.proofs.end.Reads as end-reads
 use Rattle.reader.proofs.kind.Reads as kind-reads
 

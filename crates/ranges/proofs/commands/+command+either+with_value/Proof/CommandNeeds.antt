@@ -4,7 +4,7 @@ use native.Mathlib.Omega.{arith}
 use borrow.Author.Needs.{needs}
 use Rattle.rules.specs.paper.Limits.{most-cells}
 use Rattle.reader.specs.StandingLaws.{command-low, declaration-low}
-use Rattle.ranges.proofs.FrameLaws.{keeps-all, keeps-then, keeps-fewer}
+use Rattle.carrying.proofs.FrameLaws.{keeps-all, keeps-then, keeps-fewer}
 use Rattle.ranges.proofs.BranchLaws.{sequence-first, sequence-unsafe, sequence-second, sequence-carried, block-declaration, block-unsafe, more-held, block-inside, block-carried, call-there, call-unsafe, function-inside, call-carried}
 use Rattle.ranges.proofs.TestLaws.{value-there, value-low, value-unsafe, value-known, value-carried}
 use Rattle.ranges.proofs.commands.command.Reads as command
@@ -109,8 +109,7 @@ command-same-length-5 t c = search needs
 pub command-returns-5 : (t : ℕ) → command-lts.Need-returns-5 (command-calls t) (command-at t) command.Post
 command-returns-5 t c =
     let part = function-inside _ _ _ _ (c .before .before .before .before .before .before .before .before .before .before .before .before .before .before .kind .ensures) (c .before .before .before .before .before .before .before .before .before .before .before .if3 .taken) _ _ _ _ (c .before .before .before .before .before .entered .given .1) (c .before .before .before .before .before .before .before .before .before .enter .ensures .0) (c .before .before .before .before .before .before .before .before .before .before .before .before .before .before .before .before .before .pre .1 .1) in
-    let few : c .before .before .before .before .before .before .before .before .before .before .before .before .before .before .before .before .before .args .held .cells ≤ most-cells = omega (arith, c .before .before .before .before .before .before .before .before .before .before .before .before .before .before .before .before .before .pre .1 .1 .4 .room .cells-fit) in
-    (
+    let few : c .before .before .before .before .before .before .before .before .before .before .before .before .before .before .before .before .before .args .held .cells ≤ most-cells = omega (arith, c .before .before .before .before .before .before .before .before .before .before .before .before .before .before .before .before .before .pre .1 .1 .4 .room .cells-fit) in (
       call-carried _ _ _ _ (c .before .before .before .before .before .before .before .before .before .before .before .before .before .before .kind .ensures) (c .before .before .before .before .before .before .before .before .before .before .before .if3 .taken) _ _ _ _ (c .before .before .before .before .before .entered .given .1) (c .before .before .before .before .before .before .before .before .before .enter .ensures .0) _ _ (c .before .before .command4 .ensures .0),
       keeps-then (keeps-fewer (omega arith) few (c .before .before .before .before .before .before .before .before .before .enter .ensures .1 .0)) (keeps-fewer (part .2) (omega (arith, part .3)) (c .before .before .command4 .ensures .1)),
     )

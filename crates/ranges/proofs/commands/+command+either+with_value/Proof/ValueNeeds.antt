@@ -7,7 +7,7 @@ use native.Mathlib.Omega.{arith}
 use borrow.Author.Needs.{needs}
 use Rattle.reader.specs.Pack.{packed-end}
 use Rattle.reader.specs.StandingLaws.{command-low}
-use Rattle.ranges.proofs.FrameLaws.{keeps-fewer}
+use Rattle.carrying.proofs.FrameLaws.{keeps-fewer}
 use Rattle.ranges.proofs.TestLaws.{assign-there, assign-tested}
 use Rattle.ranges.proofs.TestLaws as TestLaws
 use Rattle.ranges.proofs.commands.with_value.Reads as with-value
@@ -25,8 +25,7 @@ with-value-same-length t c = search needs
 
 pub with-value-returns : (t : ℕ) → with-value-lts.Need-returns (with-value-calls t) (with-value-at t) with-value.Post
 with-value-returns t c =
-    let room = c .before .before .before .before .before .before .before .before .pre .1 .1 .5 .room in
-    (
+    let room = c .before .before .before .before .before .before .before .before .pre .1 .1 .5 .room in (
       assign-tested _ _ _ _ _ (c .before .before .before .before .before .kind .ensures) (c .before .before .before .before .if1 .taken) _ (c .before .before .assign .ensures .0),
       keeps-fewer (omega (arith, room .bindings-fit)) (omega (arith, room .cells-fit)) (c .before .before .assign .ensures .1),
     )

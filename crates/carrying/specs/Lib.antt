@@ -1,0 +1,4 @@
+pub mod Layout
+pub mod States
+pub mod Frames
+pub mod Answers
