@@ -33,10 +33,10 @@ use Rattle.estimator.specs.Entries.{WritesEntriesFrom}
 use Rattle.estimator.specs.Answers.{RoutineNeeds, LoopFound}
 use Rattle.estimator.specs.declared.figures.Need.{Need}
 use Rattle.estimator.proofs.EntryLaws.{entries-nodes}
-use Rattle.ranges.specs.Frames.{Keeps}
+use Rattle.carrying.specs.Frames.{Keeps}
 use Rattle.ranges.specs.Routine.{EnoughRoom, SomeRoutine, CarriedAs, RoutineCarried}
-use Rattle.ranges.specs.declared.Outcome.{Outcome}
-use Rattle.ranges.specs.declared.Outcome.the-variants.{Through, Unsafe}
+use Rattle.carrying.specs.declared.Outcome.{Outcome}
+use Rattle.carrying.specs.declared.Outcome.the-variants.{Through, Unsafe}
 use Rattle.loader.specs.Answers.{LoadAnswer}
 use Rattle.loader.specs.declared.Loaded.{Loaded}
 use Rattle.loader.specs.declared.Loaded.the-variants as Load

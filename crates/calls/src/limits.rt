@@ -18,6 +18,7 @@ use crate::refusals::REFUSED_LIMITS;
 use crate::refusals::REFUSED_LOOP;
 use crate::refusals::REFUSED_REGISTERS;
 use crate::refusals::REFUSED_STEPS;
+use carrying::Outcome;
 use estimator::figures::MOST_STEPS;
 use estimator::figures::Need;
 use estimator::has_loop;
@@ -32,7 +33,6 @@ use machine::reasons::BINDINGS;
 use machine::reasons::CELLS;
 use machine::reasons::CONTROL_ENTRIES;
 use machine::reasons::VALUE_ENTRIES;
-use ranges::Outcome;
 use ranges::carry;
 use ranges::registers::crossed;
 
