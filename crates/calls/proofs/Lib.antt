@@ -5,3 +5,4 @@ mod NeedsLaws
 mod OrderLaws
 mod PageLaws
 mod PerformLaws
+mod RangesLaws

@@ -44,7 +44,7 @@ pub beyond-entries : {a b : List ℕ} {node : ℕ} → WritesEntriesFrom a b nod
 beyond-entries {a} {b} k = record { same-length = k .same-length; same-beyond = drop-same work-words a b (k .same-length) (λ i h. k .same-beyond i (omega (arith, h))) }
 
 module _ (words words′ : List ℕ) (registers nodes : ℕ) (need : Need) (routine : RoutineNeeds words registers nodes need) (kept : WritesEntriesFrom words words′ 0) where
-  kept-root : (t : Root) → RootAt words nodes t → RootAt words′ nodes t
+  pub kept-root : (t : Root) → RootAt words nodes t → RootAt words′ nodes t
   kept-root t at = record { depth = at .depth; depth-low = at .depth-low; stored = same-root words words′ (entries-nodes kept) (at .stored) }
 
   whole : (n m : ℕ) → n ≡ stopped m → m ≤ most-steps → n ≡ m
@@ -52,16 +52,16 @@ module _ (words words′ : List ℕ) (registers nodes : ℕ) (need : Need) (rout
 
   -- The room figures are those of the definition.
   module _ (t : Root) (at : RootAt words nodes t) (small : SmallRoom registers t) where
-    is-control : need .control ≡ routine-need registers t .most control
+    pub is-control : need .control ≡ routine-need registers t .most control
     is-control = whole (need .control) _ (ap (λ n. n .control) (routine t at)) (omega (arith, small control))
 
-    is-values : need .values ≡ routine-need registers t .most values
+    pub is-values : need .values ≡ routine-need registers t .most values
     is-values = whole (need .values) _ (ap (λ n. n .values) (routine t at)) (omega (arith, small values))
 
-    is-cells : need .cells ≡ routine-need registers t .most cells
+    pub is-cells : need .cells ≡ routine-need registers t .most cells
     is-cells = whole (need .cells) _ (ap (λ n. n .cells) (routine t at)) (omega (arith, small cells))
 
-    is-bindings : need .bindings ≡ routine-need registers t .most bindings
+    pub is-bindings : need .bindings ≡ routine-need registers t .most bindings
     is-bindings = whole (need .bindings) _ (ap (λ n. n .bindings) (routine t at)) (omega (arith, small bindings))
 
     is-steps : need .steps ≡ stopped (routine-need registers t .steps)

@@ -5,3 +5,4 @@ pub mod Runs
 pub mod Sizes
 pub mod Needs
 pub mod Page
+pub mod Ranges

@@ -1,5 +1,6 @@
-// The engine's four calls: the checker alone, the needs alone, the annex page, and the run.
+// The engine's five calls: the checker alone, the needs alone, the ranges, the annex page, and the run.
 mod estimate;
+mod limits;
 mod perform;
 mod print;
 pub mod refusals;
@@ -10,8 +11,10 @@ ghost use Rattle.page.specs.Call.{page-call};
 ghost use Rattle.calls.specs.Answers.{check-reply};
 ghost use Rattle.calls.specs.Needs.{needs-reply};
 ghost use Rattle.calls.specs.Page.{PagedAs};
+ghost use Rattle.calls.specs.Ranges.{ranges-call, RangedAs};
 ghost use Rattle.calls.specs.Runs.{run-call, RanAs};
 use crate::estimate::estimate_image;
+use crate::limits::limit_image;
 use crate::perform::run_image;
 use crate::print::print_image;
 use crate::refusals::REFUSED_BUDGET;
@@ -49,6 +52,12 @@ pub enum Estimated {
 // What the annex page answers: the page is written, a line for each node; or a refusal with its place, and no byte is.
 pub enum Printed {
     Whole,
+    Refused(u64, usize),
+}
+
+// What the ranges answer: both lists have the registers' ends; or a refusal with its place, and both lists are as they were.
+pub enum Ranged {
+    Ends,
     Refused(u64, usize),
 }
 
@@ -96,6 +105,27 @@ pub fn needs(image: &[u32], work: &mut [u64]) -> Estimated
         return Estimated::Refused(REFUSED_WORK, 0);
     }
     let answer = estimate_image(image, work);
+    clear(work);
+    answer
+}
+
+// By `runs-within-ranges` (Delivered.antt) a run from starts within the limits meets none of 31 to 36, and where it ends its registers lie
+// within the ends.
+// The ranges of the registers: any image words, a lowest and a highest start for each register, words in two's complement, any work words. The
+// ends replace the limits; a refusal keeps both lists. Under 8,192 work words nothing is touched; every other call leaves the first 8,192 of
+// them 0 and the rest as they were.
+pub fn ranges(
+    image: &[u32],
+    lowest: &mut [u64],
+    highest: &mut [u64],
+    work: &mut [u64],
+) -> Ranged
+    ensures { λ r. ⌜ RangedAs (ranges-call (now (image .entry)) (now (lowest .entry)) (now (highest .entry)) (now (work .entry))) r (now (lowest .exit)) (now (highest .exit)) (now (work .exit)) ⌝ }
+{
+    if work.len() < WORK_WORDS {
+        return Ranged::Refused(REFUSED_WORK, 0);
+    }
+    let answer = limit_image(image, lowest, highest, work);
     clear(work);
     answer
 }

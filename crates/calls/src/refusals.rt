@@ -14,3 +14,12 @@ pub const REFUSED_STEPS: u64 = 40;
 
 // The lent page is shorter than 31 bytes a node.
 pub const REFUSED_PAGE: u64 = 41;
+
+// A lowest start is above its highest.
+pub const REFUSED_LIMITS: u64 = 42;
+
+// There is a Loop, and nothing is carried.
+pub const REFUSED_LOOP: u64 = 43;
+
+// An end leaves the integers, or a divisor's range holds 0.
+pub const REFUSED_ARITHMETIC: u64 = 44;

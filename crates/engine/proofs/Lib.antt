@@ -3,4 +3,5 @@ mod BytesRun
 mod CheckNumbers
 mod NeedsNumbers
 mod PageNumbers
+mod RangesNumbers
 mod RunNumbers

@@ -4,3 +4,4 @@ pub mod BytesRead
 pub mod Replies
 pub mod NeedsReplies
 pub mod PageReplies
+pub mod RangesReplies

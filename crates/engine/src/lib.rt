@@ -1,7 +1,8 @@
 // The engine as a C host calls it: the checker alone, the needs alone and the run on words; in `annex`, the annex page; in `bytes`, the
-// checker and the run on bytes.
+// checker and the run on bytes; in `limits`, the ranges of the registers.
 pub mod annex;
 pub mod bytes;
+pub mod limits;
 
 ghost use mathlib.Core.Path.{_≡_};
 ghost use Rattle.rules.specs.paper.Engine.{checker, needs};
