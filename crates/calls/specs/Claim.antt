@@ -116,6 +116,10 @@ OutcomeHas (Location w k h) Fact = Fact
 OutcomeHas (Nothing k h) Fact = Fact
 OutcomeHas (Ran.Refused x p k h) Fact = 31 ≤ x → x ≤ 36 → ⊥
 
+-- Each word of the middle list holds an integer within the ends that the others hold; there are as many of each.
+abbrev pub WordsWithin : (lowest words highest : List ℕ) → Type 0
+WordsWithin lowest words highest = Within (integers-of lowest) (integers-of words) (integers-of highest)
+
 -- `ranged`, which is that ends are given, and the ends stand for what `ranges` answers and leaves, and `answer` and `last` for what `run` does, for
 -- one image; their contracts give them. Whatever else they are called with, from starts within the limits a step is withheld for the budget alone,
 -- and where the run has an outcome each register lies within its ends.
@@ -123,6 +127,6 @@ abbrev pub RunsWithinRanges : Type 0
 RunsWithinRanges =
     (image lowest highest lent : List ℕ) (ranged : Ranged) (lowest-ends highest-ends lent-left : List ℕ) →
     RangedAs (ranges-call image lowest highest lent) ranged lowest-ends highest-ends lent-left → ranged ≡ Ends →
-    (registers : List ℕ) → Within (integers-of lowest) (integers-of registers) (integers-of highest) →
+    (registers : List ℕ) → WordsWithin lowest registers highest →
     (budget : ℕ) (work : List ℕ) (answer : Ran) (last work-left : List ℕ) → RanAs (run-call image registers budget work) answer last work-left →
-    OutcomeHas answer (Within (ranges-call image lowest highest lent .lowest) (run-call image registers budget work .registers) (ranges-call image lowest highest lent .highest))
+    OutcomeHas answer (WordsWithin lowest-ends last highest-ends)

@@ -4,20 +4,22 @@ use mathlib.Core.Path.{_≡_, refl, sym, ap, _∙_, subst}
 use mathlib.Core.List.{List, [], _∷_}
 use native.Mathlib.Omega.{arith}
 use lib.Dec.{T, lt→ltb}
+use lib.IntN.{ℤ}
 use Rattle.rules.specs.paper.Refusals.{Reason, Steps, Refusal, Length, Size, Kind, Operand, Tree, Depth, Unbound, Mistyped, Repeated, NotAssignable, BadCall, Registers, Budget, Work, Withheld, TooManySteps, ShortPage, CrossedLimits, HasLoop, UnsafeArithmetic, reason-number, refusal-number}
 use Rattle.rules.specs.paper.Integers.{in-range}
 use Rattle.rules.specs.paper.Engine.{number, truth-of, cell, nothing, Outcome, Answer, outcome, refused}
 use Rattle.rules.specs.paper.Ranges.{RangesAnswer, ends-given, no-ends}
 use Rattle.rules.specs.claims.Claim.{AllInRange}
 use Rattle.rules.specs.claims.Ranges.{Within}
+use Rattle.rules.specs.proofs.ranges.RootRuns.{starts-in-range}
 use Rattle.rules.specs.proofs.ranges.RangesHold.{replies-within-ranges}
-use Rattle.integers.specs.Words.{integer-of, integers-of}
-use Rattle.integers.specs.WordLaws.{by-sign, integer-low, integer-high}
+use Rattle.integers.specs.Words.{integer-of, word-of, integers-of, words-of}
+use Rattle.integers.specs.WordLaws.{by-sign, integer-low, integer-high, integer-of-word}
 use Rattle.automaton.specs.Runs.{marks-of}
 use Rattle.automaton.specs.declared.meter.HighMarks.{HighMarks}
 use Rattle.calls.specs.Runs.{ran, run-call}
 use Rattle.calls.specs.Ranges.{ranges-reply, ranges-call}
-use Rattle.calls.specs.Claim.{OutcomeHas, RunsWithinRanges}
+use Rattle.calls.specs.Claim.{OutcomeHas, WordsWithin, RunsWithinRanges}
 use Rattle.calls.specs.declared.Ranged.{Ranged}
 use Rattle.calls.specs.declared.Ranged.the-variants.{Ends, Refused}
 
@@ -30,6 +32,15 @@ pub words-in-range : (ws : List ℕ) → AllInRange (integers-of ws)
 unfolding integers-of
 words-in-range [] = tt
 words-in-range (w ∷ ws) = (word-in-range w, words-in-range ws)
+
+-- Integers of the range are those that their words hold.
+pub integers-back : (zs : List ℤ) → AllInRange zs → integers-of (words-of zs) ≡ zs
+unfolding integers-of words-of
+integers-back [] ranged = refl
+integers-back (z ∷ zs) ranged = two-parts (integer-of-word z (ranged .0)) (integers-back zs (ranged .1))
+  where
+    two-parts : integer-of (word-of z) ≡ z → integers-of (words-of zs) ≡ zs → _≡_ {A = List ℤ} (integer-of (word-of z) ∷ integers-of (words-of zs)) (z ∷ zs)
+    two-parts p q = cc
 
 -- Ends are answered where they are given.
 given-ends : (a : RangesAnswer) (r : Ranged) → r ≡ ranges-reply a → r ≡ Ends → a ≡ ends-given
@@ -74,9 +85,16 @@ answered (outcome (cell l)) k h Fact only fact = fact (cell l) refl
 answered (outcome nothing) k h Fact only fact = fact nothing refl
 answered (refused x p) k h Fact only fact = no-step x (λ y q. only y p (ap (λ z. refused z p) q))
 
+-- The ends and the registers, each as its words hold them.
+held-within : {ls zs hs : List ℤ} (lowest last highest : List ℕ) → integers-of lowest ≡ ls → last ≡ words-of zs → integers-of highest ≡ hs → Within ls zs hs → WordsWithin lowest last highest
+held-within {ls} {zs} {hs} lowest last highest p q r within =
+    let inside = starts-in-range within (subst AllInRange p (words-in-range lowest)) (subst AllInRange r (words-in-range highest)) in
+    rw (p, ap integers-of q ∙ integers-back zs inside, r) within
+
 pub runs-within-ranges : RunsWithinRanges
 runs-within-ranges image lowest highest lent ranged lowest-ends highest-ends lent-left left given registers starts budget work answer last work-left ran-as =
     let ends = given-ends (ranges-call image lowest highest lent .answer) ranged (left .answer-is) given in
     let replies = replies-within-ranges image (integers-of lowest) (integers-of highest) lent (words-in-range lowest) (words-in-range highest) ends (integers-of registers) starts budget work in
-    subst (λ r. OutcomeHas r (Within (ranges-call image lowest highest lent .lowest) (run-call image registers budget work .registers) (ranges-call image lowest highest lent .highest))) (sym (ran-as .answer-is))
-    (answered (run-call image registers budget work .reply .answer) (run-call image registers budget work .reply .steps) (marks-of (run-call image registers budget work .reply .most)) _ (replies .0) (replies .1))
+    subst (λ r. OutcomeHas r (WordsWithin lowest-ends last highest-ends)) (sym (ran-as .answer-is))
+    (answered (run-call image registers budget work .reply .answer) (run-call image registers budget work .reply .steps) (marks-of (run-call image registers budget work .reply .most)) (WordsWithin lowest-ends last highest-ends) (replies .0)
+    (λ o q. held-within lowest-ends last highest-ends (left .lowest-hold) (ran-as .registers-are) (left .highest-hold) (replies .1 o q)))
