@@ -42,6 +42,7 @@ use Rattle.loader.specs.declared.Loaded.{Loaded}
 use Rattle.loader.specs.declared.Loaded.the-variants as Load
 use Rattle.loader.proofs.LoadLaws.{drop-same}
 use Rattle.calls.specs.Needs.{SmallRoom, SmallTree}
+use Rattle.calls.specs.DeliveredRanges.{integers-back}
 use Rattle.calls.specs.Runs.{TreeStands}
 use Rattle.calls.specs.Ranges.{WordsFit, ranges-call, RangedAs, told, room-refused, room-of, tree-refusal, TreeRefused, TreeRanged, ImageRanged}
 use Rattle.calls.specs.declared.Ranged.{Ranged}
@@ -184,7 +185,7 @@ same-place r p q g h = cc
 module _ (lowest highest : List ℕ) (low : WordsFit lowest) (high : WordsFit highest) where
   pub both-kept : (x : Refusal) (n p : ℕ) (work : List ℕ) → n ≡ refusal-number x → RangedAs (no-ranges x p (integers-of lowest) (integers-of highest) work) (Refused n p) lowest highest work
   both-kept x n p work q =
-      record { answer-is = ap (λ k. Refused k p) q; lowest-are = sym (words-back lowest low); highest-are = sym (words-back highest high); work-is = refl }
+      record { answer-is = ap (λ k. Refused k p) q; lowest-are = sym (words-back lowest low); highest-are = sym (words-back highest high); lowest-hold = refl; highest-hold = refl; work-is = refl }
 
   -- ---- 20 and 42.
 
@@ -269,7 +270,15 @@ module _ (lowest highest : List ℕ) (low : WordsFit lowest) (high : WordsFit hi
           where
             by : (c : Carrying CarriedCells) → (c ≡ unfit → ⊥) → CarriedAs c lowest highest lowest′ highest′ r →
                 RangedAs (carried-ranges (length lowest) c (integers-of lowest) (integers-of highest) work) Ends lowest′ highest′ work
-            by (carried K) fit ends = record { answer-is = refl; lowest-are = ends .lowest-are; highest-are = ends .highest-are; work-is = refl }
+            by (carried K) fit ends =
+                record {
+                  answer-is = refl;
+                  lowest-are = ends .lowest-are;
+                  highest-are = ends .highest-are;
+                  lowest-hold = ap integers-of (ends .lowest-are) ∙ integers-back _ (ends .lowest-ranged);
+                  highest-hold = ap integers-of (ends .highest-are) ∙ integers-back _ (ends .highest-ranged);
+                  work-is = refl;
+                }
             by (unsafe p) fit lists = absurd (both-outcomes r p q (lists .is-unsafe))
             by unfit fit lists = absurd (fit refl)
 
@@ -287,6 +296,8 @@ module _ (lowest highest : List ℕ) (low : WordsFit lowest) (high : WordsFit hi
                   answer-is = ap (Refused 44) (same-place r p o q (lists .is-unsafe));
                   lowest-are = lists .same-lowest ∙ sym (words-back lowest low);
                   highest-are = lists .same-highest ∙ sym (words-back highest high);
+                  lowest-hold = ap integers-of (lists .same-lowest);
+                  highest-hold = ap integers-of (lists .same-highest);
                   work-is = refl;
                 }
             by unfit fit lists = absurd (fit refl)

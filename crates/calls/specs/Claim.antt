@@ -1,5 +1,6 @@
 -- Demand 3 for what `run` runs: which reached state its reply and its registers are taken from, with the whole-run claim about every
--- state that the run reaches; what its marks are, and that they are within the needs. `Delivered` has the proofs.
+-- state that the run reaches; what its marks are, and that they are within the needs; and that from starts within limits for which `ranges` gives
+-- ends it stays within them. `Delivered` and `DeliveredRanges` have the proofs.
 use Prim.Native.Nat.{ℕ, _<_, _≤_}
 use mathlib.Core.Path.{_≡_}
 use mathlib.Core.List.{List, []}
@@ -16,10 +17,12 @@ use Rattle.rules.specs.claims.History.{History, Reach}
 use Rattle.rules.specs.claims.Claim.{StateClaim, StepWithheld, AllInRange}
 use Rattle.rules.specs.claims.Ends.{FinalValues}
 use Rattle.rules.specs.claims.HighMarks.{MostReached}
+use Rattle.rules.specs.claims.Ranges.{Within}
 use Rattle.rules.specs.paper.Needs.{Sizes}
 use Rattle.integers.specs.Words.{integers-of, words-of}
-use Rattle.calls.specs.Runs.{ran, run-reply, run-call}
+use Rattle.calls.specs.Runs.{ran, run-reply, run-call, RanAs}
 use Rattle.calls.specs.Needs.{needs-reply}
+use Rattle.calls.specs.Ranges.{ranges-call, RangedAs}
 use Rattle.automaton.specs.Runs.{marks-of}
 use Rattle.automaton.specs.declared.meter.HighMarks.{HighMarks}
 use Rattle.calls.specs.declared.Ran.{Ran}
@@ -28,6 +31,8 @@ use Rattle.calls.specs.declared.Ran.the-variants as Ran
 use Rattle.calls.specs.declared.Estimated.{Estimated}
 use Rattle.calls.specs.declared.Estimated.the-variants.{Figures, Open}
 use Rattle.calls.specs.declared.Estimated.the-variants as Estimated
+use Rattle.calls.specs.declared.Ranged.{Ranged}
+use Rattle.calls.specs.declared.Ranged.the-variants.{Ends}
 
 -- The answer that a state with these steps made comes to: control is empty, and what is left is the outcome; or the step is withheld
 -- for a reason that holds, the first in the order.
@@ -100,3 +105,28 @@ RunsWithinNeeds =
     (image registers : List ℕ) (budget : ℕ) (work lent : List ℕ) (answer : Ran) (estimated : Estimated) →
     answer ≡ run-reply (run-call image registers budget work .reply) → estimated ≡ needs-reply (needs image lent .answer) →
     ((i : ℕ) → i < length registers → getD registers i 0 < 18446744073709551616) → MarksWithin (marks-in answer) estimated
+
+-- ---- The runs and the ranges.
+
+-- None of 31 to 36 is answered; and where the run has an outcome this holds.
+abbrev pub OutcomeHas : Ran → Type 0 → Type 0
+OutcomeHas (Number w k h) Fact = Fact
+OutcomeHas (Truth w k h) Fact = Fact
+OutcomeHas (Location w k h) Fact = Fact
+OutcomeHas (Nothing k h) Fact = Fact
+OutcomeHas (Ran.Refused x p k h) Fact = 31 ≤ x → x ≤ 36 → ⊥
+
+-- Each word of the middle list holds an integer within the ends that the others hold; there are as many of each.
+abbrev pub WordsWithin : (lowest words highest : List ℕ) → Type 0
+WordsWithin lowest words highest = Within (integers-of lowest) (integers-of words) (integers-of highest)
+
+-- `ranged`, which is that ends are given, and the ends stand for what `ranges` answers and leaves, and `answer` and `last` for what `run` does, for
+-- one image; their contracts give them. Whatever else they are called with, from starts within the limits a step is withheld for the budget alone,
+-- and where the run has an outcome each register lies within its ends.
+abbrev pub RunsWithinRanges : Type 0
+RunsWithinRanges =
+    (image lowest highest lent : List ℕ) (ranged : Ranged) (lowest-ends highest-ends lent-left : List ℕ) →
+    RangedAs (ranges-call image lowest highest lent) ranged lowest-ends highest-ends lent-left → ranged ≡ Ends →
+    (registers : List ℕ) → WordsWithin lowest registers highest →
+    (budget : ℕ) (work : List ℕ) (answer : Ran) (last work-left : List ℕ) → RanAs (run-call image registers budget work) answer last work-left →
+    OutcomeHas answer (WordsWithin lowest-ends last highest-ends)

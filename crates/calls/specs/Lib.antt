@@ -1,6 +1,7 @@
 pub mod Answers
 pub mod Claim
 pub mod Delivered
+pub mod DeliveredRanges
 pub mod Runs
 pub mod Sizes
 pub mod Needs

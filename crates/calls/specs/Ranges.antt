@@ -32,11 +32,13 @@ ranges-call image lowest highest work = ranges image (integers-of lowest) (integ
 abbrev pub WordsFit : List ℕ → Type 0
 WordsFit ws = (i : ℕ) → i < length ws → getD ws i 0 < 18446744073709551616
 
--- The answer, both lists as words, and the work words.
+-- The answer, both lists as words, which hold the integers, and the work words.
 pub record RangedAs (c : RangesCalled) (r : Ranged) (lowest highest work : List ℕ) : Type 0 where
   pub answer-is : r ≡ ranges-reply (c .answer)
   pub lowest-are : lowest ≡ words-of (c .lowest)
   pub highest-are : highest ≡ words-of (c .highest)
+  pub lowest-hold : integers-of lowest ≡ c .lowest
+  pub highest-hold : integers-of highest ≡ c .highest
   pub work-is : work ≡ c .work
 
 -- ---- Why a tree is not carried.

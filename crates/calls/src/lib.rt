@@ -109,17 +109,12 @@ pub fn needs(image: &[u32], work: &mut [u64]) -> Estimated
     answer
 }
 
-// By `runs-within-ranges` (Delivered.antt) a run from starts within the limits meets none of 31 to 36, and where it ends its registers lie
+// By `runs-within-ranges` (DeliveredRanges.antt) a run from starts within the limits meets none of 31 to 36, and where it ends its registers lie
 // within the ends.
 // The ranges of the registers: any image words, a lowest and a highest start for each register, words in two's complement, any work words. The
 // ends replace the limits; a refusal keeps both lists. Under 8,192 work words nothing is touched; every other call leaves the first 8,192 of
 // them 0 and the rest as they were.
-pub fn ranges(
-    image: &[u32],
-    lowest: &mut [u64],
-    highest: &mut [u64],
-    work: &mut [u64],
-) -> Ranged
+pub fn ranges(image: &[u32], lowest: &mut [u64], highest: &mut [u64], work: &mut [u64]) -> Ranged
     ensures { λ r. ⌜ RangedAs (ranges-call (now (image .entry)) (now (lowest .entry)) (now (highest .entry)) (now (work .entry))) r (now (lowest .exit)) (now (highest .exit)) (now (work .exit)) ⌝ }
 {
     if work.len() < WORK_WORDS {

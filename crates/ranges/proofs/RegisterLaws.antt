@@ -1,7 +1,7 @@
 -- The registers: whether some limits cross, their names and cells one after the other, and their ends taken from the cells.
 use Prim.Native.Nat.{ℕ, zero, suc, _+_, _-_, _<_, _≤_}
 use mathlib.Core.Path.{_≡_, refl, sym, ap, _∙_, subst}
-use mathlib.Core.Bool.{Bool, true, false, _||_}
+use mathlib.Core.Bool.{Bool, true, false, cond, _||_}
 use mathlib.Core.List.{List, [], _∷_}
 use mathlib.Core.Option.{Option, some}
 use native.Mathlib.Omega.{arith}
@@ -17,6 +17,7 @@ use Rattle.rules.specs.proofs.Basics.{by-order}
 use Rattle.rules.specs.paper.Carried.{Carried}
 use Rattle.rules.specs.paper.Carrying.{CarriedCells, carried-at, register-names, register-cells}
 use Rattle.rules.specs.paper.Ranges.{lowest-of, highest-of, ends-from, limits-cross}
+use Rattle.rules.specs.claims.Claim.{AllInRange}
 use Rattle.integers.specs.Words.{integer-of, word-of, integers-of, words-of}
 use Rattle.integers.specs.WordLaws.{integer-in-range, word-of-integer, integers-at}
 use Rattle.intervals.specs.Values.{numbers-sort, location-sort, HoldsValue, holds-numbers, holds-truths, holds-location}
@@ -223,3 +224,28 @@ all-taken words first-lowest first-highest lowest highest at as-long so done K c
         let held = number-words (sorts i h) (cell-there i (v .0) cells (v .1) .holds) in
         let found : carried-at (0 + i) K ≡ some (v .0) = ap (λ k. carried-at k K) (omega arith) ∙ v .1 in
         (held .0 ∙ sym (ap (λ o. word-of (lowest-of o)) found), held .1 ∙ sym (ap (λ o. word-of (highest-of o)) found))
+
+-- ---- The ends are integers.
+
+value-ranged : {r : Value} {v : Carried} → HoldsValue r v → T (in-range (lowest-of (some v))) × T (in-range (highest-of (some v)))
+value-ranged (holds-numbers s l h a b) = (a, b)
+value-ranged (holds-truths s l h) = (tt, tt)
+value-ranged (holds-location s l h) = (tt, tt)
+
+cell-ranged : {words : List ℕ} {n : ℕ} {K : CarriedCells} → CellsAt words n K → (i : ℕ) → T (in-range (lowest-of (carried-at i K))) × T (in-range (highest-of (carried-at i K)))
+unfolding carried-at
+cell-ranged no-cells i = (tt, tt)
+cell-ranged (one-cell {v = v} {K = K} held older) i = choose (eqb (length K) i) (cell-ranged older i)
+  where
+    choose : (t : Bool) → T (in-range (lowest-of (carried-at i K))) × T (in-range (highest-of (carried-at i K))) →
+        T (in-range (lowest-of (cond t (some v) (carried-at i K)))) × T (in-range (highest-of (cond t (some v) (carried-at i K))))
+    choose true below = value-ranged held
+    choose false below = below
+
+each-ranged : (end : Option Carried → ℤ) (K : CarriedCells) → ((i : ℕ) → T (in-range (end (carried-at i K)))) → (first count : ℕ) → AllInRange (ends-from end first count K)
+unfolding ends-from
+each-ranged end K ranged first zero = tt
+each-ranged end K ranged first (suc count) = (ranged first, each-ranged end K ranged (suc first) count)
+
+pub ends-ranged : {words : List ℕ} {n : ℕ} {K : CarriedCells} → CellsAt words n K → (registers : ℕ) → AllInRange (ends-from lowest-of 0 registers K) × AllInRange (ends-from highest-of 0 registers K)
+ends-ranged {K = K} cells registers = (each-ranged lowest-of K (λ i. cell-ranged cells i .0) 0 registers, each-ranged highest-of K (λ i. cell-ranged cells i .1) 0 registers)

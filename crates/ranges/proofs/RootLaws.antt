@@ -31,6 +31,7 @@ use Rattle.carrying.proofs.FrameLaws.{kept-nodes}
 use Rattle.carrying.proofs.ExpressionLaws.{first-fits, told-value}
 use Rattle.ranges.proofs.OutcomeLaws.{told-through}
 use Rattle.ranges.proofs.CommandLaws.{state-sees}
+use Rattle.ranges.proofs.RegisterLaws.{ends-ranged}
 use Rattle.ranges.proofs.TestLaws.{unsafe-value}
 
 -- ---- The root.
@@ -157,7 +158,9 @@ module _ (words words₁ : List ℕ) (nodes : ℕ) (lowest highest : List ℕ) (
       (ran t (register-names (length lowest)) (register-needs (length lowest)) (register-cells (length lowest) (integers-of lowest) (integers-of highest)) (root-there at enough))
       (λ K same now.
       subst (λ o. CarriedAs o lowest highest lowest′ highest′ Through) (sym same)
-      (let ends = taken K (subst (λ n. CellsAt words₂ n K) held-cells now) sorts in record { went-through = refl; lowest-are = ends .0; highest-are = ends .1 }))
+      (let ends = taken K (subst (λ n. CellsAt words₂ n K) held-cells now) sorts in
+      let ranged = ends-ranged now (length lowest) in
+      record { went-through = refl; lowest-are = ends .0; highest-are = ends .1; lowest-ranged = ranged .0; highest-ranged = ranged .1 }))
       (λ never. subst (λ o. CarriedAs o lowest highest lowest′ highest′ Through) (sym never) tt)
     where
       sorts : (i : ℕ) → i < length lowest → getD words₂ (cell-sorts + i) 0 ≡ numbers-sort

@@ -9,6 +9,7 @@ use Rattle.rules.specs.paper.Needs.{bindings, cells, Needs, register-needs, roo
 use Rattle.rules.specs.paper.Carried.{Carrying, carried, unsafe, unfit}
 use Rattle.rules.specs.paper.Carrying.{CarriedCells, CarriedNames, register-names, register-cells, carry-root, carry-routine}
 use Rattle.rules.specs.paper.Ranges.{lowest-of, highest-of, ends-from}
+use Rattle.rules.specs.claims.Claim.{AllInRange}
 use Rattle.reader.specs.Stored.{RootAt}
 use Rattle.integers.specs.Words.{integers-of, words-of}
 use Rattle.intervals.specs.Values.{numbers-sort}
@@ -71,6 +72,9 @@ pub record EndsGiven (K : CarriedCells) (registers : ℕ) (lowest highest : List
   pub went-through : r ≡ Through
   pub lowest-are : lowest ≡ words-of (ends-from lowest-of 0 registers K)
   pub highest-are : highest ≡ words-of (ends-from highest-of 0 registers K)
+  -- the ends are integers, so that their words hold them
+  pub lowest-ranged : AllInRange (ends-from lowest-of 0 registers K)
+  pub highest-ranged : AllInRange (ends-from highest-of 0 registers K)
 
 pub record ListsKept (p : ℕ) (lowest highest lowest′ highest′ : List ℕ) (r : Outcome) : Type 0 where
   pub is-unsafe : r ≡ Unsafe p
