@@ -135,8 +135,8 @@ extern "C" {
  * out there. What the thread itself and a signal handler take comes on top. The figures are measured
  * with the deepest images (tests/host), not proved, and have 4 KB to spare.
  */
-#define PI_STACK_WORD_FORMS 28672
-#define PI_STACK_RANGES 4194304 /* PI_RANGES_STACK: TO-BE-MEASURED */
+#define PI_STACK_WORD_FORMS 30720
+#define PI_STACK_RANGES 4194304
 #define PI_STACK_BYTE_FORMS 45056
 
 /*
