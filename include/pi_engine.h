@@ -102,10 +102,10 @@ extern "C" {
  * The version of this header and of the library it was delivered with. What the three numbers mean,
  * and what changed in which version, is in CHANGELOG.md. PI_VERSION_NUMBER is for #if.
  */
-#define PI_VERSION_MAJOR 9
-#define PI_VERSION_MINOR 0
+#define PI_VERSION_MAJOR 8
+#define PI_VERSION_MINOR 1
 #define PI_VERSION_PATCH 0
-#define PI_VERSION "9.0.0"
+#define PI_VERSION "8.1.0"
 #define PI_VERSION_NUMBER (PI_VERSION_MAJOR * 10000 + PI_VERSION_MINOR * 100 + PI_VERSION_PATCH)
 
 /* The work words of 64 bits that a call needs. */
@@ -162,12 +162,6 @@ extern "C" {
  * The kinds of nodes: children; operand. Where no operand is named it is 0. A Div gives the largest
  * integer not above the quotient: -7 by 2 and 7 by -2 are -4, -7 by -2 is 3. C's own division drops
  * the fraction, so its quotients are one more where they are below 0 and not exact.
- *
- * An Rbnd declares a function that may call itself: its name is in scope in its own Blk, as a function
- * with its Formals, unless a Formal has that name. It takes the steps of a Bind with an Abs. Each call of
- * its function, from wherever, makes the name one live binding more, beside the Formals, until the call is
- * left. Calls that are not left yet keep their bindings, their cells and their entries of both stacks: a
- * run that goes too deep is refused with 33 to 36, and one that calls too often with 30.
  */
 typedef enum PiKind {
     /* Expressions. */
@@ -198,8 +192,7 @@ typedef enum PiKind {
     /* Declarations. */
     PI_KIND_BIND = 30,   /* expression, Ref or Abs; name */
     PI_KIND_DSEQ = 31,   /* two declarations, the second of which sees the names of the first */
-    PI_KIND_RBND = 32,   /* Abs, whose Blk may call the function that it declares; name */
-    /* Below a Bind or an Rbnd, and below an Abs. */
+    /* Below a Bind, and below an Abs. */
     PI_KIND_REF = 40,    /* expression */
     PI_KIND_ABS = 41,    /* count Formals, then a Blk; count */
     PI_KIND_FORMAL = 42  /* none; PI_OPERAND(name, type code) */
@@ -229,8 +222,8 @@ typedef enum PiCode {
  * The place of 3 to 6, of 10 to 14 and of 44 is a node, by its number in preorder; the root's is 0. It
  * is the node judged; for 5 the node that may not stand there, or n where a node is missing, or the
  * first of the nodes left over; for 12 the DSeq with a name on both sides, or the Formal that
- * repeats one; for 44 the Sum, Sub, Mul or Div. The place of 1, 2, 20 to 43 and 45 is 0 and means no
- * node, so look at the refusal first.
+ * repeats one; for 44 the Sum, Sub, Mul or Div. The place of 1, 2 and 20 to 43 is 0 and means no node,
+ * so look at the refusal first.
  *
  * More exactly: 1 is fewer than 2 words, or a length other than 2 + 2n (in bytes: see below); 6 is
  * depth 65; 14 is no function, or one with another count of Formals; 21 and 22 touch nothing. With 30
@@ -241,8 +234,7 @@ typedef enum PiCode {
  * or for pi_ranges the steps with both commands of every Cond counted, come out above 1,000,000. 41
  * comes from pi_page alone: the image passes, and the lent page is shorter than PI_PAGE_BYTES(n). 42 to
  * 44 come from pi_ranges alone, and so do 33 to 36 where no run is made: a figure of room that pi_needs
- * gives is above its limit, and the lowest number is told. 45 comes from pi_needs and pi_ranges: the image
- * passes, and a node of it is an Rbnd, called or not.
+ * gives is above its limit, and the lowest number is told.
  */
 #define PI_REFUSAL_LIST(ROW) \
     /* Caused by the maker of the image. */ \
@@ -278,10 +270,7 @@ typedef enum PiCode {
     ROW(PI_REFUSAL_CROSSED_LIMITS, 42, "crossed limits", "a lowest start is above its highest") \
     ROW(PI_REFUSAL_LOOP, 43, "loop", "a Loop is in the tree") \
     ROW(PI_REFUSAL_UNSAFE_ARITHMETIC, 44, "unsafe arithmetic", \
-        "an end leaves the integers, or the divisor's range holds 0") \
-    /* Caused by the routine, for the needs and the ranges. */ \
-    ROW(PI_REFUSAL_RECURSION, 45, "recursion", \
-        "an Rbnd is in the tree, so neither needs nor ranges are known")
+        "an end leaves the integers, or the divisor's range holds 0")
 
 #define PI_REFUSAL_ENUMERATOR(enumerator, number, name, sentence) enumerator = number,
 typedef enum PiRefusal {
@@ -403,13 +392,11 @@ PiRunReply pi_run_bytes(const uint8_t *image, size_t image_length,
  * - The figures are reached: each by some choice of the tests' truths. In a tree without Loop and Cond
  *   every run that ends reaches all of them: its high marks are the figures, and so are its steps.
  * - A Loop anywhere in the tree, be it in a function that is never called, leaves the steps open.
- * - With an Rbnd anywhere in the tree, be it one that is never called, there are no figures: how deep a
- *   function calls itself hangs on the run (45).
  *
- * Tested in this order: the work words (22), the image (1 to 14), the Rbnds, of which there are none
- * anywhere in the tree (45), and where no Loop is in the tree the steps (40), of which 1,000,000 are given
- * as a figure and 1,000,001 are refused. An image with no node needs its registers alone: control 0,
- * values 0, cells r, bindings r, steps 0. There is no form of this call on bytes.
+ * Tested in this order: the work words (22), the image (1 to 14), and where no Loop is in the tree the
+ * steps (40), of which 1,000,000 are given as a figure and 1,000,001 are refused. An image with no node
+ * needs its registers alone: control 0, values 0, cells r, bindings r, steps 0. There is no form of this
+ * call on bytes.
  */
 PiNeedsReply pi_needs(const uint32_t *image, size_t image_length,
                       uint64_t *work, size_t work_length);
@@ -435,7 +422,7 @@ PiNeedsReply pi_needs(const uint32_t *image, size_t image_length,
  *        4  3 Num             2    5
  *
  * The names, in the order of PiKind: Num, Boo, Id, Sum, Sub, Mul, Div, Eq, Lt, Le, Gt, Ge, And, Or, Not,
- * DeRef, ValRef; Assign, Loop, CSeq, Blk, Call, Cond; Bind, DSeq, Rbnd; Ref, Abs, Formal.
+ * DeRef, ValRef; Assign, Loop, CSeq, Blk, Call, Cond; Bind, DSeq; Ref, Abs, Formal.
  *
  * The lines are the first PI_PAGE_BYTES(n) bytes of the lent page, which may be longer: what is beyond
  * them is kept, and no 0 is written behind them. A page of PI_PAGE_BYTES(PI_MOST_NODES) bytes is enough
@@ -451,8 +438,8 @@ PiPageReply pi_page(const uint32_t *image, size_t image_length,
 
 /*
  * From a lowest and a highest start for each register gives a lowest and a highest end, from an image of
- * so many 32-bit words without Loop and Rbnd. The two lists have a limit for each register; the ends take
- * the place of the starts. So:
+ * so many 32-bit words without a Loop. The two lists have a limit for each register; the ends take the
+ * place of the starts. So:
  *
  * - A run from registers that start within their limits, both included, is refused with nothing but 30,
  *   whatever its budget up to the greatest; and where it ends, each register is within its ends.
@@ -470,14 +457,13 @@ PiPageReply pi_page(const uint32_t *image, size_t image_length,
  *   then each cell takes the wider ends, or every truth that either command leaves.
  * - A root that is an expression is carried too, and its registers end as they start.
  *
- * Tested in this order: the work words (22), the image (1 to 14), the Rbnds, of which there are none
- * anywhere in the tree (45), the lengths of the two lists, both of which are r (20), the limits, of which
- * no lowest is above its highest (42), the Loops, of which there are none anywhere in the tree (43), the
- * steps with both commands of every Cond counted, of which 1,000,000 pass (40), and the figures of room
- * that pi_needs gives, each within its limit, of which the lowest number is told (33 to 36). Then 44, at
- * the first node in running order where an end leaves the integers or the divisor's range holds 0:
- * operands before their operation, the first before the second, actuals last to first, a Cond's first
- * command before its second; the node may be in a function.
+ * Tested in this order: the work words (22), the image (1 to 14), the lengths of the two lists, both of
+ * which are r (20), the limits, of which no lowest is above its highest (42), the Loops, of which there
+ * are none anywhere in the tree (43), the steps with both commands of every Cond counted, of which
+ * 1,000,000 pass (40), and the figures of room that pi_needs gives, each within its limit, of which the
+ * lowest number is told (33 to 36). Then 44, at the first node in running order where an end leaves the
+ * integers or the divisor's range holds 0: operands before their operation, the first before the second,
+ * actuals last to first, a Cond's first command before its second; the node may be in a function.
  *
  * A refusal keeps both lists. An image with no node keeps them too: its ends are the starts. It takes
  * more stack than the other calls do, PI_STACK_RANGES. There is no form of this call on bytes.

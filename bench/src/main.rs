@@ -29,7 +29,7 @@ The tables:
            the others take; 2 is asked at most of the needs
   calls    nanoseconds a call: checks of the smallest images, with one node and with
            none, the run of a slot with no routine; and to clear the work words
-  run      nanoseconds a step, for nine routines
+  run      nanoseconds a step, for eight routines
   ranges   nanoseconds a step of the run, for five routines without Loop: the run and
            the ranges by the engine alone, and how many times longer the ranges take
 

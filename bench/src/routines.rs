@@ -41,7 +41,6 @@ pub fn timed() -> Vec<Routine> {
         ),
         Routine::new("nested blocks and names", image(2, blocks()), &[0, 40]),
         Routine::new("calls with 8 Formals", image(2, calls()), &[0, 900]),
-        Routine::new("recursion: calls within calls", image(2, recursion()), &[0, 60]),
         Routine::new("locations: ValRef", image(2, locations()), &[0, 1_500]),
         Routine::new("straight line: 2,000 nodes", encode(&with_nodes(MOST_NODES as usize)), &[0]),
     ]
@@ -109,16 +108,6 @@ fn calls() -> Command {
     let pass = block(bind(30, total([20, 21, 22, 23])), call(10, (24..28).map(id).collect()));
     let outer = call(11, (0..8).map(num).collect());
     blk(bind_abs(10, &four, add), blk(bind_abs(11, &eight, pass), rounds(1, outer)))
-}
-
-/// In each round a function counts 40 down to 0 by calls of itself, each with a cell, in the
-/// place of a loop: 41 calls, the one within the other.
-fn recursion() -> Command {
-    const CALLS: u32 = 40;
-    let again = call(10, vec![id(21)]);
-    let choice = cond(gt(id(20), num(0)), again, assign(0, sum(id(0), num(1))));
-    let function = rbnd(10, &[(20, 0)], block(bind_ref(21, sub(id(20), num(1))), choice));
-    blk(function, rounds(1, call(10, vec![num(CALLS)])))
 }
 
 /// In each round cells are read through cells that hold their locations, and

@@ -357,7 +357,6 @@ void test_bytes(size_t count, uint64_t seed)
 {
     test_calls_in_bytes("the paper's cases in bytes", paper_calls(), paper_call);
     test_calls_in_bytes("Conds in bytes", choice_calls(), choice_call);
-    test_calls_in_bytes("functions that call themselves in bytes", recursion_calls(), recursion_call);
     test_calls_in_bytes("quotients in bytes", division_calls(), division_call);
     test_calls_in_bytes("high marks in bytes", marks_calls(), marks_call);
     test_byte_lengths();

@@ -48,7 +48,7 @@ void registers_settled(const Buffer *registers, uint64_t refusal)
 }
 
 /* By the refusal's number, of which this is the last. */
-#define LAST PI_REFUSAL_RECURSION
+#define LAST PI_REFUSAL_UNSAFE_ARITHMETIC
 static size_t answered[LAST + 1];
 
 size_t times_answered(PiRefusal refusal)

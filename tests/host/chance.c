@@ -16,8 +16,8 @@ static const uint32_t kinds[] = {
     PI_KIND_NUM, PI_KIND_BOO, PI_KIND_ID, PI_KIND_SUM, PI_KIND_SUB, PI_KIND_MUL, PI_KIND_DIV,
     PI_KIND_EQ, PI_KIND_LT, PI_KIND_LE, PI_KIND_GT, PI_KIND_GE, PI_KIND_AND, PI_KIND_OR,
     PI_KIND_NOT, PI_KIND_DEREF, PI_KIND_VALREF, PI_KIND_ASSIGN, PI_KIND_LOOP, PI_KIND_CSEQ,
-    PI_KIND_BLK, PI_KIND_CALL, PI_KIND_COND, PI_KIND_BIND, PI_KIND_DSEQ, PI_KIND_RBND,
-    PI_KIND_REF, PI_KIND_ABS, PI_KIND_FORMAL,
+    PI_KIND_BLK, PI_KIND_CALL, PI_KIND_COND, PI_KIND_BIND, PI_KIND_DSEQ, PI_KIND_REF,
+    PI_KIND_ABS, PI_KIND_FORMAL,
 };
 
 static uint32_t image[IMAGE_ROOM];
@@ -69,7 +69,7 @@ static size_t passing(Random *random)
     return tree_image(&tree, image);
 }
 
-/* A sound image: one of the paper's, one by chance, a function that calls itself, or a high tower. */
+/* A sound image: one of the paper's, one by chance, or a high tower. */
 static size_t sound_image(Random *random)
 {
     static const Tower towers[] = {
@@ -82,10 +82,8 @@ static size_t sound_image(Random *random)
         tree_of_tower(&tree, &towers[random_below(random, COUNT(towers))]);
         return tree_image(&tree, image);
     }
-    if (choice < 8)
+    if (choice < 10)
         return paper_call(random_below(random, paper_calls()), image).image_length;
-    if (choice < 11)
-        return recursion_call(random_below(random, recursion_calls()), image).image_length;
     return passing(random);
 }
 

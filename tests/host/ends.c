@@ -63,11 +63,6 @@ static void refused_as_it_must_be(const Call *call, const PiRangesReply *reply)
                        checked.refusal, checked.place, reply->refusal, reply->place);
         return;
     }
-    if (has_kind(call, PI_KIND_RBND)) {
-        if (reply->refusal != PI_REFUSAL_RECURSION)
-            test_fault("an Rbnd is in the tree, and ranges answers %" PRIu64, reply->refusal);
-        return;
-    }
     if (call->registers_length != call->image[1]) {
         if (reply->refusal != PI_REFUSAL_REGISTERS)
             test_fault("%lu limits for %lu registers, and ranges answers %" PRIu64,

@@ -99,14 +99,11 @@ void fits_the_needs(const Call *call, const Ran *ran)
     Call other = *call;
     PiNeedsReply again;
     Ran in_budget;
-    int passes = checked.refusal == PI_REFUSAL_NONE;
     int are_too_many = needs.refusal == PI_REFUSAL_TOO_MANY_STEPS;
-    uint64_t expected = checked.refusal;
 
-    if (passes && has_kind(call, PI_KIND_RBND))
-        expected = PI_REFUSAL_RECURSION;
-    if (needs.refusal != expected && !(are_too_many && expected == PI_REFUSAL_NONE))
-        test_fault("needs are refused with %" PRIu64 " in place of %" PRIu64, needs.refusal, expected);
+    if (needs.refusal != checked.refusal && !(are_too_many && checked.refusal == PI_REFUSAL_NONE))
+        test_fault("check answers refusal %" PRIu64 " and needs %" PRIu64, checked.refusal,
+                   needs.refusal);
     if (needs.place != checked.place)
         test_fault("check answers place %" PRIu64 " and needs %" PRIu64, checked.place,
                    needs.place);
@@ -115,7 +112,7 @@ void fits_the_needs(const Call *call, const Ran *ran)
     other.work_length += 5;
     again = call_needs(&other);
     same_needs("other work words", &needs, &again);
-    if (expected != PI_REFUSAL_NONE || before_the_run(ran->reply.refusal))
+    if (checked.refusal != PI_REFUSAL_NONE || before_the_run(ran->reply.refusal))
         return;
     fits_a_run(call, &needs, &ran->reply);
     if (needs.open || are_too_many)

@@ -20,9 +20,9 @@ int has_kind(const Call *call, uint32_t kind);
 
 /*
  * Works out the needs with the call's work words, and notes where they do not fit: the check of the
- * image, whose refusals come before 45 and 40; 45 just where an Rbnd is in the tree; other work words; and
- * runs, this one and one with a budget of the steps: none has a high mark or steps above a figure, and in a
- * tree without Loop and Cond those of one that ends are the figures.
+ * image, whose refusals come before 40; other work words; and runs, this one and one with a budget of
+ * the steps: none has a high mark or steps above a figure, and in a tree without Loop and Cond those of
+ * one that ends are the figures.
  */
 void fits_the_needs(const Call *call, const Ran *ran);
 

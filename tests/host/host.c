@@ -45,9 +45,6 @@ int main(int count, char **arguments)
     test_refusals();
     test_no_routine();
     test_choice();
-    test_recursion();
-    test_recursion_faults();
-    test_recursion_limits();
     test_division();
     test_marks();
     test_marks_refused();
@@ -57,7 +54,6 @@ int main(int count, char **arguments)
     test_page_lengths();
     test_ranges();
     test_ranges_refused();
-    test_recursion_unknown();
     test_names();
     test_chance((size_t)images, seed);
     test_needed_room((size_t)images, seed);

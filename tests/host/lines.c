@@ -25,9 +25,8 @@ static const Kind kinds[] = {
     [PI_KIND_LOOP] = {"Loop", 2},     [PI_KIND_CSEQ] = {"CSeq", 2},
     [PI_KIND_BLK] = {"Blk", 2},       [PI_KIND_CALL] = {"Call", 0},
     [PI_KIND_COND] = {"Cond", 3},     [PI_KIND_BIND] = {"Bind", 1},
-    [PI_KIND_DSEQ] = {"DSeq", 2},     [PI_KIND_RBND] = {"Rbnd", 1},
-    [PI_KIND_REF] = {"Ref", 1},       [PI_KIND_ABS] = {"Abs", 1},
-    [PI_KIND_FORMAL] = {"Formal", 0},
+    [PI_KIND_DSEQ] = {"DSeq", 2},     [PI_KIND_REF] = {"Ref", 1},
+    [PI_KIND_ABS] = {"Abs", 1},       [PI_KIND_FORMAL] = {"Formal", 0},
 };
 
 static uint32_t children_of(uint32_t kind, uint32_t operand)

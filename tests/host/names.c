@@ -28,7 +28,7 @@ static const Row rows[] = {PI_REFUSAL_LIST(ROW)};
 /* The paper's list, and those of the needs, of the page and of the ranges. */
 static const int numbers[] = {
     1, 2, 3, 4, 5, 6, 10, 11, 12, 13, 14, 20, 21, 22, 30, 31, 32, 33, 34, 35, 36, 40, 41,
-    42, 43, 44, 45,
+    42, 43, 44,
 };
 
 /* Whether the enumerator is the name in capital letters, with underscores for blanks. */

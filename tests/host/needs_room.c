@@ -88,13 +88,12 @@ static int is_free_of(const Tree *tree, uint32_t kind)
     return 1;
 }
 
-/* A command over one register, with Loops and Conds or without; with an Rbnd there are no needs. */
+/* A command over one register, with Loops and Conds or without. */
 static void command_by_chance(Tree *tree, Random *random, int plain)
 {
     do
         tree_by_chance(tree, random);
     while (tree->registers != 1 || !is_command(tree) || tree->count > 300 ||
-           !is_free_of(tree, PI_KIND_RBND) ||
            (plain && !(is_free_of(tree, PI_KIND_LOOP) && is_free_of(tree, PI_KIND_COND))));
 }
 

@@ -79,20 +79,6 @@ static const Written written[] = {
      "   9  6 Num            10   10\n"
      "  10  2 Assign          0   12\n"
      "  11  3 Num    4294967295   12\n"},
-    {"page of an Rbnd",
-     NODES(BLK, {PI_KIND_RBND, 63}, {PI_KIND_ABS, 1}, FORMAL(62, 0), BLK, {PI_KIND_BIND, 61}, NUM(9),
-           {PI_KIND_CALL, PI_OPERAND(63, 1)}, {PI_KIND_ID, 61}, SET(10)),
-     "   0  1 Blk             0   11\n"
-     "   1  2 Rbnd           63    9\n"
-     "   2  3 Abs             1    9\n"
-     "   3  4 Formal         62    4\n"
-     "   4  4 Blk             0    9\n"
-     "   5  5 Bind           61    7\n"
-     "   6  6 Num             9    7\n"
-     "   7  5 Call          127    9\n"
-     "   8  6 Id             61    9\n"
-     "   9  2 Assign          0   11\n"
-     "  10  3 Num            10   11\n"},
     {"page of eight actuals",
      NODES(BLK, {PI_KIND_BIND, 63}, {PI_KIND_ABS, 8}, FORMAL(1, 0), FORMAL(2, 0), FORMAL(3, 0),
            FORMAL(4, 0), FORMAL(5, 0), FORMAL(6, 0), FORMAL(7, 0), FORMAL(8, 0), BLK,

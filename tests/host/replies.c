@@ -81,7 +81,7 @@ void needs_make_sense(const PiNeedsReply *reply, const Call *call)
     else
         fits = is_refusal(refusal) && is_no_figure(reply) && reply->place < places(refusal, call) &&
                (refusal <= PI_REFUSAL_CALL || refusal == PI_REFUSAL_WORK ||
-                refusal == PI_REFUSAL_TOO_MANY_STEPS || refusal == PI_REFUSAL_RECURSION);
+                refusal == PI_REFUSAL_TOO_MANY_STEPS);
     if (!fits)
         test_fault("needs answers what makes no sense: " NEEDS_FORMAT, NEEDS_ARGUMENTS(reply));
 }
@@ -100,7 +100,6 @@ static int is_refusal_of_ranges(uint64_t refusal)
     case PI_REFUSAL_CROSSED_LIMITS:
     case PI_REFUSAL_LOOP:
     case PI_REFUSAL_UNSAFE_ARITHMETIC:
-    case PI_REFUSAL_RECURSION:
         return 1;
     default:
         return is_refusal(refusal) && refusal <= PI_REFUSAL_CALL;
@@ -166,8 +165,8 @@ static int is_near_its_limit(const PiRunReply *reply)
     switch (reply->refusal) {
     case PI_REFUSAL_CELLS: /* a step makes one cell at most */
         return reply->cells == PI_MOST_CELLS;
-    case PI_REFUSAL_BINDINGS: /* a call binds its Formals at once, and the name of an Rbnd */
-        return reply->bindings + PI_MOST_COUNT + 1 > PI_MOST_BINDINGS;
+    case PI_REFUSAL_BINDINGS: /* a call binds its Formals at once */
+        return reply->bindings + PI_MOST_COUNT > PI_MOST_BINDINGS;
     case PI_REFUSAL_VALUES: /* only a call's mark adds two, to an even count: two a block or call */
         return reply->values == PI_MOST_VALUES;
     case PI_REFUSAL_CONTROL: /* a Call puts its actuals and its mark in its own place */

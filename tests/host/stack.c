@@ -101,29 +101,6 @@ static void deep_functions(Tree *tree)
     ADD(21, SET);
 }
 
-/* The same with Rbnds; and with Rbnds of 8 Formals. */
-static void deep_recursions(Tree *tree)
-{
-    tree_clear(tree, 1);
-    ADD(20, {PI_KIND_BLK, 0}, {PI_KIND_RBND, 1}, {PI_KIND_ABS, 0});
-    ADD(1, {PI_KIND_BLK, 0}, NUMBER);
-    ADD(21, SET);
-}
-
-static void deep_recursions_with_formals(Tree *tree)
-{
-    uint32_t level, formal;
-
-    tree_clear(tree, 1);
-    for (level = 0; level < 20; level += 1) {
-        ADD(1, {PI_KIND_BLK, 0}, {PI_KIND_RBND, 1}, {PI_KIND_ABS, PI_MOST_COUNT});
-        for (formal = 0; formal < PI_MOST_COUNT; formal += 1)
-            tree_add(tree, PI_KIND_FORMAL, PI_OPERAND(3 + formal, PI_CODE_INTEGER));
-    }
-    ADD(1, {PI_KIND_BLK, 0}, NUMBER);
-    ADD(21, SET);
-}
-
 /* Loops below Loops to depth 62, and CSeqs below CSeqs in the first command, and two levels below. */
 static void deep_loops(Tree *tree)
 {
@@ -206,8 +183,7 @@ static void deep_expressions(Tree *tree)
 void test_stack(void)
 {
     static void (*const shapes[])(Tree *) = {
-        deep_commands, deep_functions, deep_recursions, deep_recursions_with_formals, deep_loops,
-        deep_sequences, deep_calls,
+        deep_commands, deep_functions, deep_loops, deep_sequences, deep_calls,
         deep_second_choices, deep_first_choices, deep_second_declarations, deep_first_declarations,
         deep_expressions,
     };

@@ -23,16 +23,6 @@ void test_choice(void);
 size_t choice_calls(void);
 Call choice_call(size_t index, uint32_t *image);
 
-/* Functions that call themselves; and their calls, for other tests. */
-void test_recursion(void);
-size_t recursion_calls(void);
-Call recursion_call(size_t index, uint32_t *image);
-
-/* What the checker says no with there, the limits that they meet, and that no needs and ranges are known. */
-void test_recursion_faults(void);
-void test_recursion_limits(void);
-void test_recursion_unknown(void);
-
 /* Quotients of all signs; and their calls, for other tests. */
 void test_division(void);
 size_t division_calls(void);

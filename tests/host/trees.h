@@ -60,26 +60,6 @@ typedef struct Tower {
 
 void tree_of_tower(Tree *tree, const Tower *tower);
 
-/*
- * A function that calls itself: each call binds so many names in its Blk, and so many Formals; while its
- * counter, a register, is above 0, it makes that one less and calls itself from below so many CSeqs.
- */
-typedef struct Recursion {
-    size_t names;
-    int cells; /* the names are bound to new cells, or to numbers */
-    size_t formals;
-    size_t sequences;
-} Recursion;
-
-/*
- * One register, which counts the calls within the first; the innermost sets it to 7. Or two, each with a
- * function: the second function counts register 1 down, and its innermost call calls the first, which
- * counts register 0 down and sets it to 7 at last. The second is called from below so many CSeqs.
- */
-void tree_of_recursion(Tree *tree, const Recursion *recursion);
-void tree_of_two_recursions(Tree *tree, const Recursion *first, const Recursion *second,
-                            size_t sequences);
-
 /* A tree that passes: commands over the registers, cells and functions, an expression, or no node. */
 void tree_by_chance(Tree *tree, Random *random);
 

@@ -1,4 +1,4 @@
--- The needs alone: 22 first, then the image, then 45, then 40; and the figures of the tree that was loaded.
+-- The needs alone: 22 first, then the image, then 40; and the figures of the tree that was loaded.
 use Prim.Native.Nat.{ℕ, ◌<◌, ◌≤◌}
 use mathlib.Core.Path.{◌≡◌, refl, sym, ap, ◌∙◌}
 use mathlib.Core.Bool.{true, false}
@@ -11,7 +11,7 @@ use Rattle.rules.specs.paper.Refusals.{refusal_number}
 use Rattle.rules.specs.paper.Limits.{most_registers, most_steps, work_words}
 use Rattle.rules.specs.paper.Tree.{Root}
 use Rattle.rules.specs.paper.Needs.{control, values, cells, bindings, routine_need}
-use Rattle.rules.specs.paper.Engine.{check_image, cleared, figures_of, tree_needs, needs_answer, needs}
+use Rattle.rules.specs.paper.Engine.{check_image, cleared, figures_of, needs_answer, needs}
 use Rattle.rules.specs.proofs.checking.ImageExact.{check_exact}
 use Rattle.rules.specs.proofs.needs.RoomBounds.{figures_small}
 use Rattle.reader.specs.Put.{KeptBeyond}
@@ -19,14 +19,14 @@ use Rattle.reader.specs.Stored.{RootAt}
 use Rattle.reader.specs.StoredLaws.{same_root}
 use Rattle.estimator.specs.Figures.{stopped}
 use Rattle.estimator.specs.Entries.{WritesEntriesFrom}
-use Rattle.estimator.specs.Answers.{RoutineNeeds, LoopFound, RecursionFound}
+use Rattle.estimator.specs.Answers.{RoutineNeeds, LoopFound}
 use Rattle.estimator.specs.declared.figures.Need.{Need}
 use Rattle.estimator.proofs.EntryLaws.{entries_nodes}
 use Rattle.loader.specs.Answers.{LoadAnswer}
 use Rattle.loader.specs.declared.Loaded.{Loaded}
 use Rattle.loader.specs.declared.Loaded.TheVariants as Load
 use Rattle.loader.proofs.LoadLaws.{drop_same}
-use Rattle.calls.specs.Needs.{needs_reply, SmallRoom, SmallTree, EstimatedAs, NeededAs}
+use Rattle.calls.specs.Needs.{needs_reply, SmallRoom, SmallTree, EstimatedAs}
 use Rattle.calls.specs.declared.Estimated.{Estimated}
 use Rattle.calls.specs.declared.Estimated.TheVariants.{Figures, Open, Refused}
 use Rattle.calls.proofs.CheckLaws.{cleared_same}
@@ -91,20 +91,6 @@ module _ (words words' : List ℕ) (registers nodes : ℕ) (need : Need) (routin
         given_steps : need.steps ≡ (routine_need registers t).steps
         given_steps = omega (arith, l, is_steps t at small)
 
--- ---- The needs of a tree.
-
-module _ (words : List ℕ) (registers nodes : ℕ) where
-  pub recursion_refused : RecursionFound words nodes true → NeededAs words registers nodes (Refused 45 0)
-  unfolding tree_needs refusal_number
-  recursion_refused recursive t at small = rw (sym (recursive t at)) refl
-
-  pub needs_answered : RecursionFound words nodes false → (r : Estimated) → EstimatedAs words registers nodes r → NeededAs words registers nodes r
-  unfolding tree_needs
-  needs_answered plain r figured t at small = rw (sym (plain t at)) (figured t at small)
-
-pub none_touched : (work : List ℕ) → KeptBeyond work_words work work
-none_touched work = record { same_length = refl; same_beyond = refl }
-
 -- ---- An image.
 
 module _ (image before after : List ℕ) (e : Loaded) (loaded : LoadAnswer (check_image image) e before after) where
@@ -118,7 +104,7 @@ module _ (image before after : List ℕ) (e : Loaded) (loaded : LoadAnswer (chec
     pub tree_loaded : (count ≤ most_registers) × SmallTree after count nodes
     tree_loaded = (((check_exact image count image_passes.tree image_passes.root_is).0 image_passes.passes).shape.registers, (image_passes.tree, image_passes.stands, small))
 
-    pub passed_answered : (r : Estimated) → NeededAs after count nodes r → r ≡ needs_reply (needs_answer (check_image image))
+    pub passed_answered : (r : Estimated) → EstimatedAs after count nodes r → r ≡ needs_reply (needs_answer (check_image image))
     passed_answered r done = done image_passes.tree image_passes.stands small ∙ sym (ap (λ c. needs_reply (needs_answer c)) image_passes.passes)
 
   pub refusal_answered : (x p : ℕ) → e ≡ Load.Refused x p → Refused x p ≡ needs_reply (needs_answer (check_image image))

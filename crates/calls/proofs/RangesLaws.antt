@@ -1,4 +1,4 @@
--- The ranges: 22 first, then the image, 45, 20 for either list, 42, 43, 40, 33 to 36, and 44; a refusal keeps both lists.
+-- The ranges: 22 first, then the image, 20 for either list, 42, 43, 40, 33 to 36, and 44; a refusal keeps both lists.
 use Prim.Native.Nat.{ℕ, ◌<◌, ◌≤◌}
 use mathlib.Core.Path.{◌≡◌, refl, sym, ap, ◌∙◌, subst}
 use mathlib.Core.Bool.{Bool, true, false, cond}
@@ -9,16 +9,16 @@ use borrow.Author.Tests.{le-ltb, lt-ltb, ltb-false, eq-eqb, ne_eqb}
 use lib.Dec.{ltb}
 use lib.IntN.{ℤ}
 use lib.ListN.{length}
-use Rattle.rules.specs.paper.Limits.{most_nodes, most_registers, most_steps, most_cells, most_bindings, most_value_entries, most_control_entries, work_words}
+use Rattle.rules.specs.paper.Limits.{most_registers, most_steps, most_cells, most_bindings, most_value_entries, most_control_entries, work_words}
 use Rattle.rules.specs.paper.Refusals.{Reason, Steps, ZeroDivisor, OutOfRange, Cells, Bindings, ValueEntries, ControlEntries, Refusal, TooManySteps, HasLoop, reason_number, refusal_number}
 use Rattle.rules.specs.paper.Refusals as Refusals
 use Rattle.rules.specs.paper.Tree.{Root}
 use Rattle.rules.specs.paper.Checker.{Passed}
-use Rattle.rules.specs.paper.Needs.{Sizes, control, values, cells, bindings, routine_need, has_loop, has_recursion}
+use Rattle.rules.specs.paper.Needs.{Sizes, control, values, cells, bindings, routine_need, has_loop}
 use Rattle.rules.specs.paper.Engine.{check_image, passed, cleared}
 use Rattle.rules.specs.paper.Carried.{Carrying, carried, unsafe, unfit}
 use Rattle.rules.specs.paper.Carrying.{CarriedCells, carry_routine}
-use Rattle.rules.specs.paper.Ranges.{RangesCalled, no_ranges, carried_ranges, limits_cross, room_refusal, with_room, ranges_of, tree_ranges, ranges_checked, ranges}
+use Rattle.rules.specs.paper.Ranges.{RangesCalled, no_ranges, carried_ranges, limits_cross, room_refusal, with_room, ranges_of, ranges_checked, ranges}
 use Rattle.rules.specs.proofs.Basics.{missing}
 use Rattle.rules.specs.proofs.needs.RoomBounds.{figures_small}
 use Rattle.rules.specs.proofs.checking.ImageExact.{check_exact}
@@ -27,11 +27,10 @@ use Rattle.integers.specs.Words.{integers_of}
 use Rattle.integers.specs.WordLaws.{integers_length, words_back}
 use Rattle.reader.specs.Put.{KeptBeyond}
 use Rattle.reader.specs.Stored.{RootAt}
-use Rattle.reader.specs.StandingLaws.{nodes_low}
 use Rattle.reader.specs.StoredLaws.{same_root}
 use Rattle.estimator.specs.Figures.{stopped}
 use Rattle.estimator.specs.Entries.{WritesEntriesFrom}
-use Rattle.estimator.specs.Answers.{RoutineNeeds, LoopFound, RecursionFound}
+use Rattle.estimator.specs.Answers.{RoutineNeeds, LoopFound}
 use Rattle.estimator.specs.declared.figures.Need.{Need}
 use Rattle.estimator.proofs.EntryLaws.{entries_nodes}
 use Rattle.carrying.specs.Frames.{Keeps}
@@ -45,7 +44,7 @@ use Rattle.loader.proofs.LoadLaws.{drop_same}
 use Rattle.calls.specs.Needs.{SmallRoom, SmallTree}
 use Rattle.calls.specs.DeliveredRanges.{integers_back}
 use Rattle.calls.specs.Runs.{TreeStands}
-use Rattle.calls.specs.Ranges.{WordsFit, ranges_call, RangedAs, told, room_refused, room_of, tree_refusal, TreeRefused, StraightTree, TreeRanged, TreeAnswered, ImageRanged}
+use Rattle.calls.specs.Ranges.{WordsFit, ranges_call, RangedAs, told, room_refused, room_of, tree_refusal, TreeRefused, TreeRanged, ImageRanged}
 use Rattle.calls.specs.declared.Ranged.{Ranged}
 use Rattle.calls.specs.declared.Ranged.TheVariants.{Ends, Refused}
 use Rattle.calls.proofs.CheckLaws.{cleared_same}
@@ -193,7 +192,7 @@ module _ (lowest highest : List ℕ) (low : WordsFit lowest) (high : WordsFit hi
   module _ (words : List ℕ) (registers nodes : ℕ) where
     pub too_few_lowest : (length lowest ≡ registers → ⊥) → TreeRanged registers words nodes lowest highest (Refused 20 0) lowest highest
     unfolding refusal_number
-    too_few_lowest d image t a passes at plain work =
+    too_few_lowest d image t a passes at work =
         subst (λ c. RangedAs c (Refused 20 0) lowest highest work)
         (sym (lowest_refused registers t (integers_of lowest) (integers_of highest) work (λ q. d (sym (integers_length lowest) ∙ q)))) (both_kept Refusals.Registers 20 0 work refl)
 
@@ -203,20 +202,20 @@ module _ (lowest highest : List ℕ) (low : WordsFit lowest) (high : WordsFit hi
 
       pub too_few_highest : (length highest ≡ registers → ⊥) → TreeRanged registers words nodes lowest highest (Refused 20 0) lowest highest
       unfolding refusal_number
-      too_few_highest d image t a passes at plain work =
+      too_few_highest d image t a passes at work =
           subst (λ c. RangedAs c (Refused 20 0) lowest highest work)
           (sym (highest_refused registers t (integers_of lowest) (integers_of highest) work many_integers (λ q. d (sym (integers_length highest) ∙ q)))) (both_kept Refusals.Registers 20 0 work refl)
 
       pub limits_refused : length highest ≡ registers → true ≡ limits_cross (integers_of lowest) (integers_of highest) → TreeRanged registers words nodes lowest highest (Refused 42 0) lowest highest
       unfolding refusal_number
-      limits_refused many_high q image t a passes at plain work =
+      limits_refused many_high q image t a passes at work =
           subst (λ c. RangedAs c (Refused 42 0) lowest highest work)
           (sym (crossed_refused registers t (integers_of lowest) (integers_of highest) work many_integers (integers_length highest ∙ many_high) (sym q))) (both_kept Refusals.CrossedLimits 42 0 work refl)
 
   -- ---- The tree over limits that do not cross.
 
   module _ (words : List ℕ) (nodes : ℕ) (as_many : length highest ≡ length lowest) (ordered : limits_cross (integers_of lowest) (integers_of highest) ≡ false) where
-    module _ (image : List ℕ) (t : Root) (a : Passed) (passes : check_image image ≡ passed (length lowest) t a) (plain : has_recursion t ≡ false) where
+    module _ (image : List ℕ) (t : Root) (a : Passed) (passes : check_image image ≡ passed (length lowest) t a) where
       small : SmallRoom (length lowest) t
       small = figures_small image (length lowest) t a passes
 
@@ -233,7 +232,7 @@ module _ (lowest highest : List ℕ) (low : WordsFit lowest) (high : WordsFit hi
         enough = let left = room_left (routine_need (length lowest) t).most untested.2 in record { few_bindings = left.0; few_cells = left.1 }
 
         fits : carry_routine (length lowest) t (integers_of lowest) (integers_of highest) ≡ unfit → ⊥
-        fits = carrying_fits image (length lowest) t a passes untested.0 plain (integers_of lowest) (integers_of highest) (integers_length lowest) (integers_length highest ∙ as_many) ordered
+        fits = carrying_fits image (length lowest) t a passes untested.0 (integers_of lowest) (integers_of highest) (integers_length lowest) (integers_length highest ∙ as_many) ordered
 
         is_carried : (work : List ℕ) →
             ranges_of (length lowest) t (integers_of lowest) (integers_of highest) work
@@ -246,8 +245,8 @@ module _ (lowest highest : List ℕ) (low : WordsFit lowest) (high : WordsFit hi
             none_told loop many room q = rw (q.0, q.1, q.2) refl
 
     pub tree_refused : (n : ℕ) → TreeRefused words (length lowest) nodes n → (n ≡ 0 → ⊥) → TreeRanged (length lowest) words nodes lowest highest (Refused n 0) lowest highest
-    tree_refused n refusal d image t a passes at plain work =
-        subst (λ c. RangedAs c (Refused n 0) lowest highest work) (sym (is_unless image t a passes plain work)) (by _ (tree_refusal (length lowest) t) (refusal t at (small image t a passes plain)))
+    tree_refused n refusal d image t a passes at work =
+        subst (λ c. RangedAs c (Refused n 0) lowest highest work) (sym (is_unless image t a passes work)) (by _ (tree_refusal (length lowest) t) (refusal t at (small image t a passes)))
       where
         by : (c : RangesCalled) (o : Option Refusal) → n ≡ told o → RangedAs (unless o c (integers_of lowest) (integers_of highest) work) (Refused n 0) lowest highest work
         by c none q = absurd (d q)
@@ -259,15 +258,15 @@ module _ (lowest highest : List ℕ) (low : WordsFit lowest) (high : WordsFit hi
       moved : (t : Root) → RootAt words nodes t → RootAt words' nodes t
       moved t at = record { depth = at.depth; depth_low = at.depth_low; stored = same_root words words' (entries_nodes kept) at.stored }
 
-      pub routine_there : StraightTree (length lowest) words nodes → SomeRoutine words' nodes lowest highest
+      pub routine_there : TreeStands (length lowest) words nodes → SomeRoutine words' nodes lowest highest
       routine_there s =
-          (s.1, moved s.1 s.4, enough s.0 s.1 s.2 s.3 s.5 s.4 nothing_told, fits s.0 s.1 s.2 s.3 s.5 s.4 nothing_told)
+          (s.1, moved s.1 s.4, enough s.0 s.1 s.2 s.3 s.4 nothing_told, fits s.0 s.1 s.2 s.3 s.4 nothing_told)
 
       module _ (lowest' highest' : List ℕ) (r : Outcome) (done : RoutineCarried words' nodes lowest highest lowest' highest' r) where
         pub ends_answered : r ≡ Through → TreeRanged (length lowest) words nodes lowest highest Ends lowest' highest'
-        ends_answered q image t a passes at plain work =
-            subst (λ c. RangedAs c Ends lowest' highest' work) (sym (is_carried image t a passes plain at nothing_told work))
-            (by (carry_routine (length lowest) t (integers_of lowest) (integers_of highest)) (fits image t a passes plain at nothing_told) (done t (moved t at) (enough image t a passes plain at nothing_told)))
+        ends_answered q image t a passes at work =
+            subst (λ c. RangedAs c Ends lowest' highest' work) (sym (is_carried image t a passes at nothing_told work))
+            (by (carry_routine (length lowest) t (integers_of lowest) (integers_of highest)) (fits image t a passes at nothing_told) (done t (moved t at) (enough image t a passes at nothing_told)))
           where
             by : (c : Carrying CarriedCells) → (c ≡ unfit → ⊥) → CarriedAs c lowest highest lowest' highest' r →
                 RangedAs (carried_ranges (length lowest) c (integers_of lowest) (integers_of highest) work) Ends lowest' highest' work
@@ -285,9 +284,9 @@ module _ (lowest highest : List ℕ) (low : WordsFit lowest) (high : WordsFit hi
 
         pub unsafe_answered : (p : ℕ) → r ≡ Unsafe p → TreeRanged (length lowest) words nodes lowest highest (Refused 44 p) lowest' highest'
         unfolding refusal_number
-        unsafe_answered p q image t a passes at plain work =
-            subst (λ c. RangedAs c (Refused 44 p) lowest' highest' work) (sym (is_carried image t a passes plain at nothing_told work))
-            (by (carry_routine (length lowest) t (integers_of lowest) (integers_of highest)) (fits image t a passes plain at nothing_told) (done t (moved t at) (enough image t a passes plain at nothing_told)))
+        unsafe_answered p q image t a passes at work =
+            subst (λ c. RangedAs c (Refused 44 p) lowest' highest' work) (sym (is_carried image t a passes at nothing_told work))
+            (by (carry_routine (length lowest) t (integers_of lowest) (integers_of highest)) (fits image t a passes at nothing_told) (done t (moved t at) (enough image t a passes at nothing_told)))
           where
             by : (c : Carrying CarriedCells) → (c ≡ unfit → ⊥) → CarriedAs c lowest highest lowest' highest' r →
                 RangedAs (carried_ranges (length lowest) c (integers_of lowest) (integers_of highest) work) (Refused 44 p) lowest' highest' work
@@ -303,22 +302,10 @@ module _ (lowest highest : List ℕ) (low : WordsFit lowest) (high : WordsFit hi
                 }
             by unfit fit lists = absurd (fit refl)
 
-  -- ---- A tree with an Rbnd, or without one.
-
-  module _ (words : List ℕ) (registers nodes : ℕ) where
-    pub recursion_refused : RecursionFound words nodes true → TreeAnswered registers words nodes lowest highest (Refused 45 0) lowest highest
-    unfolding tree_ranges refusal_number
-    recursion_refused recursive image t a passes at work = rw (sym (recursive t at)) (both_kept Refusals.HasRecursion 45 0 work refl)
-
-    pub ranges_answered : RecursionFound words nodes false → (r : Ranged) (lowest' highest' : List ℕ) → TreeRanged registers words nodes lowest highest r lowest' highest' →
-        TreeAnswered registers words nodes lowest highest r lowest' highest'
-    unfolding tree_ranges
-    ranges_answered plain r lowest' highest' done image t a passes at work = rw (sym (plain t at)) (done image t a passes at (sym (plain t at)) work)
-
   -- ---- An image.
 
   module _ (image before after : List ℕ) (e : Loaded) (loaded : LoadAnswer (check_image image) e before after) where
-    pub passed_ranged : (number count nodes : ℕ) → e ≡ Load.Passed number count nodes → (r : Ranged) (lowest' highest' : List ℕ) → TreeAnswered count after nodes lowest highest r lowest' highest' →
+    pub passed_ranged : (number count nodes : ℕ) → e ≡ Load.Passed number count nodes → (r : Ranged) (lowest' highest' : List ℕ) → TreeRanged count after nodes lowest highest r lowest' highest' →
         ImageRanged (check_image image) lowest highest r lowest' highest'
     passed_ranged number count nodes g r lowest' highest' done work =
         let l = loaded_passes image before after e loaded number count nodes g in
@@ -343,20 +330,13 @@ pub tree_loaded : (image before after : List ℕ) (e : Loaded) → LoadAnswer (c
 tree_loaded image before after e loaded number count nodes g =
     let l = loaded_passes image before after e loaded number count nodes g in (image, l.tree, l.root_is, l.passes, l.stands)
 
--- Where the kinds of its nodes tell that it has no Rbnd.
-pub straight_tree : {count nodes : ℕ} {words : List ℕ} → RecursionFound words nodes false → TreeStands count words nodes → StraightTree count words nodes
-straight_tree plain s = (s.0, s.1, s.2, s.3, s.4, sym (plain s.1 s.4))
-
-pub nodes_few : {count nodes : ℕ} {words : List ℕ} → TreeStands count words nodes → nodes ≤ most_nodes
-nodes_few s = nodes_low s.4
-
 -- What the functions below ask of such a tree.
-pub small_tree : {count nodes : ℕ} {words : List ℕ} → StraightTree count words nodes → (count ≤ most_registers) × SmallTree words count nodes
+pub small_tree : {count nodes : ℕ} {words : List ℕ} → TreeStands count words nodes → (count ≤ most_registers) × SmallTree words count nodes
 small_tree {count} s = (((check_exact s.0 count s.1 s.2).0 s.3).shape.registers, (s.1, s.4, figures_small s.0 count s.1 s.2 s.3))
 
 -- As many limits as registers.
-pub stands_counted : (count registers : ℕ) (words : List ℕ) (nodes : ℕ) → count ≡ registers → StraightTree registers words nodes → StraightTree count words nodes
-stands_counted count registers words nodes q s = subst (λ n. StraightTree n words nodes) (sym q) s
+pub stands_counted : (count registers : ℕ) (words : List ℕ) (nodes : ℕ) → count ≡ registers → TreeStands registers words nodes → TreeStands count words nodes
+stands_counted count registers words nodes q s = subst (λ n. TreeStands n words nodes) (sym q) s
 
 pub ranged_counted : (count registers : ℕ) (words : List ℕ) (nodes : ℕ) (lowest highest : List ℕ) (r : Ranged) (lowest' highest' : List ℕ) → count ≡ registers →
     TreeRanged count words nodes lowest highest r lowest' highest' → TreeRanged registers words nodes lowest highest r lowest' highest'

@@ -1,7 +1,7 @@
 -- `runs_within_ranges`, from the theorem of the rules about the replies: a run from starts within limits for which `ranges` gives ends.
 use Rattle.std.specs.Prelude.{ℕ, ◌-◌, ◌^◌, ◌≤◌, ◌≡◌, refl, List, [], ◌∷◌, T, ℤ}
 use Rattle.std.proofs.Common.{sym, ap, ◌∙◌, subst, arith, lt→ltb}
-use Rattle.rules.specs.paper.Refusals.{Reason, Steps, Refusal, Length, Size, Kind, Operand, Tree, Depth, Unbound, Mistyped, Repeated, NotAssignable, BadCall, Registers, Budget, Work, Withheld, TooManySteps, ShortPage, CrossedLimits, HasLoop, UnsafeArithmetic, HasRecursion, reason_number, refusal_number}
+use Rattle.rules.specs.paper.Refusals.{Reason, Steps, Refusal, Length, Size, Kind, Operand, Tree, Depth, Unbound, Mistyped, Repeated, NotAssignable, BadCall, Registers, Budget, Work, Withheld, TooManySteps, ShortPage, CrossedLimits, HasLoop, UnsafeArithmetic, reason_number, refusal_number}
 use Rattle.rules.specs.paper.Integers.{in_range}
 use Rattle.rules.specs.paper.Engine.{number, truth_of, cell, nothing, Outcome, Answer, outcome, refused}
 use Rattle.rules.specs.paper.Ranges.{RangesAnswer, ends_given, no_ends}
@@ -72,7 +72,6 @@ no_step ShortPage only l h = omega (arith, h)
 no_step CrossedLimits only l h = omega (arith, h)
 no_step HasLoop only l h = omega (arith, h)
 no_step UnsafeArithmetic only l h = omega (arith, h)
-no_step HasRecursion only l h = omega (arith, h)
 
 -- What an answer of the definition says of the code's.
 answered : (a : Answer) (steps : ℕ) (marks : HighMarks) (Fact : Type 0) → ((x : Reason) (p : ℕ) → a ≡ refused (Withheld x) p → x ≡ Steps) → ((o : Outcome) → a ≡ outcome o → Fact) → OutcomeHas (ran a steps marks) Fact

@@ -3,7 +3,7 @@ use Rattle.std.specs.Prelude.{ℕ, ◌≤◌, ◌≡◌, List}
 use Rattle.rules.specs.paper.Tree.{Root}
 use Rattle.rules.specs.paper.Refusals.{refusal_number}
 use Rattle.rules.specs.paper.Needs.{Figure, routine_need}
-use Rattle.rules.specs.paper.Engine.{NeedsAnswer, figures, given, left_open, no_figures, figures_of, tree_needs}
+use Rattle.rules.specs.paper.Engine.{NeedsAnswer, figures, given, left_open, no_figures, figures_of}
 use Rattle.rules.specs.claims.FreeRun.{most_room}
 use Rattle.reader.specs.Stored.{RootAt}
 use Rattle.calls.specs.declared.Estimated.{Estimated}
@@ -24,7 +24,3 @@ SmallTree words registers nodes = (t : Root) × RootAt words nodes t × SmallRoo
 -- The figures of the tree that stands there.
 abbrev pub EstimatedAs : List ℕ → (registers nodes : ℕ) → Estimated → Type 0
 EstimatedAs words registers nodes r = (t : Root) → RootAt words nodes t → SmallRoom registers t → r ≡ needs_reply (figures_of registers t)
-
--- The needs of it: its figures, or 45.
-abbrev pub NeededAs : List ℕ → (registers nodes : ℕ) → Estimated → Type 0
-NeededAs words registers nodes r = (t : Root) → RootAt words nodes t → SmallRoom registers t → r ≡ needs_reply (tree_needs registers t)

@@ -1,13 +1,13 @@
 -- What `ranges` answers, by the definitions of the rules: ends, or the refusal's number with its place; and what is left of both lists.
-use Rattle.std.specs.Prelude.{ℕ, ◌<◌, ◌≡◌, cond, false, List, ltb, length, get_or}
+use Rattle.std.specs.Prelude.{ℕ, ◌<◌, ◌≡◌, cond, List, ltb, length, get_or}
 use Rattle.std.proofs.Math.Option.{Option, none, some}
 use Rattle.rules.specs.paper.Limits.{most_steps}
 use Rattle.rules.specs.paper.Tree.{Root}
 use Rattle.rules.specs.paper.Refusals.{Reason, Refusal, Withheld, TooManySteps, HasLoop, refusal_number}
 use Rattle.rules.specs.paper.Checker.{Passed}
-use Rattle.rules.specs.paper.Needs.{Sizes, sizes, routine_need, has_loop, has_recursion}
+use Rattle.rules.specs.paper.Needs.{Sizes, sizes, routine_need, has_loop}
 use Rattle.rules.specs.paper.Engine.{Checked, check_image, passed}
-use Rattle.rules.specs.paper.Ranges.{RangesAnswer, ends_given, no_ends, RangesCalled, room_refusal, ranges_of, tree_ranges, ranges_checked, ranges}
+use Rattle.rules.specs.paper.Ranges.{RangesAnswer, ends_given, no_ends, RangesCalled, room_refusal, ranges_of, ranges_checked, ranges}
 use Rattle.integers.specs.Words.{integers_of, words_of}
 use Rattle.reader.specs.Stored.{RootAt}
 use Rattle.estimator.specs.declared.figures.Need.{Need}
@@ -60,22 +60,11 @@ TreeRefused words registers nodes r = (t : Root) → RootAt words nodes t → Sm
 
 -- ---- The ranges of a tree and of an image, whatever the work words are that the call is to leave.
 
--- A passed tree without Rbnd stands in the work words.
-abbrev pub StraightTree : (registers : ℕ) → List ℕ → (nodes : ℕ) → Type 0
-StraightTree registers words nodes =
-    (image : List ℕ) × (t : Root) × (a : Passed) × (check_image image ≡ passed registers t a) × RootAt words nodes t × (has_recursion t ≡ false)
-
--- Of every such tree.
+-- Of every tree passed so that stands in the work words.
 abbrev pub TreeRanged : (registers : ℕ) → List ℕ → (nodes : ℕ) → (lowest highest : List ℕ) → Ranged → (lowest' highest' : List ℕ) → Type 0
 TreeRanged registers words nodes lowest highest r lowest' highest' =
-    (image : List ℕ) (t : Root) (a : Passed) → check_image image ≡ passed registers t a → RootAt words nodes t → has_recursion t ≡ false → (work : List ℕ) →
-    RangedAs (ranges_of registers t (integers_of lowest) (integers_of highest) work) r lowest' highest' work
-
--- Of every passed tree that stands in the work words.
-abbrev pub TreeAnswered : (registers : ℕ) → List ℕ → (nodes : ℕ) → (lowest highest : List ℕ) → Ranged → (lowest' highest' : List ℕ) → Type 0
-TreeAnswered registers words nodes lowest highest r lowest' highest' =
     (image : List ℕ) (t : Root) (a : Passed) → check_image image ≡ passed registers t a → RootAt words nodes t → (work : List ℕ) →
-    RangedAs (tree_ranges registers t (integers_of lowest) (integers_of highest) work) r lowest' highest' work
+    RangedAs (ranges_of registers t (integers_of lowest) (integers_of highest) work) r lowest' highest' work
 
 abbrev pub ImageRanged : Checked → (lowest highest : List ℕ) → Ranged → (lowest' highest' : List ℕ) → Type 0
 ImageRanged c lowest highest r lowest' highest' = (work : List ℕ) → RangedAs (ranges_checked c (integers_of lowest) (integers_of highest) work) r lowest' highest' work

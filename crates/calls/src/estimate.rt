@@ -3,12 +3,12 @@ ghost use Rattle.std.specs.Prelude.{◌≡◌, ◌≤◌, length};
 ghost use Rattle.rules.specs.paper.Limits.{most_registers, work_words};
 ghost use Rattle.rules.specs.paper.Engine.{check_image, needs_answer};
 ghost use Rattle.reader.specs.Put.{KeptBeyond};
-ghost use Rattle.calls.specs.Needs.{needs_reply, SmallTree, EstimatedAs, NeededAs};
+ghost use Rattle.calls.specs.Needs.{needs_reply, SmallTree, EstimatedAs};
 
 use crate::Estimated;
-use crate::refusals::{REFUSED_RECURSION, REFUSED_STEPS};
+use crate::refusals::REFUSED_STEPS;
 use estimator::figures::MOST_STEPS;
-use estimator::{has_loop, has_recursion, routine};
+use estimator::{has_loop, routine};
 use loader::{Loaded, load};
 
 // The figures of the tree of so many nodes that stands in the work words. Where a Loop is in it the steps are open; where none is, and they
@@ -42,22 +42,7 @@ fn figures(work: &mut [u64], registers: usize, nodes: usize) -> Estimated
     )
 }
 
-// The needs of that tree: its figures, and none where an Rbnd is in it.
-fn tree_needs(work: &mut [u64], registers: usize, nodes: usize) -> Estimated
-    requires work_words_in_bounds { work_words ≤ length work.old }
-    requires registers_le_most_registers { registers ≤ most_registers }
-    requires small_tree { SmallTree work.old registers nodes }
-    ensures needed_as { NeededAs work.old registers nodes result }
-    ensures kept_beyond { KeptBeyond work_words work.old work.new }
-{
-    let recursive = has_recursion(work, nodes);
-    if recursive {
-        return Estimated::Refused(REFUSED_RECURSION, 0);
-    }
-    figures(work, registers, nodes)
-}
-
-// The image, then its needs. The first 8,192 work words are spoilt.
+// The image, then its figures. The first 8,192 work words are spoilt.
 pub(crate) fn estimate_image(image: &[u32], work: &mut [u64]) -> Estimated
     requires { work_words ≤ length work.old }
     ensures value { result ≡ needs_reply (needs_answer (check_image image.now)) }
@@ -65,7 +50,7 @@ pub(crate) fn estimate_image(image: &[u32], work: &mut [u64]) -> Estimated
 {
     let loaded = load(image, work);
     match loaded {
-        Loaded::Passed(number, registers, nodes) => tree_needs(work, registers, nodes),
+        Loaded::Passed(number, registers, nodes) => figures(work, registers, nodes),
         Loaded::Refused(number, place) => Estimated::Refused(number, place),
     }
 }

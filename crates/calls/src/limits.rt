@@ -8,16 +8,15 @@ ghost use Rattle.reader.specs.Put.{KeptBeyond};
 ghost use Rattle.estimator.specs.Entries.{WritesEntriesFrom};
 ghost use Rattle.calls.specs.Needs.{SmallTree};
 ghost use Rattle.calls.specs.Runs.{TreeStands};
-ghost use Rattle.calls.specs.Ranges.{told, room_refused, room_of, TreeRefused, StraightTree, TreeRanged, TreeAnswered, ImageRanged};
+ghost use Rattle.calls.specs.Ranges.{told, room_refused, room_of, TreeRefused, TreeRanged, ImageRanged};
 
 use crate::Ranged;
 use crate::refusals::{
-    REFUSED_ARITHMETIC, REFUSED_LIMITS, REFUSED_LOOP, REFUSED_RECURSION, REFUSED_REGISTERS,
-    REFUSED_STEPS,
+    REFUSED_ARITHMETIC, REFUSED_LIMITS, REFUSED_LOOP, REFUSED_REGISTERS, REFUSED_STEPS,
 };
 use carrying::Outcome;
 use estimator::figures::{MOST_STEPS, Need};
-use estimator::{has_loop, has_recursion, routine};
+use estimator::{has_loop, routine};
 use loader::{Loaded, load};
 use machine::layout::{MOST_BINDINGS, MOST_CELLS, MOST_CONTROL_ENTRIES, MOST_VALUE_ENTRIES};
 use machine::reasons::{BINDINGS, CELLS, CONTROL_ENTRIES, VALUE_ENTRIES};
@@ -62,12 +61,12 @@ fn tree_refusal(work: &mut [u64], registers: usize, nodes: usize) -> u64
     room_refusal(need)
 }
 
-// That tree, which has no Rbnd, over limits that do not cross, one of each for each register.
+// That tree over limits that do not cross, one of each for each register.
 fn carry_tree(lowest: &mut [u64], highest: &mut [u64], work: &mut [u64], nodes: usize) -> Ranged
     requires work_words_in_bounds { work_words ≤ length work.old }
     requires highest_len { length highest.old ≡ length lowest.old }
     requires highest_value { limits_cross (integers_of lowest.old) (integers_of highest.old) ≡ false }
-    requires straight_tree { StraightTree (length lowest.old) work.old nodes }
+    requires tree_stands { TreeStands (length lowest.old) work.old nodes }
     ensures tree_ranged { TreeRanged (length lowest.old) work.old nodes lowest.old highest.old result lowest.new highest.new }
     ensures kept_beyond { KeptBeyond work_words work.old work.new }
 {
@@ -91,7 +90,7 @@ fn limit_tree(
     nodes: usize,
 ) -> Ranged
     requires work_words_in_bounds { work_words ≤ length work.old }
-    requires straight_tree { StraightTree registers work.old nodes }
+    requires tree_stands { TreeStands registers work.old nodes }
     ensures tree_ranged { TreeRanged registers work.old nodes lowest.old highest.old result lowest.new highest.new }
     ensures kept_beyond { KeptBeyond work_words work.old work.new }
 {
@@ -108,26 +107,6 @@ fn limit_tree(
     carry_tree(lowest, highest, work, nodes)
 }
 
-// The same of any tree: 45 where an Rbnd is in it.
-fn answer_tree(
-    lowest: &mut [u64],
-    highest: &mut [u64],
-    work: &mut [u64],
-    registers: usize,
-    nodes: usize,
-) -> Ranged
-    requires work_words_in_bounds { work_words ≤ length work.old }
-    requires tree_stands { TreeStands registers work.old nodes }
-    ensures tree_answered { TreeAnswered registers work.old nodes lowest.old highest.old result lowest.new highest.new }
-    ensures kept_beyond { KeptBeyond work_words work.old work.new }
-{
-    let recursive = has_recursion(work, nodes);
-    if recursive {
-        return Ranged::Refused(REFUSED_RECURSION, 0);
-    }
-    limit_tree(lowest, highest, work, registers, nodes)
-}
-
 // The image, then its ranges. The first 8,192 work words are spoilt.
 pub(crate) fn limit_image(
     image: &[u32],
@@ -142,7 +121,7 @@ pub(crate) fn limit_image(
     let loaded = load(image, work);
     match loaded {
         Loaded::Passed(number, registers, nodes) => {
-            answer_tree(lowest, highest, work, registers, nodes)
+            limit_tree(lowest, highest, work, registers, nodes)
         }
         Loaded::Refused(number, place) => Ranged::Refused(number, place),
     }

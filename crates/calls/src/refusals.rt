@@ -23,6 +23,3 @@ pub const REFUSED_LOOP: u64 = 43;
 
 // An end leaves the integers, or a divisor's range holds 0.
 pub const REFUSED_ARITHMETIC: u64 = 44;
-
-// There is an Rbnd, so neither needs nor ranges are known.
-pub const REFUSED_RECURSION: u64 = 45;

@@ -132,7 +132,6 @@ module _ (words : List ℕ) (held : Held) (node : ℕ) where
           by : {d : ℕ} {c : Declaration} → StoredDeclaration words d node next c → StateAt words node held A N K →
               DeclaredAs words' next held c A N (carry_declaration A K c) (Declared.Names (record { environment = held.bindings + 1; bindings = held.bindings + 1; cells = held.cells }))
           by (Stored.dseq h a b) state = absurd (omega (arith, (bind_parts s).0, kind_is h (omega arith)))
-          by (Stored.rbnd l h k w f a) state = tt
           by (Stored.bind l h (Stored.plain_of a)) state = absurd (omega (arith, is_abs, known_bound, stored_expression_kind a))
           by (Stored.bind l h (Stored.ref w a)) state = absurd (omega (arith, is_abs, known_bound, kind_is w (omega arith)))
           by (Stored.bind {d = e} {x = x} l h (Stored.abs {fs = fs} {b = b} k w f a)) state =
@@ -220,7 +219,6 @@ module _ (words : List ℕ) (held : Held) (node : ℕ) where
 
               by : {d : ℕ} {c : Declaration} → StoredDeclaration words d node next c → StateAt words node held A N K → DeclaredAs words₂ next held c A N (carry_declaration A K c) (Declared.Names inner)
               by (Stored.dseq h a b) state = absurd (omega (arith, (bind_parts s).0, kind_is h (omega arith)))
-              by (Stored.rbnd l h k w f a) state = tt
               by (Stored.bind l h (Stored.plain_of a)) state = absurd (omega (arith, is_ref, known_bound, stored_expression_kind a))
               by (Stored.bind {x = x} l h (Stored.ref {d = e} {e = v} w a)) state =
                   bound x (suc node) v l (named ∙ operand_is h (omega arith)) state (omega (arith, bound_on (Stored.ref w a))) (carry_expression A K v)
@@ -241,7 +239,6 @@ module _ (words : List ℕ) (held : Held) (node : ℕ) where
           where
             by : {d : ℕ} {c : Declaration} → StoredDeclaration words d node next c → StateAt words node held A N K → DeclaredAs words next held c A N (carry_declaration A K c) (Declared.Unsafe place)
             by (Stored.dseq h a b) state = absurd (omega (arith, (bind_parts s).0, kind_is h (omega arith)))
-            by (Stored.rbnd l h k w f a) state = tt
             by (Stored.bind l h (Stored.plain_of a)) state = absurd (omega (arith, is_ref, known_bound, stored_expression_kind a))
             by (Stored.bind {x = x} l h (Stored.ref {d = e} {e = v} w a)) state =
                 unsafe_bound words held next x (Bind node x (Ref (suc node) v)) A N (λ v. record { bound_as = a_value (location (length K)); cells_after = v ∷ K }) q (carry_expression A K v)
@@ -299,7 +296,6 @@ module _ (words : List ℕ) (held : Held) (node : ℕ) where
 
                 by : {d : ℕ} {c : Declaration} → StoredDeclaration words d node next c → StateAt words node held A N K → DeclaredAs words' next held c A N (carry_declaration A K c) (Declared.Names inner)
                 by (Stored.dseq h a b) state = absurd (omega (arith, (bind_parts s).0, kind_is h (omega arith)))
-                by (Stored.rbnd l h k w f a) state = tt
                 by (Stored.bind {x = x} l h (Stored.plain_of {d = e} {e = v} a)) state =
                     bound x v l (named ∙ operand_is h (omega arith)) state (omega (arith, bound_on (Stored.plain_of a))) (carry_expression A K v)
                     (expressed v A K (record { depth = e; next = next; tree = subst (λ i. StoredExpression words e i next v) (omega arith) a; sees = state_seen (bind_row s).3 state }))
@@ -316,7 +312,6 @@ module _ (words : List ℕ) (held : Held) (node : ℕ) where
           where
             by : {d : ℕ} {c : Declaration} → StoredDeclaration words d node next c → StateAt words node held A N K → DeclaredAs words next held c A N (carry_declaration A K c) (Declared.Unsafe place)
             by (Stored.dseq h a b) state = absurd (omega (arith, (bind_parts s).0, kind_is h (omega arith)))
-            by (Stored.rbnd l h k w f a) state = tt
             by (Stored.bind {x = x} l h (Stored.plain_of {d = e} {e = v} a)) state =
                 unsafe_bound words held next x (Bind node x (plain v)) A N (λ v. record { bound_as = a_value v; cells_after = K }) q (carry_expression A K v)
                 (expressed v A K (record { depth = e; next = next; tree = subst (λ i. StoredExpression words e i next v) (omega arith) a; sees = state_seen (bind_row s).3 state }))

@@ -1,5 +1,5 @@
--- A DSeq: its second declaration is carried on the names and cells that its first leaves, and the names of both are given. Any other declaration
--- is a Bind, since the carrying of an Rbnd is unfit.
+-- A DSeq: its second declaration is carried on the names and cells that its first leaves, and the names of both are given. Any other declaration is a
+-- Bind.
 use Prim.Native.Nat.{ℕ, suc, ◌+◌, ◌-◌, ◌<◌, ◌≤◌}
 use mathlib.Core.Path.{◌≡◌, refl, sym, ◌∙◌, subst}
 use mathlib.Core.List.{List, ◌++◌}
@@ -49,13 +49,11 @@ state_later h s = record { names_are = names_later h s.names_are; cells_are = s.
 
 module _ (words : List ℕ) (held : Held) (node which : ℕ) (known : which ≡ packed_kind (get_or words node 0)) where
   pub bind_there : (which ≡ dseq_number → ⊥) → SomeDeclaration words held node → SomeBind words held node
-  unfolding carry_declaration
   bind_there other s = by s.1 s.5.tree s.5.state s.5.room s.6
     where
       by : {d : ℕ} (c : Declaration) → StoredDeclaration words d node s.0 c → StateAt words node held s.2 s.3 s.4 → Room held (declaration_need s.3 c) → Fits (carry_declaration s.2 s.4 c) → SomeBind words held node
       by {d} c (Stored.bind {d = e} {x = x} {b = b} l h a) state room fits = (s.0, x, b, s.2, s.3, s.4, record { depth = suc e; tree = Stored.bind l h a; state = state; room = room }, fits)
       by c (Stored.dseq h a b) state room fits = absurd (other (known ∙ kind_is h (omega arith)))
-      by c (Stored.rbnd l h k w f a) state room fits = absurd (fits refl)
 
   module _ (is_sequence : which ≡ dseq_number) where
     -- The first.
@@ -73,7 +71,6 @@ module _ (words : List ℕ) (held : Held) (node which : ℕ) (known : which ≡ 
 
         by : {d : ℕ} (c : Declaration) → StoredDeclaration words d node s.0 c → StateAt words node held s.2 s.3 s.4 → Room held (declaration_need s.3 c) → Fits (carry_declaration s.2 s.4 c) → First
         by c (Stored.bind l h a) state room fits = absurd (omega (arith, is_sequence, known, kind_is h (omega arith)))
-        by c (Stored.rbnd l h k w f a) state room fits = absurd (fits refl)
         by c (Stored.dseq {d = e} {j = j} {d₁ = d₁} {d₂ = d₂} h a b) state room fits =
             let tree = subst (λ i. StoredDeclaration words e i j d₁) (after_node node) a in
             let inner : Held = record { environment = 0; bindings = bindings_left d₁ + held.bindings; cells = cells_left d₁ + held.cells } in
@@ -98,7 +95,6 @@ module _ (words : List ℕ) (held : Held) (node which : ℕ) (known : which ≡ 
 
           by : {d : ℕ} {c : Declaration} → StoredDeclaration words d node next c → StateAt words node held A N K → Room held (declaration_need N c) → DeclaredAs words₁ next held c A N (carry_declaration A K c) r
           by (Stored.bind l h a) state room = absurd (omega (arith, is_sequence, known, kind_is h (omega arith)))
-          by (Stored.rbnd l h k w f a) state room = tt
           by (Stored.dseq {d = e} {j = j} {d₁ = d₁} {d₂ = d₂} h a b) state room =
               let tree = subst (λ i. StoredDeclaration words e i j d₁) (after_node node) a in
               let inner : Held = record { environment = 0; bindings = bindings_left d₁ + held.bindings; cells = cells_left d₁ + held.cells } in
@@ -153,7 +149,6 @@ module _ (words : List ℕ) (held : Held) (node which : ℕ) (known : which ≡ 
 
             by : {d : ℕ} (c : Declaration) → StoredDeclaration words d node s.0 c → StateAt words node held s.2 s.3 s.4 → Room held (declaration_need s.3 c) → Fits (carry_declaration s.2 s.4 c) → Second
             by c (Stored.bind l h a) state room fits = absurd (omega (arith, is_sequence, known, kind_is h (omega arith)))
-            by c (Stored.rbnd l h k w f a) state room fits = absurd (fits refl)
             by c (Stored.dseq {d = e} {j = j} {d₁ = d₁} {d₂ = d₂} h a b) state room fits =
                 let tree = subst (λ i. StoredDeclaration words e i j d₁) (after_node node) a in
                 let wide : Held = record { environment = 0; bindings = bindings_left d₁ + held.bindings; cells = cells_left d₁ + held.cells } in
@@ -200,7 +195,6 @@ module _ (words : List ℕ) (held : Held) (node which : ℕ) (known : which ≡ 
 
               by : {d : ℕ} {c : Declaration} → StoredDeclaration words d node next c → StateAt words node held A N K → Room held (declaration_need N c) → DeclaredAs words₂ next held c A N (carry_declaration A K c) u
               by (Stored.bind l h a) state room = absurd (omega (arith, is_sequence, known, kind_is h (omega arith)))
-              by (Stored.rbnd l h k w f a) state room = tt
               by (Stored.dseq {d = e} {j = j} {d₁ = d₁} {d₂ = d₂} h a b) state room =
                   let tree = subst (λ i. StoredDeclaration words e i j d₁) (after_node node) a in
                   let wide : Held = record { environment = 0; bindings = bindings_left d₁ + held.bindings; cells = cells_left d₁ + held.cells } in

@@ -79,7 +79,7 @@ fn bind(work: &mut [u64], held: Held, node: usize) -> Declared
     }
 }
 
-// The declaration at a node, a DSeq or a Bind: an Rbnd is not carried. The second of a DSeq sees the names of the first.
+// The declaration at a node. The second of a DSeq sees the names of the first.
 pub fn declaration(work: &mut [u64], held: Held, node: usize) -> Declared
     requires regions_end_in_bounds { regions_end ≤ length work.old }
     requires some_declaration { SomeDeclaration work.old held node }

@@ -1,8 +1,8 @@
 -- What the checker's functions answer about commands, declarations and what they bind, and which work words they leave alone.
-use Rattle.std.specs.Prelude.{ℕ, suc, ◌+◌, ◌*◌, ◌<◌, ◌≤◌, ◌≡◌, List, length, get_or}
+use Rattle.std.specs.Prelude.{ℕ, ◌+◌, ◌*◌, ◌<◌, ◌≤◌, ◌≡◌, List, length, get_or}
 use Rattle.rules.specs.paper.Refusals.{Refusal, refusal_number}
 use Rattle.rules.specs.paper.Limits.{names, most_parameters}
-use Rattle.rules.specs.paper.Tree.{Formal, Expression, Command, Assign, Call, Cond, Block, Declaration, Rbnd, Bound, Root}
+use Rattle.rules.specs.paper.Tree.{Formal, Expression, Command, Assign, Call, Cond, Block, Declaration, Bound, Root}
 use Rattle.rules.specs.paper.Checker.{Scope, Judged, fault, fine, ◌>>=◌, same_codes, distinct, with_formals, expression_codes, command_ok, block_ok, declaration_gives, bound_means, Passed, expression_of_code, a_command, register_scope, root_is}
 use Rattle.reader.specs.Stored.{HasWord, StoredActuals, StoredFormals, StoredCommand, StoredBlock, StoredDeclaration, StoredBound, RootAt}
 use Rattle.typing.specs.Rows.{rows_from, rows_end, Rows, ScopeAt}
@@ -110,12 +110,7 @@ abbrev pub DeclarationJudgedAt : (words words' : List ℕ) (registers scope node
 DeclarationJudgedAt words words' registers scope node r =
     (d : Declaration) (next : ℕ) (Γ : Scope) → DeclarationAt words node next d → ScopeAt words registers scope Γ → NamesFrom words' scope next (declaration_gives Γ d) r
 
-abbrev pub RecursiveJudgedAt : (words words' : List ℕ) (registers scope node : ℕ) → Answer → Type 0
-RecursiveJudgedAt words words' registers scope node r =
-    (x : ℕ) (fs : List Formal) (b : Block) (next : ℕ) (Γ : Scope) → DeclarationAt words node next (Rbnd node x (suc node) fs b) → ScopeAt words registers scope Γ →
-    NamesFrom words' scope next (declaration_gives Γ (Rbnd node x (suc node) fs b)) r
-
--- The number of what the child of a Bind or an Rbnd means, or its first fault.
+-- The number of what the Bind's child means, or its first fault.
 abbrev pub BoundJudgedAt : List ℕ → (registers scope node : ℕ) → Answer → Type 0
 BoundJudgedAt words registers scope node r = (b : Bound) (Γ : Scope) → BoundAt words node b → ScopeAt words registers scope Γ → r ≡ meaning_answer (bound_means Γ b)
 

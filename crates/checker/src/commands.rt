@@ -1,10 +1,10 @@
 // Commands, declarations and what they bind: scope and types.
-ghost use Rattle.std.specs.Prelude.{List, ℕ, suc, ◌≤◌, length};
+ghost use Rattle.std.specs.Prelude.{List, ℕ, ◌≤◌, length};
 ghost use Rattle.rules.specs.paper.Limits.{most_parameters};
-ghost use Rattle.rules.specs.paper.Tree.{Expression, Formal, Command, Cond, Block, Declaration, Rbnd, Bound};
+ghost use Rattle.rules.specs.paper.Tree.{Expression, Formal, Command, Cond, Block, Declaration, Bound};
 ghost use Rattle.rules.specs.paper.Checker.{Scope};
 ghost use Rattle.typing.specs.Rows.{rows_end, ScopeAt};
-ghost use Rattle.checker.specs.Commands.{WritesRowsFrom, ActualsAt, FormalsAt, AssignAt, CallAt, CommandAt, BlockAt, DeclarationAt, BoundAt, ActualsJudgedAt, AgreementJudgedAt, AssignJudgedAt, CallJudgedAt, CommandJudgedAt, ConditionalJudgedAt, BlockJudgedAt, DeclarationJudgedAt, RecursiveJudgedAt, BoundJudgedAt};
+ghost use Rattle.checker.specs.Commands.{WritesRowsFrom, ActualsAt, FormalsAt, AssignAt, CallAt, CommandAt, BlockAt, DeclarationAt, BoundAt, ActualsJudgedAt, AgreementJudgedAt, AssignJudgedAt, CallJudgedAt, CommandJudgedAt, ConditionalJudgedAt, BlockJudgedAt, DeclarationJudgedAt, BoundJudgedAt};
 
 use crate::formals::formals;
 use reader::{NAMES, end, kind, kinds, operand};
@@ -105,7 +105,7 @@ fn call(work: &[u64], registers: usize, scope: usize, node: usize) -> Answer
 }
 
 // The command at a node in the scope at a pointer: 0, or its first fault.
-#[cycle(block_bound_command_conditional_declaration_recursive_binding)]
+#[cycle(block_bound_command_conditional_declaration)]
 pub(crate) fn command(work: &mut [u64], registers: usize, scope: usize, node: usize) -> Answer
     requires rows_end_in_bounds { rows_end ≤ length work.old }
     requires scope_le_node { scope ≤ node }
@@ -152,7 +152,7 @@ pub(crate) fn command(work: &mut [u64], registers: usize, scope: usize, node: us
 
 // The Cond at a node: its test, then both commands, taken or not; that the test is a truth is judged last. Both commands' answers stand in
 // one local: this function becomes a part of `command`, whose frame each level of the tree has on the stack.
-#[cycle(block_bound_command_conditional_declaration_recursive_binding)]
+#[cycle(block_bound_command_conditional_declaration)]
 fn conditional(work: &mut [u64], registers: usize, scope: usize, node: usize) -> Answer
     requires rows_end_in_bounds { rows_end ≤ length work.old }
     requires scope_le_node { scope ≤ node }
@@ -179,7 +179,7 @@ fn conditional(work: &mut [u64], registers: usize, scope: usize, node: usize) ->
 }
 
 // The block at a node: its declaration, then its command in the scope with the names that this gives.
-#[cycle(block_bound_command_conditional_declaration_recursive_binding)]
+#[cycle(block_bound_command_conditional_declaration)]
 fn block(work: &mut [u64], registers: usize, scope: usize, node: usize) -> Answer
     requires rows_end_in_bounds { rows_end ≤ length work.old }
     requires scope_le_node { scope ≤ node }
@@ -199,7 +199,7 @@ fn block(work: &mut [u64], registers: usize, scope: usize, node: usize) -> Answe
 
 // The declaration at a node in the scope at a pointer: rows for its names, linked to that scope, and the pointer of the newest. So the
 // second declaration of a DSeq sees the names of the first.
-#[cycle(block_bound_command_conditional_declaration_recursive_binding)]
+#[cycle(block_bound_command_conditional_declaration)]
 fn declaration(work: &mut [u64], registers: usize, scope: usize, node: usize) -> Answer
     requires rows_end_in_bounds { rows_end ≤ length work.old }
     requires scope_le_node { scope ≤ node }
@@ -225,9 +225,6 @@ fn declaration(work: &mut [u64], registers: usize, scope: usize, node: usize) ->
         }
         return second;
     }
-    if which == kinds::RBND {
-        return recursive_binding(work, registers, scope, node);
-    }
     let name = operand(work, node);
     let meant = bound(work, registers, scope, node + 1);
     let Answer::Is(number) = meant else {
@@ -237,29 +234,8 @@ fn declaration(work: &mut [u64], registers: usize, scope: usize, node: usize) ->
     Answer::Is(node + 1)
 }
 
-// The Rbnd at a node: the row of its name, a function's, is written before its Abs is judged in the scope with that row. So its Blk sees the
-// name, below the Formals.
-#[cycle(block_bound_command_conditional_declaration_recursive_binding)]
-fn recursive_binding(work: &mut [u64], registers: usize, scope: usize, node: usize) -> Answer
-    requires rows_end_in_bounds { rows_end ≤ length work.old }
-    requires scope_le_node { scope ≤ node }
-    requires scope_at { (Γ : Scope) × ScopeAt work.old registers scope Γ }
-    requires by_index { (x : ℕ) × (fs : List Formal) × (b : Block) × (next : ℕ) × DeclarationAt work.old node next (Rbnd node x (suc node) fs b) }
-    ensures recursive_judged_at { RecursiveJudgedAt work.old work.new registers scope node result }
-    ensures writes_rows_from { WritesRowsFrom work.old work.new node }
-{
-    let name = operand(work, node);
-    work[ROWS + node] = row_word(name, FUNCTION, scope);
-    let own = node + 1;
-    let meant = bound(work, registers, own, node + 1);
-    let Answer::Is(number) = meant else {
-        return meant;
-    };
-    Answer::Is(own)
-}
-
-// What the child of a Bind or an Rbnd means.
-#[cycle(block_bound_command_conditional_declaration_recursive_binding)]
+// What a Bind's child means.
+#[cycle(block_bound_command_conditional_declaration)]
 fn bound(work: &mut [u64], registers: usize, scope: usize, node: usize) -> Answer
     requires rows_end_in_bounds { rows_end ≤ length work.old }
     requires scope_le_node { scope ≤ node }

@@ -1,9 +1,7 @@
-// The rules of declarations, and of what a Bind or Rbnd binds.
+// The rules of declarations, and of what a Bind binds.
 ghost use Rattle.std.specs.Prelude.{◌≡◌, List, ℕ, get_or};
-ghost use Rattle.std.proofs.Math.Option.{Option};
-ghost use Rattle.rules.specs.paper.Tree.{Expression, Formal, Block, Declaration, DSeq};
+ghost use Rattle.rules.specs.paper.Tree.{Expression, Formal, Block, Declaration, Bind, DSeq, Bound};
 ghost use Rattle.rules.specs.paper.States.{declaration, reference, abstraction};
-ghost use Rattle.reader.specs.KindNumbers.{dseq_number};
 ghost use Rattle.reader.specs.Pack.{packed_kind};
 ghost use Rattle.machine.specs.Steps.{Applicable, Steps};
 
@@ -12,11 +10,10 @@ use machine::stacks::{enter, push, put_four, put_two};
 use machine::{Machine, Stepped};
 use reader::{end, kinds, operand};
 
-// Bind and Rbnd: the name, the value or the Abs, the mark. What an Rbnd's function knows of its name stands in the tree.
+// Bind: its name, the value, the mark.
 fn bind(work: &mut [u64], m: Machine, node: usize) -> Stepped
-    requires fact { packed_kind (get_or work.old node 0) ≡ dseq_number → ⊥ }
-    requires applicable { (d : Declaration) × Applicable work.old m node (declaration d) }
-    ensures { (d : Declaration) → Steps work.old m node (declaration d) result work.new }
+    requires { (x : ℕ) × (b : Bound) × Applicable work.old m node (declaration (Bind node x b)) }
+    ensures { (x : ℕ) (b : Bound) → Steps work.old m node (declaration (Bind node x b)) result work.new }
 {
     let name = operand(work, node);
     enter(work, m, name as u64, BIND_MARK, node as u64 + 1)
@@ -46,10 +43,10 @@ pub fn reference(work: &mut [u64], m: Machine, node: usize) -> Stepped
     put_two(work, m, REF_MARK, node as u64 + 1)
 }
 
-// Abs: the closure of its Formals, its Blk and the environment, and of its own name under an Rbnd.
+// Abs: the closure of its Formals, its Blk and the environment.
 pub fn close(work: &mut [u64], m: Machine, node: usize) -> Stepped
-    requires { (p : ℕ) × (own : Option ℕ) × (fs : List Formal) × (b : Block) × Applicable work.old m node (abstraction p own fs b) }
-    ensures { (p : ℕ) (own : Option ℕ) (fs : List Formal) (b : Block) → Steps work.old m node (abstraction p own fs b) result work.new }
+    requires { (p : ℕ) × (fs : List Formal) × (b : Block) × Applicable work.old m node (abstraction p fs b) }
+    ensures { (p : ℕ) (fs : List Formal) (b : Block) → Steps work.old m node (abstraction p fs b) result work.new }
 {
     push(
         work,
@@ -65,8 +62,8 @@ pub fn declaration_rule(work: &mut [u64], m: Machine, node: usize, which: usize)
     requires applicable { (d : Declaration) × Applicable work.old m node (declaration d) }
     ensures { (d : Declaration) → Steps work.old m node (declaration d) result work.new }
 {
-    if which == kinds::DSEQ {
-        return declaration_sequence(work, m, node);
+    if which == kinds::BIND {
+        return bind(work, m, node);
     }
-    bind(work, m, node)
+    declaration_sequence(work, m, node)
 }

@@ -6,15 +6,14 @@ use native.Mathlib.Omega.{arith}
 use lib.ListN.{length, get_or}
 use Rattle.rules.specs.paper.Limits.{most_nodes, names}
 use Rattle.rules.specs.proofs.Basics.{append_assoc}
-use Rattle.rules.specs.paper.Tree.{Expression, Formal, block, Block, Declaration, Bind, DSeq, Rbnd, Bound, plain, Ref, Abs}
+use Rattle.rules.specs.paper.Tree.{Expression, Formal, block, Block, Declaration, Bind, DSeq, Bound, plain, Ref, Abs}
 use Rattle.rules.specs.paper.Needs.{Needs, nothing, push_step, expression_need, over_formals, cells_left, bindings_left, bound_need, command_need, block_need, declaration_need, names_given, bound_function}
-use Rattle.reader.specs.KindNumbers.{bind_number, dseq_number, rbnd_number, ref_number, abs_number}
+use Rattle.reader.specs.KindNumbers.{bind_number, dseq_number, ref_number, abs_number}
 use Rattle.reader.specs.Pack.{packed_kind, packed_operand}
 use Rattle.reader.specs.Stored.{kind_is, operand_is, StoredExpression, StoredFormals, no_formals, one_formal, StoredCommand, StoredBlock, StoredDeclaration, StoredBound}
 use Rattle.reader.specs.Stored as Stored
-use Rattle.reader.specs.BindingLaws.{Binding, bind_parts, rbnd_parts}
 use Rattle.reader.specs.StoredLaws.{same_expression, same_command, same_declaration}
-use Rattle.reader.specs.StandingLaws.{Rooted, after_node, expression_low, command_root, command_on, declaration_root, declaration_on, declaration_end, block_low, bound_on}
+use Rattle.reader.specs.StandingLaws.{Rooted, after_node, expression_low, expression_on, command_root, command_on, declaration_root, declaration_on, declaration_end, block_low, block_on, formals_on}
 use Rattle.reader.specs.KindTrees.{stored_expression_kind}
 use Rattle.estimator.specs.Figures.{stopped, figures, numbers, one_step, unary_figures, scoped_figures}
 use Rattle.estimator.specs.Entries.{HasEntry, WritesEntriesFrom, KeptEntry, NamesAt, one_name}
@@ -32,21 +31,14 @@ formals_next (one_formal p l m w g) = omega (arith, formals_next g)
 
 -- ---- Which declaration it is.
 
--- A declaration that binds a name to what stands behind its node: a Bind, or an Rbnd, to an Abs.
-data Binds (node name : ℕ) : Bound → Declaration → Type 0 where
-  by_bind : {b : Bound} → Binds node name b (Bind node name b)
-  by_rbnd : {q : ℕ} {fs : List Formal} {b : Block} → Binds node name (Abs q fs b) (Rbnd node name q fs b)
-
--- Both need and name the same.
-declared_as : {words : List ℕ} {node name next : ℕ} {N : Needs} {b : Bound} {c : Declaration} {r : Declared} → Binds node name b c → DeclaredAs words next N (Bind node name b) r → DeclaredAs words next N c r
-unfolding declaration_need names_given bound_function bound_need
-declared_as by_bind s = s
-declared_as by_rbnd s = record { need_is = s.need_is; names_there = s.names_there; newest_low = s.newest_low }
-
 data SeenDeclaration (words : List ℕ) (node next : ℕ) : (which : ℕ) → Declaration → Type 0 where
   seen_sequence : {d m : ℕ} {d₁ d₂ : Declaration} → StoredDeclaration words d (node + 1) m d₁ → StoredDeclaration words d m next d₂ → SeenDeclaration words node next dseq_number (DSeq node d₁ d₂)
-  seen_bind : {x : ℕ} {b : Bound} → Binding words bind_number node next x b → SeenDeclaration words node next bind_number (Bind node x b)
-  seen_rbnd : {x q : ℕ} {fs : List Formal} {b : Block} → Binding words rbnd_number node next x (Abs q fs b) → SeenDeclaration words node next rbnd_number (Rbnd node x q fs b)
+  seen_bind : {d x : ℕ} {b : Bound} → x < names → packed_operand (get_or words node 0) ≡ x → node < next → StoredBound words d (node + 1) next b → SeenDeclaration words node next bind_number (Bind node x b)
+
+bound_later : {words : List ℕ} {d i j : ℕ} {b : Bound} → StoredBound words d i j b → i < j
+bound_later (Stored.plain_of a) = expression_on a
+bound_later (Stored.ref h a) = omega (arith, expression_on a)
+bound_later (Stored.abs l h a b) = omega (arith, formals_on a, block_on b)
 
 module _ (words : List ℕ) (node which : ℕ) (known : which ≡ packed_kind (get_or words node 0)) where
   seen : {d j : ℕ} {c : Declaration} → StoredDeclaration words d node j c → SeenDeclaration words node j which c
@@ -56,9 +48,9 @@ module _ (words : List ℕ) (node which : ℕ) (known : which ≡ packed_kind (g
       of_kind {n} {j} {c} q s = subst (λ w. SeenDeclaration words node j w c) (sym (known ∙ q)) s
 
       by : {d j : ℕ} {c : Declaration} → StoredDeclaration words d node j c → SeenDeclaration words node j which c
-      by (Stored.bind l h a) = of_kind (kind_is h (omega arith)) (seen_bind (bind_parts (Stored.bind l h a)))
+      by {d = suc d} {j = j} (Stored.bind {b = b} l h a) =
+          of_kind (kind_is h (omega arith)) (seen_bind l (operand_is h (omega arith)) (omega (arith, bound_later a)) (subst (λ i. StoredBound words d i j b) (after_node node) a))
       by {d = suc d} (Stored.dseq {j = m} {d₁ = d₁} h a b) = of_kind (kind_is h (omega arith)) (seen_sequence (subst (λ i. StoredDeclaration words d i m d₁) (after_node node) a) b)
-      by (Stored.rbnd l h g w a b) = of_kind (kind_is h (omega arith)) (seen_rbnd (rbnd_parts (Stored.rbnd l h g w a b)))
 
   -- Where it is known which, its own case alone is left.
   seen_as : {n d j : ℕ} {c : Declaration} → which ≡ n → StoredDeclaration words d node j c → SeenDeclaration words node j n c
@@ -127,26 +119,20 @@ module _ (words : List ℕ) (node which : ℕ) (known : which ≡ packed_kind (g
             newest_low = next.newest_low;
           }
 
-  -- ---- Bind and Rbnd.
+  -- ---- Bind.
 
   module _ (not_sequence : which ≡ dseq_number → ⊥) where
-    binding_seen : {A : Type 0} {d j : ℕ} {c : Declaration} → StoredDeclaration words d node j c →
-        ((e x : ℕ) (b : Bound) → Binds node x b c → x < names → packed_operand (get_or words node 0) ≡ x → node < j → StoredBound words e (node + 1) j b → A) → A
-    binding_seen {A} {d} {j} {c} s go = by refl (seen s) go
+    bind_seen : {A : Type 0} {d j : ℕ} {c : Declaration} → StoredDeclaration words d node j c →
+        ((e x : ℕ) (b : Bound) → c ≡ Bind node x b → x < names → packed_operand (get_or words node 0) ≡ x → node < j → StoredBound words e (node + 1) j b → A) → A
+    bind_seen {A} {d} {j} {c} s go = by refl (seen s) go
       where
-        parts : {k x : ℕ} {b : Bound} {c : Declaration} → Binds node x b c → Binding words k node j x b →
-            ((e x : ℕ) (b : Bound) → Binds node x b c → x < names → packed_operand (get_or words node 0) ≡ x → node < j → StoredBound words e (node + 1) j b → A) → A
-        parts {x = x} {b = b} q s go =
-            go s.depth x b q s.name_low s.name_there (omega (arith, bound_on s.child_there)) (subst (λ i. StoredBound words s.depth i j b) (after_node node) s.child_there)
-
         by : {w : ℕ} {c : Declaration} → w ≡ which → SeenDeclaration words node j w c →
-            ((e x : ℕ) (b : Bound) → Binds node x b c → x < names → packed_operand (get_or words node 0) ≡ x → node < j → StoredBound words e (node + 1) j b → A) → A
+            ((e x : ℕ) (b : Bound) → c ≡ Bind node x b → x < names → packed_operand (get_or words node 0) ≡ x → node < j → StoredBound words e (node + 1) j b → A) → A
         by q (seen_sequence a b) go = absurd (not_sequence (sym q))
-        by q (seen_bind s) go = parts by_bind s go
-        by q (seen_rbnd s) go = parts by_rbnd s go
+        by q (seen_bind {d = e} {x = x} {b = b} l o h a) go = go e x b refl l o h a
 
     pub bound_low : SomeDeclaration words node → node + 1 < most_nodes
-    bound_low s = binding_seen s.3 (λ e x b q l o h a. low a)
+    bound_low s = bind_seen s.3 (λ e x b q l o h a. low a)
       where
         low : {d i j : ℕ} {b : Bound} → StoredBound words d i j b → i < most_nodes
         low (Stored.plain_of a) = expression_low a
@@ -154,7 +140,7 @@ module _ (words : List ℕ) (node which : ℕ) (known : which ≡ packed_kind (g
         low (Stored.abs l h a b) = h.place_low
 
     pub name_low : SomeDeclaration words node → packed_operand (get_or words node 0) < names
-    name_low s = binding_seen s.3 (λ e x b q l o h a. omega (arith, l, o))
+    name_low s = bind_seen s.3 (λ e x b q l o h a. omega (arith, l, o))
 
     -- The name with what it is bound to, on those before it.
     module _ (words₁ words₂ : List ℕ) (scope name : ℕ) (bound_to : Need) (named : name ≡ packed_operand (get_or words node 0)) (kept : WritesEntriesFrom words words₁ (node + 1))
@@ -180,17 +166,17 @@ module _ (words : List ℕ) (node which : ℕ) (known : which ≡ packed_kind (g
 
         module _ (count : ℕ) (counted : count ≡ packed_operand (get_or words (node + 1) 0)) where
           pub formals_there : SomeDeclaration words node → SomeFormals words (node + 2) count
-          formals_there s = binding_seen s.3 (λ e x b q l o h a. abs_seen a (λ e m fs f r n g k. (m, fs, g, sym (counted ∙ n))))
+          formals_there s = bind_seen s.3 (λ e x b q l o h a. abs_seen a (λ e m fs f r n g k. (m, fs, g, sym (counted ∙ n))))
 
           pub function_low : SomeDeclaration words node → (node + 2 + count < most_nodes) × (node + 2 < most_nodes)
           function_low s =
-              binding_seen s.3 (λ e x b q l o h a. abs_seen a (λ e m fs f r n g k. (omega (arith, block_low k, formals_next g, counted, n), omega (arith, block_low k, formals_next g))))
+              bind_seen s.3 (λ e x b q l o h a. abs_seen a (λ e m fs f r n g k. (omega (arith, block_low k, formals_next g, counted, n), omega (arith, block_low k, formals_next g))))
 
           pub function_there : (words₁ : List ℕ) (scope inner : ℕ) → WritesEntriesFrom words words₁ (node + 2) → FormalsNamed words words₁ scope (node + 2) count inner → SomeDeclaration words node →
               ((N : Needs) × NamesAt words scope N) →
               SomeCommand words₁ (node + 2 + count) × (inner ≤ node + 2 + count) × ((N : Needs) × NamesAt words₁ inner N) × (subtree_size words₁ (node + 2 + count) < subtree_size words node)
           function_there words₁ scope inner kept formals s N =
-              binding_seen s.3
+              bind_seen s.3
               (λ e x b q l o h a.
               abs_seen a
               (λ e m fs f r n g k.
@@ -209,20 +195,19 @@ module _ (words : List ℕ) (node which : ℕ) (known : which ≡ packed_kind (g
               DeclarationNeeds words words₃ scope node (record { need = t; newest = node + 1 })
           unfolding declaration_need names_given bound_function bound_need cells_left bindings_left command_need
           function_declared words₁ words₂ words₃ scope inner name function t low kept formals kept₂ body named written f d j c N s names =
-              binding_seen s
+              bind_seen s
               (λ e x b q l o h a.
               abs_seen a
               (λ e m fs body' r n g k.
               let end : m ≡ node + 2 + count = omega (arith, formals_next g, counted, n) in
               let given = formals m fs N g (sym (counted ∙ n)) names in
               let needs = body e j (block body') (over_formals fs N) (subst (λ i. StoredCommand words₁ e i j (block body')) end (same_command words words₁ (entries_nodes kept) (Stored.block_of k))) given.0 in
-              declared_as q
-              (subst (λ z. DeclaredAs words₃ j N (Bind node x z) (record { need = t; newest = node + 1 })) (sym r)
+              subst (λ z. DeclaredAs words₃ j N z (record { need = t; newest = node + 1 })) (sym (q ∙ ap (Bind node x) r))
               (record {
                 need_is = f ∙ (unary_law {n = push_step} 1 2 0 1 (record { equal = refl })).equal;
                 names_there = name_given words₂ words₃ scope name function named kept₂ written x (block_need (over_formals fs N) body') N o needs low names;
                 newest_low = omega (arith, h);
-              }))))
+              })))
 
       -- A Ref or an expression.
       module _ (words₁ : List ℕ) (scope name : ℕ) (none : Need) (low : scope ≤ node) (no_need : none ≡ numbers 0 0 0 0 0 0) (named : name ≡ packed_operand (get_or words node 0))
@@ -242,18 +227,17 @@ module _ (words : List ℕ) (node which : ℕ) (known : which ≡ packed_kind (g
 
           pub referent_there : SomeDeclaration words node → SomeExpression words₁ (node + 2)
           referent_there s =
-              binding_seen s.3 (λ e x b q l o h a. ref_seen a (λ e v r k. (_, _, v, same_expression words words₁ (entries_nodes written.others) k)))
+              bind_seen s.3 (λ e x b q l o h a. ref_seen a (λ e v r k. (_, _, v, same_expression words words₁ (entries_nodes written.others) k)))
 
           pub reference_declared : (value reference t : Need) → ExpressionNeeds words₁ (node + 2) value → reference ≡ unary_figures value 0 1 1 0 → t ≡ unary_figures reference 1 2 1 1 →
               DeclarationNeeds words words₁ scope node (record { need = t; newest = node + 1 })
           unfolding declaration_need names_given bound_function bound_need cells_left bindings_left
           reference_declared value reference t needs f g d j c N s names =
-              binding_seen s
+              bind_seen s
               (λ e x b q l o h a.
               ref_seen a
               (λ e v r k.
-              declared_as q
-              (subst (λ z. DeclaredAs words₁ j N (Bind node x z) (record { need = t; newest = node + 1 })) (sym r)
+              subst (λ z. DeclaredAs words₁ j N z (record { need = t; newest = node + 1 })) (sym (q ∙ ap (Bind node x) r))
               (record {
                 need_is =
                     g
@@ -264,7 +248,7 @@ module _ (words : List ℕ) (node which : ℕ) (known : which ≡ packed_kind (g
                     ).equal;
                 names_there = plain_named x N o names;
                 newest_low = omega (arith, h);
-              }))))
+              })))
 
         module _ (not_abs : bound ≡ abs_number → ⊥) (not_ref : bound ≡ ref_number → ⊥) where
           plain_seen : {A : Type 0} {d j : ℕ} {b : Bound} → StoredBound words d (node + 1) j b → ((e : ℕ) (v : Expression) → b ≡ plain v → StoredExpression words e (node + 1) j v → A) → A
@@ -274,20 +258,19 @@ module _ (words : List ℕ) (node which : ℕ) (known : which ≡ packed_kind (g
 
           pub value_there : SomeDeclaration words node → SomeExpression words₁ (node + 1)
           value_there s =
-              binding_seen s.3 (λ e x b q l o h a. plain_seen a (λ e v r k. (_, _, v, same_expression words words₁ (entries_nodes written.others) k)))
+              bind_seen s.3 (λ e x b q l o h a. plain_seen a (λ e v r k. (_, _, v, same_expression words words₁ (entries_nodes written.others) k)))
 
           pub plain_declared : (value t : Need) → ExpressionNeeds words₁ (node + 1) value → t ≡ unary_figures value 1 2 0 1 →
               DeclarationNeeds words words₁ scope node (record { need = t; newest = node + 1 })
           unfolding declaration_need names_given bound_function bound_need cells_left bindings_left
           plain_declared value t needs g d j c N s names =
-              binding_seen s
+              bind_seen s
               (λ e x b q l o h a.
               plain_seen a
               (λ e v r k.
-              declared_as q
-              (subst (λ z. DeclaredAs words₁ j N (Bind node x z) (record { need = t; newest = node + 1 })) (sym r)
+              subst (λ z. DeclaredAs words₁ j N z (record { need = t; newest = node + 1 })) (sym (q ∙ ap (Bind node x) r))
               (record {
                 need_is = g ∙ (unary_law {n = expression_need v} 1 2 0 1 (record { equal = needs _ _ v (same_expression words words₁ (entries_nodes written.others) k) })).equal;
                 names_there = plain_named x N o names;
                 newest_low = omega (arith, h);
-              }))))
+              })))

@@ -2,7 +2,7 @@
 use mathlib.Core.Path.{◌≡◌, refl}
 use mathlib.Core.List.{◌++◌}
 use native.Mathlib.Omega.{arith}
-use Rattle.rules.specs.paper.Tree.{Expression, Num, Boo, Id, DeRef, ValRef, Binary, Not, Declaration, Bind, DSeq, Rbnd, Bound, plain, Ref, Abs}
+use Rattle.rules.specs.paper.Tree.{Expression, Num, Boo, Id, DeRef, ValRef, Binary, Not, Declaration, Bind, DSeq, Bound, plain, Ref, Abs}
 use Rattle.rules.specs.paper.Needs.{cells, bindings, in_turn, expression_need, Needs, cells_of_bound, cells_left, bindings_left, bound_need, declaration_need, names_given}
 
 expression_cells : (e : Expression) → (expression_need e).most cells ≡ 0
@@ -41,10 +41,8 @@ pub declaration_cells : (N : Needs) (d : Declaration) → (declaration_need N d)
 unfolding declaration_need cells_left in_turn
 declaration_cells N (Bind p x b) = omega (arith, bound_cells b)
 declaration_cells N (DSeq p d₁ d₂) = omega (arith, declaration_cells N d₁, declaration_cells (names_given N d₁ ++ N) d₂)
-declaration_cells N (Rbnd p x q fs b) = refl
 
 pub declaration_bindings : (N : Needs) (d : Declaration) → (declaration_need N d).most bindings ≡ bindings_left d
 unfolding declaration_need bindings_left in_turn
 declaration_bindings N (Bind p x b) = omega (arith, bound_bindings b)
 declaration_bindings N (DSeq p d₁ d₂) = omega (arith, declaration_bindings N d₁, declaration_bindings (names_given N d₁ ++ N) d₂)
-declaration_bindings N (Rbnd p x q fs b) = refl

@@ -8,4 +8,3 @@ pub mod DeclarationSizes
 pub mod CommandLaws
 pub mod DeclarationLaws
 pub mod RootLaws
-pub mod SearchLaws

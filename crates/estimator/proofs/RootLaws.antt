@@ -1,22 +1,24 @@
--- The whole routine: its root by the kind of node 0, and the registers.
-use Prim.Native.Nat.{ℕ, zero, suc, ◌<◌, ◌≤◌}
+-- The whole routine: its root by the kind of node 0, the registers, and whether a Loop is among its nodes.
+use Prim.Native.Nat.{ℕ, zero, suc, ◌+◌, ◌<◌, ◌≤◌}
 use mathlib.Core.Path.{◌≡◌, refl, sym, ap, ◌∙◌}
-use mathlib.Core.Bool.{Bool, true, false, cond}
+use mathlib.Core.Bool.{Bool, true, false, cond, ◌||◌}
 use mathlib.Core.List.{List}
+use mathlib.Core.Logic.{◌⊎◌, inl, inr, ⊎_elim}
 use native.Mathlib.Omega.{arith}
 use lib.Dec.{eqb}
 use lib.ListN.{get_or}
 use Rattle.rules.specs.paper.Limits.{most_registers}
-use Rattle.rules.specs.paper.Tree.{Root}
-use Rattle.rules.specs.paper.Needs.{nothing, need_of, register_needs, root_need, routine_need}
-use Rattle.reader.specs.KindNumbers.{assign_number}
+use Rattle.rules.specs.paper.Tree.{Expression, Formal, Command, Block, Declaration, Bound, Root}
+use Rattle.rules.specs.paper.Needs.{nothing, need_of, register_needs, root_need, routine_need, is_loop, some_command, some_in_block, some_in_declaration, some_in_bound, some_in_root, has_loop}
+use Rattle.reader.specs.KindNumbers.{assign_number, loop_number}
 use Rattle.reader.specs.Pack.{packed_kind}
-use Rattle.reader.specs.Stored.{StoredRoot, root_expression, root_command, root_absent, RootAt}
-use Rattle.reader.specs.StandingLaws.{absent_root}
+use Rattle.reader.specs.Stored.{HasWord, kind_is, StoredExpression, StoredActuals, no_actuals, one_actual, StoredFormals, no_formals, one_formal, StoredCommand, StoredBlock, StoredDeclaration, StoredBound, StoredRoot, root_expression, root_command, root_absent, RootAt}
+use Rattle.reader.specs.Stored as Stored
+use Rattle.reader.specs.StandingLaws.{expression_on, actuals_on, formals_on, command_on, block_on, declaration_on, bound_on, absent_root, operator_below, operator_low}
 use Rattle.reader.specs.KindTrees.{stored_expression_kind, stored_command_kind}
 use Rattle.estimator.specs.Figures.{stopped, figures, numbers, raised}
 use Rattle.estimator.specs.Entries.{NamesAt, no_entries}
-use Rattle.estimator.specs.Answers.{SomeExpression, SomeCommand, ExpressionNeeds, CommandNeeds, RootNeeds, RoutineNeeds}
+use Rattle.estimator.specs.Answers.{SomeExpression, SomeCommand, ExpressionNeeds, CommandNeeds, RootNeeds, RoutineNeeds, LoopFound}
 use Rattle.estimator.specs.declared.figures.Need.{Need}
 use Rattle.estimator.proofs.FigureLaws.{over_of}
 
@@ -86,3 +88,126 @@ routine_needs words registers nodes r s few needs q t at =
   where
     whole : (k : ℕ) → k ≤ most_registers → k ≡ stopped k
     whole k l = omega arith
+
+-- ---- A Loop among the nodes.
+
+data Tells (words : List ℕ) (i j : ℕ) : Bool → Type 0 where
+  one_is : (k : ℕ) → i ≤ k → k < j → packed_kind (get_or words k 0) ≡ loop_number → Tells words i j true
+  none_is : ((k : ℕ) → i ≤ k → k < j → packed_kind (get_or words k 0) ≡ loop_number → ⊥) → Tells words i j false
+
+tells_both : {words : List ℕ} {i j k : ℕ} {a b : Bool} → i ≤ j → j ≤ k → Tells words i j a → Tells words j k b → Tells words i k (a || b)
+tells_both l m (one_is n h g q) t = one_is n h (omega (arith, g, m)) q
+tells_both l m (none_is f) (one_is n h g q) = one_is n (omega (arith, h, l)) g q
+tells_both {words} {i} {j} {k} l m (none_is f) (none_is h) = none_is (λ n p q e. either_side n p q e (below_or_not n j))
+  where
+    below_or_not : (n j : ℕ) → (n < j) ⊎ (j ≤ n)
+    below_or_not n zero = inr (omega arith)
+    below_or_not zero (suc j) = inl (omega arith)
+    below_or_not (suc n) (suc j) = ⊎_elim (λ q. inl (omega (arith, q))) (λ q. inr (omega (arith, q))) (below_or_not n j)
+
+    either_side : (n : ℕ) → i ≤ n → n < k → packed_kind (get_or words n 0) ≡ loop_number → (n < j) ⊎ (j ≤ n) → ⊥
+    either_side n p q e (inl u) = f n p u e
+    either_side n p q e (inr u) = h n u q e
+
+-- A node that is no Loop.
+tells_node : {words : List ℕ} {i m w e : ℕ} → HasWord words i m w e → m < 64 → (m ≡ loop_number → ⊥) → Tells words i (suc i) false
+tells_node {words} {i} h l f = none_is (λ k p q e. f (sym (kind_is h l) ∙ ap (λ n. packed_kind (get_or words n 0)) (omega (arith, p, q)) ∙ e))
+
+expression_tells : {words : List ℕ} {d i j : ℕ} {e : Expression} → StoredExpression words d i j e → Tells words i j false
+expression_tells (Stored.num h) = tells_node h (omega arith) (λ q. omega (arith, q))
+expression_tells (Stored.boo h) = tells_node h (omega arith) (λ q. omega (arith, q))
+expression_tells (Stored.id l h) = tells_node h (omega arith) (λ q. omega (arith, q))
+expression_tells (Stored.deref l h) = tells_node h (omega arith) (λ q. omega (arith, q))
+expression_tells (Stored.valref l h) = tells_node h (omega arith) (λ q. omega (arith, q))
+expression_tells (Stored.binary {o = o} h a b) =
+    tells_both (omega arith) (omega (arith, expression_on a, expression_on b)) (tells_node h (operator_low o) (λ q. omega (arith, q, operator_below o)))
+    (tells_both (omega (arith, expression_on a)) (omega (arith, expression_on b)) (expression_tells a) (expression_tells b))
+expression_tells (Stored.negation h a) = tells_both (omega arith) (omega (arith, expression_on a)) (tells_node h (omega arith) (λ q. omega (arith, q))) (expression_tells a)
+
+nothing_tells : (words : List ℕ) (i : ℕ) → Tells words i i false
+nothing_tells words i = none_is (λ k p q e. never k p q)
+  where
+    never : (k : ℕ) → i ≤ k → k < i → ⊥
+    never k p q = omega (arith, p, q)
+
+actuals_tell : {words : List ℕ} {d i j : ℕ} {es : List Expression} → StoredActuals words d i j es → Tells words i j false
+actuals_tell {words} {i = i} no_actuals = nothing_tells words i
+actuals_tell (one_actual h g) = tells_both (omega (arith, expression_on h)) (actuals_on g) (expression_tells h) (actuals_tell g)
+
+formals_tell : {words : List ℕ} {i j : ℕ} {fs : List Formal} → StoredFormals words i j fs → Tells words i j false
+formals_tell {words} {i = i} no_formals = nothing_tells words i
+formals_tell (one_formal p l m h g) = tells_both (omega arith) (formals_on g) (tells_node h (omega arith) (λ q. omega (arith, q))) (formals_tell g)
+
+mutual
+  unfolding some_command some_in_block some_in_declaration some_in_bound
+
+  command_tells : {words : List ℕ} {d i j : ℕ} {c : Command} → StoredCommand words d i j c → Tells words i j (some_command is_loop c)
+  command_tells (Stored.assign l h a) = tells_both (omega arith) (omega (arith, expression_on a)) (tells_node h (omega arith) (λ q. omega (arith, q))) (expression_tells a)
+  command_tells (Stored.loop {i = i} h a b) = one_is i (omega arith) (omega (arith, expression_on a, command_on b)) (kind_is h (omega arith))
+  command_tells (Stored.cseq h a b) =
+      tells_both (omega arith) (omega (arith, command_on a, command_on b)) (tells_node h (omega arith) (λ q. omega (arith, q)))
+      (tells_both (omega (arith, command_on a)) (omega (arith, command_on b)) (command_tells a) (command_tells b))
+  command_tells (Stored.block_of b) = block_tells b
+  command_tells (Stored.call l g h a) = tells_both (omega arith) (actuals_on a) (tells_node h (omega arith) (λ q. omega (arith, q))) (actuals_tell a)
+  command_tells (Stored.conditional h a b c) =
+      tells_both (omega arith) (omega (arith, expression_on a, command_on b, command_on c)) (tells_node h (omega arith) (λ q. omega (arith, q)))
+      (tells_both (omega (arith, expression_on a)) (omega (arith, command_on b, command_on c)) (expression_tells a)
+      (tells_both (omega (arith, command_on b)) (omega (arith, command_on c)) (command_tells b) (command_tells c)))
+
+  block_tells : {words : List ℕ} {d i j : ℕ} {b : Block} → StoredBlock words d i j b → Tells words i j (some_in_block is_loop b)
+  block_tells (Stored.blk h a b) =
+      tells_both (omega arith) (omega (arith, declaration_on a, command_on b)) (tells_node h (omega arith) (λ q. omega (arith, q)))
+      (tells_both (omega (arith, declaration_on a)) (omega (arith, command_on b)) (declaration_tells a) (command_tells b))
+
+  declaration_tells : {words : List ℕ} {d i j : ℕ} {c : Declaration} → StoredDeclaration words d i j c → Tells words i j (some_in_declaration is_loop c)
+  declaration_tells (Stored.bind l h a) = tells_both (omega arith) (omega (arith, bound_on a)) (tells_node h (omega arith) (λ q. omega (arith, q))) (bound_tells a)
+  declaration_tells (Stored.dseq h a b) =
+      tells_both (omega arith) (omega (arith, declaration_on a, declaration_on b)) (tells_node h (omega arith) (λ q. omega (arith, q)))
+      (tells_both (omega (arith, declaration_on a)) (omega (arith, declaration_on b)) (declaration_tells a) (declaration_tells b))
+
+  bound_tells : {words : List ℕ} {d i j : ℕ} {b : Bound} → StoredBound words d i j b → Tells words i j (some_in_bound is_loop b)
+  bound_tells (Stored.plain_of a) = expression_tells a
+  bound_tells (Stored.ref h a) = tells_both (omega arith) (omega (arith, expression_on a)) (tells_node h (omega arith) (λ q. omega (arith, q))) (expression_tells a)
+  bound_tells (Stored.abs l h a b) =
+      tells_both (omega arith) (omega (arith, formals_on a, block_on b)) (tells_node h (omega arith) (λ q. omega (arith, q)))
+      (tells_both (formals_on a) (omega (arith, block_on b)) (formals_tell a) (block_tells b))
+
+root_tells : {words : List ℕ} {d i j : ℕ} {t : Root} → StoredRoot words d i j t → Tells words i j (has_loop t)
+unfolding has_loop some_in_root
+root_tells (root_expression s) = expression_tells s
+root_tells (root_command s) = command_tells s
+root_tells {words} {i = i} root_absent = nothing_tells words i
+
+-- No Loop so far.
+abbrev pub NoneBelow : List ℕ → ℕ → Type 0
+NoneBelow words at = (k : ℕ) → k < at → packed_kind (get_or words k 0) ≡ loop_number → ⊥
+
+pub none_so_far : (words : List ℕ) → NoneBelow words 0
+none_so_far words k l q = omega (arith, l)
+
+pub none_more : (words : List ℕ) (at : ℕ) → NoneBelow words at → (packed_kind (get_or words at 0) ≡ loop_number → ⊥) → NoneBelow words (at + 1)
+none_more words at none other k l q = by_place k l q (equal_or_below k at l)
+  where
+    equal_or_below : (k at : ℕ) → k < at + 1 → (k < at) ⊎ (k ≡ at)
+    equal_or_below zero zero l = inr refl
+    equal_or_below zero (suc at) l = inl (omega arith)
+    equal_or_below (suc k) zero l = absurd (omega (arith, l))
+    equal_or_below (suc k) (suc at) l = ⊎_elim (λ q. inl (omega (arith, q))) (λ q. inr (ap suc q)) (equal_or_below k at (omega (arith, l)))
+
+    by_place : (k : ℕ) → k < at + 1 → packed_kind (get_or words k 0) ≡ loop_number → (k < at) ⊎ (k ≡ at) → ⊥
+    by_place k l q (inl h) = none k h q
+    by_place k l q (inr h) = other (ap (λ n. packed_kind (get_or words n 0)) (sym h) ∙ q)
+
+pub loop_there : (words : List ℕ) (nodes at : ℕ) → at < nodes → packed_kind (get_or words at 0) ≡ loop_number → LoopFound words nodes true
+loop_there words nodes at l q t there = by (root_tells there.stored)
+  where
+    by : {b : Bool} → Tells words 0 nodes b → true ≡ b
+    by (one_is k p h e) = refl
+    by (none_is f) = absurd (f at (omega arith) l q)
+
+pub no_loop_there : (words : List ℕ) (nodes : ℕ) → NoneBelow words nodes → LoopFound words nodes false
+no_loop_there words nodes none t there = by (root_tells there.stored)
+  where
+    by : {b : Bool} → Tells words 0 nodes b → false ≡ b
+    by (one_is k p h e) = absurd (none k h e)
+    by (none_is f) = refl

@@ -1,8 +1,7 @@
 -- What the estimator's functions answer: the figures of the tree that stands at a node, in the scope at a pointer.
 use Rattle.std.specs.Prelude.{ℕ, ◌≤◌, ◌≡◌, Bool, List, ◌++◌, length}
-use Rattle.rules.specs.paper.Kinds.{CommandKind, rbnd, Kind, command_kind, declaration_kind, kind_number}
 use Rattle.rules.specs.paper.Tree.{Formal, Expression, Command, Call, Declaration, Root}
-use Rattle.rules.specs.paper.Needs.{Needs, expression_need, actuals_need, over_formals, command_need, declaration_need, names_given, register_needs, root_need, routine_need, is_kind, some_in_root, has_loop, has_recursion}
+use Rattle.rules.specs.paper.Needs.{Needs, expression_need, actuals_need, over_formals, command_need, declaration_need, names_given, register_needs, root_need, routine_need, has_loop}
 use Rattle.reader.specs.Stored.{StoredExpression, StoredActuals, StoredFormals, StoredCommand, StoredDeclaration, RootAt}
 use Rattle.estimator.specs.Figures.{figures}
 use Rattle.estimator.specs.Entries.{NamesAt}
@@ -71,19 +70,5 @@ RootNeeds words nodes r = (registers : ℕ) (t : Root) → RootAt words nodes t 
 abbrev pub RoutineNeeds : List ℕ → (registers nodes : ℕ) → Need → Type 0
 RoutineNeeds words registers nodes r = (t : Root) → RootAt words nodes t → r ≡ figures (routine_need registers t)
 
--- ---- Which kinds are in the tree.
-
--- The kinds that are looked for: those of commands, and Rbnd.
-pub data Sought : Kind → Type 0 where
-  a_command : (k : CommandKind) → Sought (command_kind k)
-  a_recursion : Sought (declaration_kind rbnd)
-
--- Whether a node of the kind with this number is in the tree.
-abbrev pub KindFound : List ℕ → (nodes sought : ℕ) → Bool → Type 0
-KindFound words nodes sought r = (k : Kind) → Sought k → sought ≡ kind_number k → (t : Root) → RootAt words nodes t → r ≡ some_in_root (is_kind k) t
-
 abbrev pub LoopFound : List ℕ → (nodes : ℕ) → Bool → Type 0
 LoopFound words nodes r = (t : Root) → RootAt words nodes t → r ≡ has_loop t
-
-abbrev pub RecursionFound : List ℕ → (nodes : ℕ) → Bool → Type 0
-RecursionFound words nodes r = (t : Root) → RootAt words nodes t → r ≡ has_recursion t

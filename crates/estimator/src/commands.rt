@@ -102,8 +102,7 @@ pub(crate) fn command(work: &mut [u64], scope: usize, node: usize) -> Need
     tested(value, larger)
 }
 
-// The need of the declaration at a node in the scope at a pointer, and entries for its names. A function's need is worked out here, once. An Rbnd
-// is as the Bind of its Abs.
+// The need of the declaration at a node in the scope at a pointer, and entries for its names. A function's need is worked out here, once.
 #[cycle(command_declaration)]
 fn declaration(work: &mut [u64], scope: usize, node: usize) -> Declared
     requires entries_end_in_bounds { entries_end ≤ length work.old }

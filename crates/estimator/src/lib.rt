@@ -9,7 +9,7 @@ ghost use Rattle.rules.specs.paper.Limits.{most_nodes, most_registers};
 ghost use Rattle.rules.specs.paper.Tree.{Root};
 ghost use Rattle.reader.specs.Stored.{RootAt};
 ghost use Rattle.estimator.specs.Entries.{entries_end, WritesEntriesFrom};
-ghost use Rattle.estimator.specs.Answers.{RootNeeds, RoutineNeeds, KindFound, LoopFound, RecursionFound};
+ghost use Rattle.estimator.specs.Answers.{RootNeeds, RoutineNeeds, LoopFound};
 
 use crate::commands::command;
 use crate::expressions::expression;
@@ -45,37 +45,19 @@ pub fn routine(work: &mut [u64], registers: usize, nodes: usize) -> Need
     over(need, 0, 0, registers as u32, registers as u32)
 }
 
-// Whether a node of the kind with this number is among so many nodes.
-fn has_kind(work: &[u64], nodes: usize, sought: usize) -> bool
-    requires most_nodes_in_bounds { most_nodes ≤ length work.now }
-    requires nodes_le_most_nodes { nodes ≤ most_nodes }
-    ensures { KindFound work.now nodes sought result }
-{
-    let mut at = 0;
-    while at < nodes {
-        let which = kind(work, at);
-        if which == sought {
-            return true;
-        }
-        at = at + 1;
-    }
-    false
-}
-
 // Whether a Loop is among so many nodes.
 pub fn has_loop(work: &[u64], nodes: usize) -> bool
     requires most_nodes_in_bounds { most_nodes ≤ length work.now }
     requires nodes_le_most_nodes { nodes ≤ most_nodes }
     ensures { LoopFound work.now nodes result }
 {
-    has_kind(work, nodes, kinds::LOOP)
-}
-
-// Whether an Rbnd is among so many nodes.
-pub fn has_recursion(work: &[u64], nodes: usize) -> bool
-    requires most_nodes_in_bounds { most_nodes ≤ length work.now }
-    requires nodes_le_most_nodes { nodes ≤ most_nodes }
-    ensures { RecursionFound work.now nodes result }
-{
-    has_kind(work, nodes, kinds::RBND)
+    let mut at = 0;
+    while at < nodes {
+        let which = kind(work, at);
+        if which == kinds::LOOP {
+            return true;
+        }
+        at = at + 1;
+    }
+    false
 }

@@ -1,4 +1,3 @@
-pub mod OwnNameLaws
 pub mod CallMarkLaws
 pub mod CallFrameLaws
 pub mod FormalsLaws

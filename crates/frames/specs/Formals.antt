@@ -56,21 +56,20 @@ pub record Binding (κ : Regions) (base declared pointer : ℕ) (E : Environment
 
 -- There are Formals to bind and actuals for them.
 pub record CanBind (words : List ℕ) (m : Machine) (formal block : ℕ) : Type 0 where
-  pub older : Regions
   pub base : ℕ
   pub declared : ℕ
   pub pointer : ℕ
   pub environment : Environment
   pub mode : Mode
   pub matched : Matched
-  pub start : Binding older base declared pointer environment mode matched (regions words m) formal block
+  pub start : Binding (regions words m) base declared pointer environment mode matched (regions words m) formal block
 
 -- They are all bound.
 abbrev pub Binds : (before : List ℕ) → Machine → (formal block : ℕ) → Machine → (after : List ℕ) → Type 0
 Binds before m formal block answer after =
-    (older : Regions) (base declared pointer : ℕ) (E : Environment) (mode : Mode) (M : Matched) →
-    Binding older base declared pointer E mode M (regions before m) formal block →
-    Binding older base declared pointer E mode M (regions after answer) block block
+    (base declared pointer : ℕ) (E : Environment) (mode : Mode) (M : Matched) →
+    Binding (regions before m) base declared pointer E mode M (regions before m) formal block →
+    Binding (regions before m) base declared pointer E mode M (regions after answer) block block
 
 -- A call's frame: the caller's location set and environment on the value stack, and on control the block over its second mark.
 abbrev pub framed : Machine → Machine

@@ -1,2 +1,1 @@
 pub mod Formals
-pub mod OwnName

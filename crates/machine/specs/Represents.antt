@@ -1,14 +1,13 @@
 -- Which state of the automaton the regions hold. A value's label is 1 for a location and 0 for anything else; a row's is its name, its
 -- value's label and the pointer of the row below it; a location set is the count of cells there were before its first.
 use Rattle.std.specs.Prelude.{ℕ, suc, ◌+◌, ◌*◌, ◌<◌, ◌≤◌, ◌≡◌, Bool, List, [], ◌∷◌, ℤ, length}
-use Rattle.std.proofs.Math.Option.{Option, none, some}
+use Rattle.std.proofs.Math.Option.{some}
 use Rattle.rules.specs.paper.Tree.{Operator, Expression, Formal, Command, Block, Declaration, Ref, Abs}
 use Rattle.rules.specs.paper.Limits.{names, most_parameters, most_nodes}
 use Rattle.rules.specs.claims.Listing.{truth_word}
 use Rattle.rules.specs.paper.States.{Value, integer, truth, location, Bindable, value, closure, Environment, empty, bound, Cell, Store, Entry, bindable, name, node, environment, locations, operator_mark, not_mark, assign_mark, loop_mark, conditional_mark, ref_mark, bind_mark, dseq_extend_mark, dseq_join_mark, extend_mark, leave_mark, call_mark, Item, expression, command, declaration, reference, abstraction, mark}
 use Rattle.machine.specs.Layout.{closure_unit, mark_word, link}
-use Rattle.reader.specs.KindNumbers.{bind_number, rbnd_number}
-use Rattle.reader.specs.Stored.{HasWord, StoredExpression, StoredCommand, StoredDeclaration, StoredBound}
+use Rattle.reader.specs.Stored.{StoredExpression, StoredCommand, StoredDeclaration, StoredBound}
 use Rattle.integers.specs.Words.{integer_of}
 use Rattle.machine.specs.Regions.{Slot, slot_at, Regions}
 
@@ -18,16 +17,6 @@ pub data ValueAs : (label payload : ℕ) → Value → Type 0 where
   integer_as : {w : ℕ} {z : ℤ} → z ≡ integer_of w → w < 18446744073709551616 → ValueAs 0 w (integer z)
   truth_as : {w : ℕ} {b : Bool} → w ≡ truth_word b → ValueAs 0 w (truth b)
   location_as : {l : ℕ} → ValueAs 1 l (location l)
-
--- The name by which the function of the Abs at a place knows itself: that of an Rbnd, which is the node before it; none where that is a Bind.
-pub data OwnNameAs (nodes : List ℕ) : (place : ℕ) → Option ℕ → Type 0 where
-  behind_bind : {i x j : ℕ} → HasWord nodes i bind_number x j → OwnNameAs nodes (suc i) none
-  behind_rbnd : {i x j : ℕ} → x < names → HasWord nodes i rbnd_number x j → OwnNameAs nodes (suc i) (some x)
-
--- The Abs of a function.
-pub record FunctionAs (nodes : List ℕ) (depth place next : ℕ) (own : Option ℕ) (p : ℕ) (fs : List Formal) (b : Block) : Type 0 where
-  pub stored : StoredBound nodes depth place next (Abs p fs b)
-  pub own_as : OwnNameAs nodes place own
 
 mutual
   -- The rows from one pointer to another are this environment, newest first. A pointer is one more than the number of its row, and 0
@@ -40,8 +29,8 @@ mutual
   -- A closure is the place of its Abs and the pointer of its environment.
   pub data BindableAs (nodes : List ℕ) (rows : List Slot) : (label payload : ℕ) → Bindable → Type 0 where
     value_as : {t w : ℕ} {v : Value} → ValueAs t w v → BindableAs nodes rows t w (value v)
-    closure_as : {w d p j f : ℕ} {own : Option ℕ} {fs : List Formal} {b : Block} {F : Environment} → w ≡ p + closure_unit * f → p < most_nodes → FunctionAs nodes d p j own p fs b →
-        SegmentAs nodes rows f 0 F → BindableAs nodes rows 0 w (closure own fs b F)
+    closure_as : {w d p j f : ℕ} {fs : List Formal} {b : Block} {F : Environment} → w ≡ p + closure_unit * f → p < most_nodes → StoredBound nodes d p j (Abs p fs b) →
+        SegmentAs nodes rows f 0 F → BindableAs nodes rows 0 w (closure fs b F)
 
 -- The live cells: each location is the number of cells that are older.
 pub data StoreAs : List Slot → Store → Type 0 where
@@ -83,8 +72,8 @@ pub data ControlAs (nodes : List ℕ) : Mode → List ℕ → List Item → Type
       ControlAs nodes (declaring (at_end g) m ms) ws C → ControlAs nodes (declaring g m ms) (i ∷ ws) (declaration dec ∷ C)
   reference_on : {g : Stage} {m : ℕ} {ms : List ℕ} {ws : List ℕ} {C : List Item} {d i j p : ℕ} {e : Expression} → StoredBound nodes d i j (Ref p e) →
       ControlAs nodes (declaring g m ms) ws C → ControlAs nodes (declaring g m ms) (i ∷ ws) (reference p e ∷ C)
-  abstraction_on : {g : Stage} {m : ℕ} {ms : List ℕ} {ws : List ℕ} {C : List Item} {d i j p : ℕ} {own : Option ℕ} {fs : List Formal} {b : Block} → FunctionAs nodes d i j own p fs b →
-      ControlAs nodes (declaring g m ms) ws C → ControlAs nodes (declaring g m ms) (i ∷ ws) (abstraction p own fs b ∷ C)
+  abstraction_on : {g : Stage} {m : ℕ} {ms : List ℕ} {ws : List ℕ} {C : List Item} {d i j p : ℕ} {fs : List Formal} {b : Block} → StoredBound nodes d i j (Abs p fs b) →
+      ControlAs nodes (declaring g m ms) ws C → ControlAs nodes (declaring g m ms) (i ∷ ws) (abstraction p fs b ∷ C)
   operator_on : {m : Mode} {ws : List ℕ} {C : List Item} {w : ℕ} {o : Operator} → w ≡ mark_word (operator_mark o) →
       ControlAs nodes m ws C → ControlAs nodes m (w ∷ ws) (mark (operator_mark o) ∷ C)
   not_on : {m : Mode} {ws : List ℕ} {C : List Item} {w : ℕ} → w ≡ mark_word not_mark → ControlAs nodes m ws C → ControlAs nodes m (w ∷ ws) (mark not_mark ∷ C)

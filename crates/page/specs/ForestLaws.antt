@@ -4,7 +4,7 @@ use Rattle.std.specs.Prelude.{ℕ, suc, ◌+◌, ◌*◌, ◌≤◌, ◌≡◌, 
 use Rattle.std.proofs.Common.{sym, ap, ◌∙◌, subst, arith, length-append}
 use Rattle.rules.specs.proofs.Basics.{append_assoc, append_nothing}
 use Rattle.rules.specs.paper.Limits.{most_depth, names}
-use Rattle.rules.specs.paper.Kinds.{Kind, num, boo, id, deref, valref, binary, negation, assign, loop, cseq, blk, call, conditional, bind, dseq, rbnd, expression_kind, command_kind, declaration_kind, ref, abs, formal, kind_number}
+use Rattle.rules.specs.paper.Kinds.{Kind, num, boo, id, deref, valref, binary, negation, assign, loop, cseq, blk, call, conditional, bind, dseq, expression_kind, command_kind, declaration_kind, ref, abs, formal, kind_number}
 use Rattle.rules.specs.paper.Tree.{Expression, Formal, Command, Block, Declaration, Bound, Root}
 use Rattle.reader.specs.Stored.{HasWord, StoredExpression, StoredActuals, no_actuals, one_actual, StoredFormals, no_formals, one_formal, StoredCommand, StoredBlock, StoredDeclaration, StoredBound, StoredRoot, root_expression, root_command, root_absent, RootAt}
 use Rattle.reader.specs.Stored as Stored
@@ -62,14 +62,6 @@ formals_forest d low no_formals = no_tree
 formals_forest {words} {i} d low (one_formal {f = f} q l m h g) =
     join (subst (λ p. Forest words d i (suc i) (node_lines d formal (f.name + names * f.code) p [])) (sym q) (one_tree formal h low no_tree)) (formals_forest d low g)
 
--- The children of an Abs: its Formals are as deep as its Blk.
-function_forest : {words : List ℕ} {l i j k : ℕ} {fs : List Formal} {b : Block} (d : ℕ) → Levels d l → StoredFormals words i j fs → StoredBlock words l j k b →
-    Forest words d j k (block_lines d b) → Forest words d i k (all_lines (formal_lines d) fs ++ block_lines d b)
-function_forest d low a b inside = join (formals_forest d (block_depth low b) a) inside
-  where
-    block_depth : {words : List ℕ} {l i j : ℕ} {b : Block} → Levels d l → StoredBlock words l i j b → d ≤ most_depth
-    block_depth deep (Stored.blk h a b) = omega (arith, deep)
-
 mutual
   unfolding command_lines block_lines declaration_lines bound_lines
 
@@ -93,14 +85,16 @@ mutual
   declaration_forest d low (Stored.bind x h a) = one_tree (declaration_kind bind) h (omega (arith, low)) (bound_forest (suc d) (omega (arith, low)) a)
   declaration_forest d low (Stored.dseq h a b) =
       one_tree (declaration_kind dseq) h (omega (arith, low)) (join (declaration_forest (suc d) (omega (arith, low)) a) (declaration_forest (suc d) (omega (arith, low)) b))
-  declaration_forest d low (Stored.rbnd x h few w a b) =
-      one_tree (declaration_kind rbnd) h (omega (arith, low))
-      (one_tree abs w (omega (arith, low)) (function_forest (suc (suc d)) (omega (arith, low)) a b (block_forest (suc (suc d)) (omega (arith, low)) b)))
 
   bound_forest : {words : List ℕ} {l i j : ℕ} {b : Bound} (d : ℕ) → Levels d l → StoredBound words l i j b → Forest words d i j (bound_lines d b)
   bound_forest d low (Stored.plain_of a) = expression_forest d low a
   bound_forest d low (Stored.ref h a) = one_tree ref h (omega (arith, low)) (expression_forest (suc d) (omega (arith, low)) a)
-  bound_forest d low (Stored.abs few h a b) = one_tree abs h (omega (arith, low)) (function_forest (suc d) (omega (arith, low)) a b (block_forest (suc d) (omega (arith, low)) b))
+  bound_forest d low (Stored.abs few h a b) =
+      one_tree abs h (omega (arith, low)) (join (formals_forest (suc d) (block_depth (suc d) (omega (arith, low)) b) a) (block_forest (suc d) (omega (arith, low)) b))
+    where
+      -- A function's Formals are as deep as its Blk.
+      block_depth : {words : List ℕ} {l i j : ℕ} {b : Block} (d : ℕ) → Levels d l → StoredBlock words l i j b → d ≤ most_depth
+      block_depth d low (Stored.blk h a b) = omega (arith, low)
 
 -- ---- The tree of an image.
 

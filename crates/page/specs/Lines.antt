@@ -1,8 +1,8 @@
 -- The lines of a tree, one a node, in preorder: what each says of its node.
 use Rattle.std.specs.Prelude.{ℕ, suc, ◌+◌, ◌*◌, List, [], ◌∷◌, ◌++◌, length}
-use Rattle.rules.specs.paper.Tree.{Expression, Num, Boo, Id, DeRef, ValRef, Binary, Not, Formal, Command, Assign, Loop, CSeq, block, Call, Cond, Block, Blk, Declaration, Bind, DSeq, Rbnd, Bound, plain, Ref, Abs, Root, expression, command, absent}
+use Rattle.rules.specs.paper.Tree.{Expression, Num, Boo, Id, DeRef, ValRef, Binary, Not, Formal, Command, Assign, Loop, CSeq, block, Call, Cond, Block, Blk, Declaration, Bind, DSeq, Bound, plain, Ref, Abs, Root, expression, command, absent}
 use Rattle.rules.specs.paper.Limits.{names}
-use Rattle.rules.specs.paper.Kinds.{Kind, num, boo, id, deref, valref, binary, negation, assign, loop, cseq, blk, call, conditional, bind, dseq, rbnd, expression_kind, command_kind, declaration_kind, ref, abs, formal}
+use Rattle.rules.specs.paper.Kinds.{Kind, num, boo, id, deref, valref, binary, negation, assign, loop, cseq, blk, call, conditional, bind, dseq, expression_kind, command_kind, declaration_kind, ref, abs, formal}
 use Rattle.rules.specs.claims.Listing.{truth_word}
 
 -- A node, its depth, its kind, its operand, and the first node after its descendants.
@@ -52,8 +52,6 @@ unfoldable mutual
   pub declaration_lines : (depth : ℕ) → Declaration → List Line
   declaration_lines d (Bind p x b) = node_lines d (declaration_kind bind) x p (bound_lines (suc d) b)
   declaration_lines d (DSeq p d₁ d₂) = node_lines d (declaration_kind dseq) 0 p (declaration_lines (suc d) d₁ ++ declaration_lines (suc d) d₂)
-  declaration_lines d (Rbnd p x q fs b) =
-      node_lines d (declaration_kind rbnd) x p (node_lines (suc d) abs (length fs) q (all_lines (formal_lines (suc (suc d))) fs ++ block_lines (suc (suc d)) b))
 
   pub bound_lines : (depth : ℕ) → Bound → List Line
   bound_lines d (plain e) = expression_lines d e

@@ -2,7 +2,7 @@
 use Rattle.std.specs.Prelude.{ℕ, suc, ◌+◌, ◌≡◌, refl, List, [], ◌∷◌, ◌++◌, length, get_or}
 use Rattle.std.proofs.Common.{sym, ap, ◌∙◌, arith, get_or-append-add}
 use Rattle.rules.specs.paper.Reader.{Node}
-use Rattle.rules.specs.paper.Tree.{Expression, Num, Boo, Id, DeRef, ValRef, Binary, Not, Formal, Command, Assign, Loop, CSeq, block, Call, Cond, Block, Blk, Declaration, Bind, DSeq, Rbnd, Bound, plain, Ref, Abs, Root, expression, command, absent}
+use Rattle.rules.specs.paper.Tree.{Expression, Num, Boo, Id, DeRef, ValRef, Binary, Not, Formal, Command, Assign, Loop, CSeq, block, Call, Cond, Block, Blk, Declaration, Bind, DSeq, Bound, plain, Ref, Abs, Root, expression, command, absent}
 use Rattle.rules.specs.claims.Listing.{node_of, expression_nodes, formal_nodes, all_nodes, command_nodes, block_nodes, declaration_nodes, bound_nodes, root_nodes, kind_words, operand_words, image_words}
 use Rattle.page.specs.Lines.{Line, expression_lines, formal_lines, all_lines, command_lines, block_lines, declaration_lines, bound_lines, root_lines}
 
@@ -47,13 +47,6 @@ formal_listed : (d : ℕ) (f : Formal) → line_nodes (formal_lines d f) ≡ for
 unfolding line_nodes
 formal_listed d f = refl
 
--- The Formals and the Blk of an Abs.
-abbrev function_lines : (depth : ℕ) → List Formal → Block → List Line
-function_lines d fs b = all_lines (formal_lines d) fs ++ block_lines d b
-
-function_listed : (d : ℕ) (fs : List Formal) (b : Block) → line_nodes (block_lines d b) ≡ block_nodes b → line_nodes (function_lines d fs b) ≡ all_nodes formal_nodes fs ++ block_nodes b
-function_listed d fs b q = both (all_lines (formal_lines d) fs) (block_lines d b) (all_listed (formal_lines d) formal_nodes (formal_listed d) fs) q
-
 mutual
   unfolding line_nodes command_lines block_lines declaration_lines bound_lines command_nodes block_nodes declaration_nodes bound_nodes
 
@@ -74,12 +67,12 @@ mutual
   declaration_listed : (d : ℕ) (c : Declaration) → line_nodes (declaration_lines d c) ≡ declaration_nodes c
   declaration_listed d (Bind p x b) = under _ (bound_listed (suc d) b)
   declaration_listed d (DSeq p d₁ d₂) = under _ (both (declaration_lines (suc d) d₁) (declaration_lines (suc d) d₂) (declaration_listed (suc d) d₁) (declaration_listed (suc d) d₂))
-  declaration_listed d (Rbnd p x q fs b) = under _ (under _ (function_listed (suc (suc d)) fs b (block_listed (suc (suc d)) b)))
 
   bound_listed : (d : ℕ) (b : Bound) → line_nodes (bound_lines d b) ≡ bound_nodes b
   bound_listed d (plain e) = expression_listed d e
   bound_listed d (Ref p e) = under _ (expression_listed (suc d) e)
-  bound_listed d (Abs p fs b) = under _ (function_listed (suc d) fs b (block_listed (suc d) b))
+  bound_listed d (Abs p fs b) =
+      under _ (both (all_lines (formal_lines (suc d)) fs) (block_lines (suc d) b) (all_listed (formal_lines (suc d)) formal_nodes (formal_listed (suc d)) fs) (block_listed (suc d) b))
 
 pub root_listed : (t : Root) → line_nodes (root_lines t) ≡ root_nodes t
 unfolding line_nodes root_lines root_nodes

@@ -1,7 +1,7 @@
--- The names of the kinds, as the table of kinds has them (paper, "The image"; Cond and Rbnd: document 02).
+-- The names of the kinds, as the table of kinds has them (paper, "The image"; Cond: document 02).
 use Prim.Native.String.{String}
 use Rattle.rules.specs.paper.Tree.{Operator, arithmetic, Eq, order, logic, Sum, Sub, Mul, Div, Lt, Le, Gt, Ge, And, Or}
-use Rattle.rules.specs.paper.Kinds.{Kind, num, boo, id, deref, valref, binary, negation, assign, loop, cseq, blk, call, conditional, bind, dseq, rbnd, expression_kind, command_kind, declaration_kind, ref, abs, formal}
+use Rattle.rules.specs.paper.Kinds.{Kind, num, boo, id, deref, valref, binary, negation, assign, loop, cseq, blk, call, conditional, bind, dseq, expression_kind, command_kind, declaration_kind, ref, abs, formal}
 
 abbrev pub operator_name : Operator → String
 operator_name (arithmetic Sum) = "Sum"
@@ -32,7 +32,6 @@ kind_name (command_kind call) = "Call"
 kind_name (command_kind conditional) = "Cond"
 kind_name (declaration_kind bind) = "Bind"
 kind_name (declaration_kind dseq) = "DSeq"
-kind_name (declaration_kind rbnd) = "Rbnd"
 kind_name ref = "Ref"
 kind_name abs = "Abs"
 kind_name formal = "Formal"

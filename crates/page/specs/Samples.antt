@@ -1,10 +1,10 @@
--- Pages as they look: that of 5 × (3 + 2), that of a function that calls itself, and the widest line.
+-- Pages as they look: that of 5 × (3 + 2), and the widest line.
 use Rattle.std.specs.Prelude.{◌≡◌, refl, [], ◌++◌}
 use Rattle.std.proofs.Common.{arith}
-use Rattle.rules.specs.paper.Tree.{arithmetic, Sum, Mul, Num, Binary, block, Call, Blk, Bind, Rbnd, plain, expression, command, absent}
+use Rattle.rules.specs.paper.Tree.{arithmetic, Sum, Mul, Num, Binary, expression, absent}
 use Rattle.rules.specs.paper.Kinds.{num, expression_kind}
 use Rattle.rules.specs.paper.Decimal.{ascii, digits_within, decimal}
-use Rattle.page.specs.Lines.{line_of, expression_lines, all_lines, command_lines, block_lines, declaration_lines, bound_lines, root_lines}
+use Rattle.page.specs.Lines.{line_of, expression_lines, root_lines}
 use Rattle.page.specs.Page.{line_text, lines_text, page_of}
 use Rattle.page.specs.DecimalLaws.{decimal_computed}
 
@@ -17,20 +17,6 @@ pub a_product :
     ascii "   4  3 Num             2    5\n"
 unfolding page_of root_lines expression_lines lines_text line_text decimal digits_within
 a_product = refl
-
--- Its Rbnd, of name 5, has its Abs as its only child.
-pub a_function_that_calls_itself :
-    page_of (command (block (Blk 0 (Rbnd 1 5 2 [] (Blk 3 (Bind 4 6 (plain (Num 5 1))) (Call 6 5 []))) (Call 7 5 [])))) ≡
-    ascii "   0  1 Blk             0    8\n" ++
-    ascii "   1  2 Rbnd            5    7\n" ++
-    ascii "   2  3 Abs             0    7\n" ++
-    ascii "   3  4 Blk             0    7\n" ++
-    ascii "   4  5 Bind            6    6\n" ++
-    ascii "   5  6 Num             1    6\n" ++
-    ascii "   6  5 Call            5    7\n" ++
-    ascii "   7  2 Call            5    8\n"
-unfolding page_of root_lines expression_lines all_lines command_lines block_lines declaration_lines bound_lines lines_text line_text decimal digits_within
-a_function_that_calls_itself = refl
 
 pub widest_line : line_text (line_of 1999 64 (expression_kind num) 4294967295 2000) ≡ ascii "1999 64 Num    4294967295 2000\n"
 unfolding line_text digits_within

@@ -38,7 +38,6 @@ fn name(kind: usize) -> [u8; NAME_COLUMNS]
         kinds::COND => *b"Cond  ",
         kinds::BIND => *b"Bind  ",
         kinds::DSEQ => *b"DSeq  ",
-        kinds::RBND => *b"Rbnd  ",
         kinds::REF => *b"Ref   ",
         kinds::ABS => *b"Abs   ",
         kinds::FORMAL => *b"Formal",

@@ -9,7 +9,7 @@ use lib.Dec.{T, eqb, eqb→eq, eqb_refl}
 use lib.ListN.{length, drop, replicate, length-replicate, length-append}
 use Rattle.rules.specs.proofs.Basics.{passed_test}
 use Rattle.rules.specs.paper.Limits.{words}
-use Rattle.rules.specs.paper.Kinds.{Kind, num, boo, id, deref, valref, binary, negation, assign, loop, cseq, blk, call, conditional, bind, dseq, rbnd, expression_kind, command_kind, declaration_kind, ref, abs, formal, row_of, upper_part, Sort, an_expression, a_command, a_declaration, a_bound, a_formal, a_Block, a_root, an_abstraction, Children, these, counted, sorts_of, child_sorts}
+use Rattle.rules.specs.paper.Kinds.{Kind, num, boo, id, deref, valref, binary, negation, assign, loop, cseq, blk, call, conditional, bind, dseq, expression_kind, command_kind, declaration_kind, ref, abs, formal, row_of, upper_part, Sort, an_expression, a_command, a_declaration, a_bound, a_formal, a_Block, a_root, Children, these, counted, sorts_of, child_sorts}
 use Rattle.reader.specs.Tables.{sort_numbers, sort_number, sort_of_number, fixed_sorts, counted_sort, sort_after, sort_from_last, count_shift, fixed_at, fixed_room, sorts_at, sort_bits, sort_room, last_children, shift_at, shift_room, row_word, last_sorts, SortedAt}
 use Rattle.reader.proofs.TableRows.{row_of_kind}
 
@@ -34,7 +34,6 @@ counted_children (command_kind call) w h = omega (arith, length-append (replicat
 counted_children (command_kind conditional) w h = uncounted 3 w h
 counted_children (declaration_kind bind) w h = uncounted 1 w h
 counted_children (declaration_kind dseq) w h = uncounted 2 w h
-counted_children (declaration_kind rbnd) w h = uncounted 1 w h
 counted_children ref w h = uncounted 1 w h
 counted_children abs w h = omega (arith, length-append (replicate w a_formal) (a_Block ∷ []), length-replicate w a_formal)
 counted_children formal w h = uncounted 0 w h
@@ -113,7 +112,6 @@ sort_low a_bound = omega arith
 sort_low a_formal = omega arith
 sort_low a_Block = omega arith
 sort_low a_root = omega arith
-sort_low an_abstraction = omega arith
 
 sort_back : (s : Sort) → sort_of_number (sort_number s) ≡ s
 sort_back an_expression = refl
@@ -123,7 +121,6 @@ sort_back a_bound = refl
 sort_back a_formal = refl
 sort_back a_Block = refl
 sort_back a_root = refl
-sort_back an_abstraction = refl
 
 module _ (row left : ℕ) (some_left : 0 < left) (k : Kind) (w : ℕ) (its_row : row ≡ row_word k) (within : left ≤ length (child_sorts k w)) where
   abbrev of_row : ℕ → ℕ

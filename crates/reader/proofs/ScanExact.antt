@@ -6,10 +6,10 @@ use native.Mathlib.Omega.{arith}
 use lib.Dec.{T, eqb, ltb, ltb→lt}
 use lib.ListN.{length, replicate}
 use Rattle.rules.specs.proofs.Basics.{append_nothing}
-use Rattle.rules.specs.paper.Tree.{Num, Boo, Id, DeRef, ValRef, Binary, Not, Formal, Assign, Loop, CSeq, block, Call, Cond, Block, Blk, Bind, DSeq, Rbnd, plain, Ref, Abs, expression, command}
+use Rattle.rules.specs.paper.Tree.{Num, Boo, Id, DeRef, ValRef, Binary, Not, Assign, Loop, CSeq, block, Call, Cond, Blk, Bind, DSeq, plain, Ref, Abs, expression, command}
 use Rattle.rules.specs.paper.Limits.{names}
-use Rattle.rules.specs.paper.Kinds.{Kind, ExpressionKind, CommandKind, DeclarationKind, num, boo, id, deref, valref, binary, negation, assign, loop, cseq, blk, call, conditional, bind, dseq, rbnd, expression_kind, command_kind, declaration_kind, ref, abs, formal, operand_fits, operator_number, upper_part, an_expression, a_command, a_declaration, a_bound, a_formal, a_Block, a_root, an_abstraction}
-use Rattle.rules.specs.paper.Reader.{Node, got, then, ◌>>=◌, give, wants_expression, wants_command, wants_declaration, wants_blk, wants_bound, wants_formal, wants_abstraction, wants_root, BlkKind, blk_kind, BoundKind, plain_kind, ref_kind, abs_kind, FormalKind, formal_kind, AbstractionKind, RootKind, root_expression, root_command, expression_by, command_by, declaration_by, bound_by, root_by, name_part, Function, read_expression, read_many, read_formal, read_command, read_block, read_declaration, read_bound, read_abstraction, read_root}
+use Rattle.rules.specs.paper.Kinds.{Kind, ExpressionKind, CommandKind, DeclarationKind, num, boo, id, deref, valref, binary, negation, assign, loop, cseq, blk, call, conditional, bind, dseq, expression_kind, command_kind, declaration_kind, ref, abs, formal, operand_fits, operator_number, upper_part, an_expression, a_command, a_declaration, a_bound, a_formal, a_Block, a_root}
+use Rattle.rules.specs.paper.Reader.{Node, got, then, ◌>>=◌, give, wants_expression, wants_command, wants_declaration, wants_blk, wants_bound, wants_formal, wants_root, BlkKind, blk_kind, BoundKind, plain_kind, ref_kind, abs_kind, FormalKind, formal_kind, RootKind, root_expression, root_command, expression_by, command_by, declaration_by, bound_by, root_by, name_part, read_expression, read_many, read_formal, read_command, read_block, read_declaration, read_bound, read_root}
 use Rattle.rules.specs.claims.Listing.{truth_word}
 use Rattle.reader.specs.KindNumbers.{boo_number, not_number, loop_number, cseq_number, blk_number, call_number, conditional_number, dseq_number, ref_number, abs_number, formal_number}
 use Rattle.reader.specs.Pack.{node_words, expression_words, formal_words, all_words, command_words, block_words, declaration_words, bound_words, root_words}
@@ -86,18 +86,6 @@ wants_bound_same (declaration_kind k) = refl
 wants_bound_same ref = refl
 wants_bound_same abs = refl
 wants_bound_same formal = refl
-
-abbrev abstraction_only : AbstractionKind → Kind
-abstraction_only k = abs
-
-wants_abstraction_same : (k : Kind) → option_map abstraction_only (wants_abstraction k) ≡ accepting an_abstraction k
-unfolding option_map
-wants_abstraction_same (expression_kind k) = refl
-wants_abstraction_same (command_kind k) = refl
-wants_abstraction_same (declaration_kind k) = refl
-wants_abstraction_same ref = refl
-wants_abstraction_same abs = refl
-wants_abstraction_same formal = refl
 
 abbrev root_only : RootKind → Kind
 root_only (root_expression k) = expression_kind k
@@ -211,43 +199,16 @@ module _ (d : ℕ) (commands : (i : ℕ) (ns : List Node) → map_got command_wo
       two_children d (command_kind blk) w p a_declaration a_command refl (read_declaration d) declaration_words declarations (read_command d) command_words commands
       (λ a b. Blk p a b) block_words (λ a b. zero_operand blk_number w p (declaration_words a ++ command_words b) t) i ns
 
--- The words of an Abs.
-abbrev abstraction_words : (place : ℕ) → List Formal → Block → List ℕ
-abstraction_words p fs b = node_words abs_number (length fs) p (all_words formal_words fs ++ block_words b)
-
-abbrev function_words : Function → List ℕ
-function_words f = abstraction_words f.place f.formals f.body
-
 declaration_kind_same : (d : ℕ) → ((i : ℕ) (ns : List Node) → map_got declaration_words (read_declaration d i ns) ≡ scan d a_declaration i ns) →
     ((i : ℕ) (ns : List Node) → map_got bound_words (read_bound d i ns) ≡ scan d a_bound i ns) →
-    ((i : ℕ) (ns : List Node) → map_got function_words (read_abstraction d i ns) ≡ scan d an_abstraction i ns) →
     (k : DeclarationKind) (w p : ℕ) → T (operand_fits (declaration_kind k) w) → (i : ℕ) (ns : List Node) →
-    map_got declaration_words (declaration_by k p w (read_bound d) (read_declaration d) (read_abstraction d) i ns) ≡ below d (declaration_kind k) w p i ns
+    map_got declaration_words (declaration_by k p w (read_bound d) (read_declaration d) i ns) ≡ below d (declaration_kind k) w p i ns
 unfolding declaration_words operand_fits
-declaration_kind_same d declarations bounds functions bind w p t i ns =
+declaration_kind_same d declarations bounds bind w p t i ns =
     one_child d (declaration_kind bind) w p a_bound refl (read_bound d) bound_words bounds (λ a. Bind p w a) declaration_words (λ a. refl) i ns
-declaration_kind_same d declarations bounds functions dseq w p t i ns =
+declaration_kind_same d declarations bounds dseq w p t i ns =
     two_children d (declaration_kind dseq) w p a_declaration a_declaration refl (read_declaration d) declaration_words declarations (read_declaration d) declaration_words declarations
     (λ a b. DSeq p a b) declaration_words (λ a b. zero_operand dseq_number w p (declaration_words a ++ declaration_words b) t) i ns
-declaration_kind_same d declarations bounds functions rbnd w p t i ns =
-    one_child d (declaration_kind rbnd) w p an_abstraction refl (read_abstraction d) function_words functions (λ f. Rbnd p w f.place f.formals f.body) declaration_words (λ f. refl) i ns
-
--- An Abs whose own node is read: its Formals and its Blk, and what is made of them.
-abstraction_kind_same : {A : Type 0} (d : ℕ) → ((i : ℕ) (ns : List Node) → map_got block_words (read_block d i ns) ≡ scan d a_Block i ns) →
-    (w p : ℕ) (make : List Formal → Block → A) (words : A → List ℕ) → ((fs : List Formal) (b : Block) → words (make fs b) ≡ abstraction_words p fs b) → (i : ℕ) (ns : List Node) →
-    map_got words ((read_many w (read_formal d) >>= λ fs. read_block d >>= λ b. give (make fs b)) i ns) ≡ below d abs w p i ns
-abstraction_kind_same d blocks w p make words made i ns =
-    then_same_with (λ fs. length fs ≡ w) (all_words formal_words) words
-    (read_many w (read_formal d) i ns) (scan_list (scan d) (replicate w a_formal) i ns)
-    (many_counted w (read_formal d) i ns) (many_same d a_formal (read_formal d) formal_words (formal_same d) w i ns)
-    (λ fs. read_block d >>= λ b. give (make fs b))
-    (λ ws j rest. then (then (scan d a_Block j rest) (λ b. give (ws ++ b))) (λ vs. finish abs w p vs))
-    (λ fs q j rest.
-    then_same block_words words (read_block d j rest) (scan d a_Block j rest) (blocks j rest) (λ b. give (make fs b)) (λ b j' rest'. got (node_words abs_number w p (all_words formal_words fs ++ b)) j' rest')
-    (λ b j' rest'. ap (λ x. got x j' rest') (made fs b ∙ ap (λ x. node_words abs_number x p (all_words formal_words fs ++ block_words b)) q))
-    ∙ sym (then_assoc (scan d a_Block j rest) (λ b. give (all_words formal_words fs ++ b)) (λ vs. finish abs w p vs)))
-    ∙ sym (ap (λ x. then x (λ vs. finish abs w p vs)) (list_append (scan d) (replicate w a_formal) a_Block i ns)
-    ∙ then_assoc (scan_list (scan d) (replicate w a_formal) i ns) (λ a. scan d a_Block >>= λ b. give (a ++ b)) (λ vs. finish abs w p vs))
 
 bound_kind_same : (d : ℕ) → ((i : ℕ) (ns : List Node) → map_got block_words (read_block d i ns) ≡ scan d a_Block i ns) →
     (k : BoundKind) (w p : ℕ) → T (operand_fits (bound_only k) w) → (i : ℕ) (ns : List Node) →
@@ -256,7 +217,18 @@ unfolding bound_words operand_fits
 bound_kind_same d blocks (plain_kind k) w p t i ns = then_wrapped plain bound_words (expression_by k p w (read_expression d) i ns) ∙ expression_kind_same d (expression_same d) k w p t i ns
 bound_kind_same d blocks ref_kind w p t i ns =
     one_child d ref w p an_expression refl (read_expression d) expression_words (expression_same d) (λ a. Ref p a) bound_words (λ a. zero_operand ref_number w p (expression_words a) t) i ns
-bound_kind_same d blocks abs_kind w p t i ns = abstraction_kind_same d blocks w p (λ fs b. Abs p fs b) bound_words (λ fs b. refl) i ns
+bound_kind_same d blocks abs_kind w p t i ns =
+    then_same_with (λ fs. length fs ≡ w) (all_words formal_words) bound_words
+    (read_many w (read_formal d) i ns) (scan_list (scan d) (replicate w a_formal) i ns)
+    (many_counted w (read_formal d) i ns) (many_same d a_formal (read_formal d) formal_words (formal_same d) w i ns)
+    (λ fs. read_block d >>= λ b. give (Abs p fs b))
+    (λ ws j rest. then (then (scan d a_Block j rest) (λ b. give (ws ++ b))) (λ vs. finish abs w p vs))
+    (λ fs q j rest.
+    then_same block_words bound_words (read_block d j rest) (scan d a_Block j rest) (blocks j rest) (λ b. give (Abs p fs b)) (λ b j' rest'. got (node_words abs_number w p (all_words formal_words fs ++ b)) j' rest')
+    (λ b j' rest'. ap (λ x. got (node_words abs_number x p (all_words formal_words fs ++ block_words b)) j' rest') q)
+    ∙ sym (then_assoc (scan d a_Block j rest) (λ b. give (all_words formal_words fs ++ b)) (λ vs. finish abs w p vs)))
+    ∙ sym (ap (λ x. then x (λ vs. finish abs w p vs)) (list_append (scan d) (replicate w a_formal) a_Block i ns)
+    ∙ then_assoc (scan_list (scan d) (replicate w a_formal) i ns) (λ a. scan d a_Block >>= λ b. give (a ++ b)) (λ vs. finish abs w p vs))
 
 mutual
   unfolding read_command
@@ -276,21 +248,14 @@ mutual
   declaration_same : (d i : ℕ) (ns : List Node) → map_got declaration_words (read_declaration d i ns) ≡ scan d a_declaration i ns
   declaration_same zero i ns = deep_same wants_declaration a_declaration declaration_kind wants_declaration_same declaration_words i ns
   declaration_same (suc d) i ns =
-      sorted_same d wants_declaration a_declaration declaration_kind wants_declaration_same (λ k p w. declaration_by k p w (read_bound d) (read_declaration d) (read_abstraction d)) declaration_words
-      (declaration_kind_same d (λ j ms. declaration_same d j ms) (λ j ms. bound_same d j ms) (λ j ms. function_same d j ms)) i ns
+      sorted_same d wants_declaration a_declaration declaration_kind wants_declaration_same (λ k p w. declaration_by k p w (read_bound d) (read_declaration d)) declaration_words
+      (declaration_kind_same d (λ j ms. declaration_same d j ms) (λ j ms. bound_same d j ms)) i ns
 
   bound_same : (d i : ℕ) (ns : List Node) → map_got bound_words (read_bound d i ns) ≡ scan d a_bound i ns
   bound_same zero i ns = deep_same wants_bound a_bound bound_only wants_bound_same bound_words i ns
   bound_same (suc d) i ns =
       sorted_same d wants_bound a_bound bound_only wants_bound_same (λ k p w. bound_by k p w (read_expression d) (read_formal d) (read_block d)) bound_words
       (bound_kind_same d (λ j ms. block_same d j ms)) i ns
-
-  function_same : (d i : ℕ) (ns : List Node) → map_got function_words (read_abstraction d i ns) ≡ scan d an_abstraction i ns
-  function_same zero i ns = deep_same wants_abstraction an_abstraction abstraction_only wants_abstraction_same function_words i ns
-  function_same (suc d) i ns =
-      sorted_same d wants_abstraction an_abstraction abstraction_only wants_abstraction_same
-      (λ k p w. read_many w (read_formal d) >>= λ fs. read_block d >>= λ b. give (record { place = p; formals = fs; body = b })) function_words
-      (λ k w p t. abstraction_kind_same d (λ j ms. block_same d j ms) w p (λ fs b. record { place = p; formals = fs; body = b }) function_words (λ fs b. refl)) i ns
 
 root_kind_same : (d : ℕ) (k : RootKind) (w p : ℕ) → T (operand_fits (root_only k) w) → (i : ℕ) (ns : List Node) →
     map_got root_words (root_by k p w (read_expression d) (read_command d) (read_declaration d) i ns) ≡ below d (root_only k) w p i ns

@@ -1,6 +1,6 @@
 -- The numbers of the kinds by name, but for the operators' (operator-number of the rules).
 use Rattle.std.specs.Prelude.{ℕ}
-use Rattle.rules.specs.paper.Kinds.{kind_number, num, boo, id, deref, valref, negation, assign, loop, cseq, blk, call, conditional, bind, dseq, rbnd, expression_kind, command_kind, declaration_kind, ref, abs, formal}
+use Rattle.rules.specs.paper.Kinds.{kind_number, num, boo, id, deref, valref, negation, assign, loop, cseq, blk, call, conditional, bind, dseq, expression_kind, command_kind, declaration_kind, ref, abs, formal}
 
 abbrev pub num_number : ℕ
 num_number = kind_number (expression_kind num)
@@ -43,9 +43,6 @@ bind_number = kind_number (declaration_kind bind)
 
 abbrev pub dseq_number : ℕ
 dseq_number = kind_number (declaration_kind dseq)
-
-abbrev pub rbnd_number : ℕ
-rbnd_number = kind_number (declaration_kind rbnd)
 
 abbrev pub ref_number : ℕ
 ref_number = kind_number ref

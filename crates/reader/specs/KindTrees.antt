@@ -1,10 +1,10 @@
 -- Which tree a kind means: what stands at a node, by the kind in its word, and between which numbers the kinds of each sort lie. Whoever
 -- dispatches on a node's kind cites these.
-use Rattle.std.specs.Prelude.{ℕ, suc, ◌<◌, ◌≤◌, ◌≡◌, refl, Bool, List, get_or}
+use Rattle.std.specs.Prelude.{ℕ, ◌<◌, ◌≤◌, ◌≡◌, refl, Bool, List, get_or}
 use Rattle.std.proofs.Common.{arith}
 use Rattle.rules.specs.paper.Kinds.{operator_number}
-use Rattle.rules.specs.paper.Tree.{Operator, Expression, Num, Boo, Id, DeRef, ValRef, Binary, Not, Formal, Command, Assign, Loop, CSeq, block, Call, Cond, Block, Blk, Declaration, Bind, DSeq, Rbnd, Bound}
-use Rattle.reader.specs.KindNumbers.{num_number, boo_number, id_number, not_number, deref_number, valref_number, assign_number, loop_number, cseq_number, blk_number, call_number, conditional_number, bind_number, dseq_number, rbnd_number, ref_number}
+use Rattle.rules.specs.paper.Tree.{Operator, Expression, Num, Boo, Id, DeRef, ValRef, Binary, Not, Command, Assign, Loop, CSeq, block, Call, Cond, Blk, Declaration, Bind, DSeq, Bound}
+use Rattle.reader.specs.KindNumbers.{num_number, boo_number, id_number, not_number, deref_number, valref_number, assign_number, loop_number, cseq_number, blk_number, call_number, conditional_number, bind_number, dseq_number, ref_number}
 use Rattle.reader.specs.Pack.{packed_kind}
 use Rattle.reader.specs.Stored.{StoredExpression, StoredCommand, StoredDeclaration}
 use Rattle.reader.specs.Stored as Stored
@@ -183,31 +183,21 @@ stored_command_kind s = let k = command_kinds (command_of s) in (omega (arith, r
 pub data DeclarationOf (i : ℕ) : (kind : ℕ) → Declaration → Type 0 where
   bind_at : {x : ℕ} {b : Bound} → DeclarationOf i bind_number (Bind i x b)
   sequence_of_declarations : {d₁ d₂ : Declaration} → DeclarationOf i dseq_number (DSeq i d₁ d₂)
-  rbnd_at : {x : ℕ} {fs : List Formal} {b : Block} → DeclarationOf i rbnd_number (Rbnd i x (suc i) fs b)
 
 pub declaration_of : {words : List ℕ} {d i j : ℕ} {c : Declaration} (s : StoredDeclaration words d i j c) → DeclarationOf i (declaration_root s).kind c
 unfolding declaration_root
 declaration_of (Stored.bind l h a) = bind_at
 declaration_of (Stored.dseq h a b) = sequence_of_declarations
-declaration_of (Stored.rbnd l h g w a b) = rbnd_at
 
 pub is_bind : {i k : ℕ} {c : Declaration} → DeclarationOf i k c → k ≡ bind_number → (x : ℕ) × (b : Bound) × (c ≡ Bind i x b)
 is_bind (bind_at {x = x} {b = b}) q = (x, b, refl)
 is_bind sequence_of_declarations q = absurd (omega (arith, q))
-is_bind rbnd_at q = absurd (omega (arith, q))
 
-pub is_rbnd : {i k : ℕ} {c : Declaration} → DeclarationOf i k c → k ≡ rbnd_number → (x : ℕ) × (fs : List Formal) × (b : Block) × (c ≡ Rbnd i x (suc i) fs b)
-is_rbnd bind_at q = absurd (omega (arith, q))
-is_rbnd sequence_of_declarations q = absurd (omega (arith, q))
-is_rbnd (rbnd_at {x = x} {fs = fs} {b = b}) q = (x, fs, b, refl)
-
-pub is_declaration_sequence : {i k : ℕ} {c : Declaration} → DeclarationOf i k c → (k ≡ bind_number → ⊥) → (k ≡ rbnd_number → ⊥) → (d₁ d₂ : Declaration) × (c ≡ DSeq i d₁ d₂)
-is_declaration_sequence bind_at q r = absurd (q refl)
-is_declaration_sequence (sequence_of_declarations {d₁ = d₁} {d₂ = d₂}) q r = (d₁, d₂, refl)
-is_declaration_sequence rbnd_at q r = absurd (r refl)
+pub is_declaration_sequence : {i k : ℕ} {c : Declaration} → DeclarationOf i k c → (k ≡ bind_number → ⊥) → (d₁ d₂ : Declaration) × (c ≡ DSeq i d₁ d₂)
+is_declaration_sequence bind_at q = absurd (q refl)
+is_declaration_sequence (sequence_of_declarations {d₁ = d₁} {d₂ = d₂}) q = (d₁, d₂, refl)
 
 -- The kinds of declarations are below those of Ref, Abs and Formal.
 pub declaration_kinds : {i k : ℕ} {c : Declaration} → DeclarationOf i k c → (bind_number ≤ k) × (k < ref_number)
 declaration_kinds bind_at = (omega arith, omega arith)
 declaration_kinds sequence_of_declarations = (omega arith, omega arith)
-declaration_kinds rbnd_at = (omega arith, omega arith)

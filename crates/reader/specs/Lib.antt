@@ -9,5 +9,4 @@ pub mod Stored
 pub mod StoredLaws
 pub mod StandingLaws
 pub mod KindTrees
-pub mod BindingLaws
 pub mod SizeLaws

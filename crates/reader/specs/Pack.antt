@@ -2,10 +2,10 @@
 -- operand.
 use Rattle.std.specs.Prelude.{ℕ, suc, ◌+◌, ◌*◌, ◌/◌, ◌%◌, ◌^◌, List, [], ◌∷◌, ◌++◌, length}
 use Rattle.rules.specs.paper.Kinds.{operator_number}
-use Rattle.rules.specs.paper.Tree.{Expression, Num, Boo, Id, DeRef, ValRef, Binary, Not, Formal, Command, Assign, Loop, CSeq, block, Call, Cond, Block, Blk, Declaration, Bind, DSeq, Rbnd, Bound, plain, Ref, Abs, Root, expression, command, absent}
+use Rattle.rules.specs.paper.Tree.{Expression, Num, Boo, Id, DeRef, ValRef, Binary, Not, Formal, Command, Assign, Loop, CSeq, block, Call, Cond, Block, Blk, Declaration, Bind, DSeq, Bound, plain, Ref, Abs, Root, expression, command, absent}
 use Rattle.rules.specs.paper.Limits.{names}
 use Rattle.rules.specs.claims.Listing.{truth_word}
-use Rattle.reader.specs.KindNumbers.{num_number, boo_number, id_number, not_number, deref_number, valref_number, assign_number, loop_number, cseq_number, blk_number, call_number, conditional_number, bind_number, dseq_number, rbnd_number, ref_number, abs_number, formal_number}
+use Rattle.reader.specs.KindNumbers.{num_number, boo_number, id_number, not_number, deref_number, valref_number, assign_number, loop_number, cseq_number, blk_number, call_number, conditional_number, bind_number, dseq_number, ref_number, abs_number, formal_number}
 
 -- The kinds' numbers are below this one.
 abbrev pub kinds_room : ℕ
@@ -77,7 +77,6 @@ unfoldable mutual
   pub declaration_words : Declaration → List ℕ
   declaration_words (Bind p x b) = node_words bind_number x p (bound_words b)
   declaration_words (DSeq p d₁ d₂) = node_words dseq_number 0 p (declaration_words d₁ ++ declaration_words d₂)
-  declaration_words (Rbnd p x q fs b) = node_words rbnd_number x p (node_words abs_number (length fs) q (all_words formal_words fs ++ block_words b))
 
   pub bound_words : Bound → List ℕ
   bound_words (plain e) = expression_words e

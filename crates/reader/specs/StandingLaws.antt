@@ -7,7 +7,7 @@ use Rattle.rules.specs.paper.Kinds.{operator_number}
 use Rattle.rules.specs.paper.Tree.{Operator, arithmetic, Eq, order, logic, Sum, Sub, Mul, Div, Lt, Le, Gt, Ge, And, Or, Expression, Formal, Command, Block, Declaration, Bound, Root, absent}
 use Rattle.reader.specs.KindNumbers.{id_number, not_number}
 use Rattle.reader.specs.Pack.{kinds_room, packed_kind, packed_end}
-use Rattle.reader.specs.Stored.{HasWord, kind_is, end_is, StoredExpression, num, boo, id, deref, valref, binary, negation, StoredActuals, no_actuals, one_actual, StoredFormals, no_formals, one_formal, StoredCommand, assign, loop, cseq, block_of, call, conditional, StoredBlock, blk, StoredDeclaration, bind, dseq, rbnd, StoredBound, plain_of, ref, abs, StoredRoot, root_expression, root_command, root_absent, RootAt}
+use Rattle.reader.specs.Stored.{HasWord, kind_is, end_is, StoredExpression, num, boo, id, deref, valref, binary, negation, StoredActuals, no_actuals, one_actual, StoredFormals, no_formals, one_formal, StoredCommand, assign, loop, cseq, block_of, call, conditional, StoredBlock, blk, StoredDeclaration, bind, dseq, StoredBound, plain_of, ref, abs, StoredRoot, root_expression, root_command, root_absent, RootAt}
 
 -- ---- Places, and the parts of an operand.
 
@@ -87,7 +87,6 @@ command_root (conditional h a b c) = rooted h (omega arith)
 unfoldable pub declaration_root : {words : List ℕ} {d i j : ℕ} {c : Declaration} → StoredDeclaration words d i j c → Rooted words i j
 declaration_root (bind l h a) = rooted h (omega arith)
 declaration_root (dseq h a b) = rooted h (omega arith)
-declaration_root (rbnd l h g w a b) = rooted h (omega arith)
 
 -- The root is one of the nodes, and the reader's word has its kind and where the next tree stands.
 pub root_low : {words : List ℕ} {i j : ℕ} → Rooted words i j → i < most_nodes
@@ -157,7 +156,6 @@ mutual
   pub declaration_on : {words : List ℕ} {d i j : ℕ} {c : Declaration} → StoredDeclaration words d i j c → i < j
   declaration_on (bind l h a) = omega (arith, bound_on a)
   declaration_on (dseq h a b) = omega (arith, declaration_on a, declaration_on b)
-  declaration_on (rbnd l h g w a b) = omega (arith, formals_on a, block_on b)
 
   pub bound_on : {words : List ℕ} {d i j : ℕ} {b : Bound} → StoredBound words d i j b → i < j
   bound_on (plain_of a) = expression_on a

@@ -3,11 +3,11 @@
 use Rattle.std.specs.Prelude.{ℕ, suc, ◌+◌, ◌*◌, ◌<◌, ◌≤◌, ◌≡◌, Bool, List, [], ◌∷◌, length, get_or}
 use Rattle.std.proofs.Common.{ap, ◌∙◌}
 use Rattle.rules.specs.paper.Kinds.{operator_number}
-use Rattle.rules.specs.paper.Tree.{Operator, Expression, Num, Boo, Id, DeRef, ValRef, Binary, Not, Formal, Command, Assign, Loop, CSeq, block, Call, Cond, Block, Blk, Declaration, Bind, DSeq, Rbnd, Bound, plain, Ref, Abs, Root, expression, command, absent}
+use Rattle.rules.specs.paper.Tree.{Operator, Expression, Num, Boo, Id, DeRef, ValRef, Binary, Not, Formal, Command, Assign, Loop, CSeq, block, Call, Cond, Block, Blk, Declaration, Bind, DSeq, Bound, plain, Ref, Abs, Root, expression, command, absent}
 use Rattle.rules.specs.paper.Limits as Limits
 use Rattle.rules.specs.paper.Limits.{most_nodes, most_depth, names, codes, most_parameters}
 use Rattle.rules.specs.claims.Listing.{truth_word}
-use Rattle.reader.specs.KindNumbers.{num_number, boo_number, id_number, not_number, deref_number, valref_number, assign_number, loop_number, cseq_number, blk_number, call_number, conditional_number, bind_number, dseq_number, rbnd_number, ref_number, abs_number, formal_number}
+use Rattle.reader.specs.KindNumbers.{num_number, boo_number, id_number, not_number, deref_number, valref_number, assign_number, loop_number, cseq_number, blk_number, call_number, conditional_number, bind_number, dseq_number, ref_number, abs_number, formal_number}
 use Rattle.reader.specs.Pack.{kinds_room, pack, packed_kind, packed_end, packed_operand}
 use Rattle.reader.specs.PackLaws.{kind_fits, end_fits, kind_back, end_back, operand_back}
 
@@ -63,9 +63,6 @@ mutual
   pub data StoredDeclaration (words : List ℕ) : (depth place next : ℕ) → Declaration → Type 0 where
     bind : {d i j x : ℕ} {b : Bound} → x < names → HasWord words i bind_number x j → StoredBound words d (suc i) j b → StoredDeclaration words (suc d) i j (Bind i x b)
     dseq : {d i j k : ℕ} {d₁ d₂ : Declaration} → HasWord words i dseq_number 0 k → StoredDeclaration words d (suc i) j d₁ → StoredDeclaration words d j k d₂ → StoredDeclaration words (suc d) i k (DSeq i d₁ d₂)
-    -- its Abs stands behind it
-    rbnd : {d i j k x : ℕ} {fs : List Formal} {b : Block} → x < names → HasWord words i rbnd_number x k → length fs ≤ most_parameters → HasWord words (suc i) abs_number (length fs) k →
-        StoredFormals words (suc (suc i)) j fs → StoredBlock words d j k b → StoredDeclaration words (suc (suc d)) i k (Rbnd i x (suc i) fs b)
 
   pub data StoredBound (words : List ℕ) : (depth place next : ℕ) → Bound → Type 0 where
     plain_of : {d i j : ℕ} {e : Expression} → StoredExpression words d i j e → StoredBound words d i j (plain e)

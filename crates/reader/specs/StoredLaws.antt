@@ -6,9 +6,9 @@ use native.Mathlib.Omega.{arith}
 use Rattle.rules.specs.paper.Kinds.{operator_number}
 use Rattle.rules.specs.paper.Tree.{Expression, Formal, Command, Block, Declaration, Bound, Root}
 use Rattle.rules.specs.paper.Limits as Limits
-use Rattle.rules.specs.paper.Limits.{most_nodes, names, most_depth, most_parameters}
+use Rattle.rules.specs.paper.Limits.{most_nodes, names, most_depth}
 use Rattle.rules.specs.claims.Listing.{truth_word}
-use Rattle.reader.specs.KindNumbers.{num_number, boo_number, id_number, not_number, deref_number, valref_number, assign_number, loop_number, cseq_number, blk_number, call_number, conditional_number, bind_number, dseq_number, rbnd_number, ref_number, abs_number, formal_number}
+use Rattle.reader.specs.KindNumbers.{num_number, boo_number, id_number, not_number, deref_number, valref_number, assign_number, loop_number, cseq_number, blk_number, call_number, conditional_number, bind_number, dseq_number, ref_number, abs_number, formal_number}
 use Rattle.rules.specs.claims.Shape.{ShapedExpression, ShapedFormal, Many, none_left, one_more, ShapedCommand, ShapedBlock, ShapedDeclaration, ShapedBound, ShapedRoot}
 use Rattle.rules.specs.claims.Shape as Shape
 use Rattle.reader.specs.Pack.{pack, node_words, expression_words, formal_words, all_words, command_words, block_words, declaration_words, bound_words, root_words}
@@ -85,8 +85,6 @@ mutual
   declaration_next : {d i j : ℕ} {dec : Declaration} → ShapedDeclaration d i j dec → j ≡ i + length (declaration_words dec)
   declaration_next (Shape.bind h g) = omega (arith, bound_next g)
   declaration_next (Shape.dseq {i = i} {j = j} {k = k} {d₁ = d₁} {d₂ = d₂} h g) = next_two i j k (declaration_words d₁) (declaration_words d₂) (declaration_next h) (declaration_next g)
-  declaration_next (Shape.rbnd {d = d} {i = i} {j = j} {k = k} {fs = fs} {b = b} l g m h) =
-      omega (arith, next_two (suc i) j k (all_words formal_words fs) (block_words b) (many_next (ShapedFormal d) formal_words (λ i j f s. formal_next s) m) (block_next h))
 
   bound_next : {d i j : ℕ} {b : Bound} → ShapedBound d i j b → j ≡ i + length (bound_words b)
   bound_next (Shape.plain_of h) = expression_next h
@@ -149,30 +147,6 @@ module _ (words : List ℕ) where
       after : (i : ℕ) → i + 1 ≡ suc i
       after i = omega arith
 
-  -- The parts of an Abs: its own word, its Formals and its Blk, which `block` stores.
-  record FunctionStored (d i k : ℕ) (fs : List Formal) (b : Block) : Type 0 where
-    middle : ℕ
-    few : length fs ≤ most_parameters
-    word : HasWord words i abs_number (length fs) k
-    formals : StoredFormals words (suc i) middle fs
-    block : StoredBlock words d middle k b
-
-  abbrev function_words : (place : ℕ) → List Formal → Block → List ℕ
-  function_words p fs b = node_words abs_number (length fs) p (all_words formal_words fs ++ block_words b)
-
-  function_stored : {d i j k : ℕ} {fs : List Formal} {b : Block} → length fs ≤ most_parameters → Many Formal (ShapedFormal d) (suc i) j fs → k ≡ j + length (block_words b) →
-      (Segment words j (block_words b) → StoredBlock words d j k b) → k ≤ most_nodes → Segment words i (function_words i fs b) → FunctionStored d i k fs b
-  function_stored {d} {i} {j} {k} {fs} {b} g m r block l s =
-      let q = many_next (ShapedFormal d) formal_words (λ i j f s. formal_next s) m in
-      let t = tail_of i abs_number (length fs) (all_words formal_words fs ++ block_words b) s in
-      record {
-        middle = j;
-        few = g;
-        word = word_of words i abs_number (length fs) k (all_words formal_words fs ++ block_words b) s (next_two i j k (all_words formal_words fs) (block_words b) q r) l (omega arith);
-        formals = formals_stored m (omega (arith, r, l)) (segment_left words (suc i) (all_words formal_words fs) (block_words b) t);
-        block = block (subst (λ n. Segment words n (block_words b)) (sym q) (segment_right words (suc i) (all_words formal_words fs) (block_words b) t));
-      }
-
   mutual
     unfolding command_words
 
@@ -230,18 +204,18 @@ module _ (words : List ℕ) where
         Stored.dseq (word_of words i dseq_number 0 k (declaration_words d₁ ++ declaration_words d₂) s (next_two i j k (declaration_words d₁) (declaration_words d₂) q r) l (omega arith))
         (declaration_stored h (omega (arith, r, l)) (segment_left words (suc i) (declaration_words d₁) (declaration_words d₂) t))
         (declaration_stored g l (subst (λ m. Segment words m (declaration_words d₂)) (sym q) (segment_right words (suc i) (declaration_words d₁) (declaration_words d₂) t)))
-    declaration_stored (Shape.rbnd {i = i} {k = k} {x = x} {fs = fs} {b = b} n g m h) l s =
-        let below = function_words (suc i) fs b in
-        let f = function_stored g m (block_next h) (λ t. block_stored h l t) l (tail_of i rbnd_number x below s) in
-        Stored.rbnd n (word_of words i rbnd_number x k below s (declaration_next (Shape.rbnd n g m h)) l (omega arith)) f.few f.word f.formals f.block
 
     bound_stored : {d i j : ℕ} {b : Bound} → ShapedBound d i j b → j ≤ most_nodes → Segment words i (bound_words b) → StoredBound words d i j b
     bound_stored (Shape.plain_of h) l s = Stored.plain_of (expression_stored h l s)
     bound_stored (Shape.ref {i = i} {j = j} {e = e} h) l s =
         Stored.ref (word_of words i ref_number 0 j (expression_words e) s (omega (arith, expression_next h)) l (omega arith)) (expression_stored h l (tail_of i ref_number 0 (expression_words e) s))
-    bound_stored (Shape.abs g m h) l s =
-        let f = function_stored g m (block_next h) (λ t. block_stored h l t) l s in
-        Stored.abs f.few f.word f.formals f.block
+    bound_stored (Shape.abs {d = d} {i = i} {j = j} {k = k} {fs = fs} {b = b} g m h) l s =
+        let q = many_next (ShapedFormal d) formal_words (λ i j f s. formal_next s) m in
+        let r = block_next h in
+        let t = tail_of i abs_number (length fs) (all_words formal_words fs ++ block_words b) s in
+        Stored.abs g (word_of words i abs_number (length fs) k (all_words formal_words fs ++ block_words b) s (next_two i j k (all_words formal_words fs) (block_words b) q r) l (omega arith))
+        (formals_stored m (omega (arith, r, l)) (segment_left words (suc i) (all_words formal_words fs) (block_words b) t))
+        (block_stored h l (subst (λ n. Segment words n (block_words b)) (sym q) (segment_right words (suc i) (all_words formal_words fs) (block_words b) t)))
 
   root_stored : {d i j : ℕ} {t : Root} → ShapedRoot d i j t → j ≤ most_nodes → Segment words i (root_words t) → StoredRoot words d i j t
   unfolding root_words
@@ -301,7 +275,6 @@ module _ (words words' : List ℕ) (same : SameNodes words words') where
     pub same_declaration : {d i j : ℕ} {c : Declaration} → StoredDeclaration words d i j c → StoredDeclaration words' d i j c
     same_declaration (Stored.bind l h a) = Stored.bind l (same_word h) (same_bound a)
     same_declaration (Stored.dseq h a b) = Stored.dseq (same_word h) (same_declaration a) (same_declaration b)
-    same_declaration (Stored.rbnd l h g w a b) = Stored.rbnd l (same_word h) g (same_word w) (same_formals a) (same_block b)
 
     pub same_bound : {d i j : ℕ} {b : Bound} → StoredBound words d i j b → StoredBound words' d i j b
     same_bound (Stored.plain_of a) = Stored.plain_of (same_expression a)

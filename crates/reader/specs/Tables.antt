@@ -3,13 +3,13 @@ use Rattle.std.specs.Prelude.{ℕ, zero, suc, ◌+◌, ◌-◌, ◌*◌, ◌^◌
 use Rattle.std.proofs.Math.Option.{Option, none, some}
 use Rattle.rules.specs.paper.Refusals.{refusal_number}
 use Rattle.rules.specs.paper.Refusals as Refusals
-use Rattle.rules.specs.paper.Kinds.{Kind, kind_of, row_of, operand_fits, Children, these, counted, Sort, an_expression, a_command, a_declaration, a_bound, a_formal, a_Block, a_root, an_abstraction, is_of}
+use Rattle.rules.specs.paper.Kinds.{Kind, kind_of, row_of, operand_fits, Children, these, counted, Sort, an_expression, a_command, a_declaration, a_bound, a_formal, a_Block, a_root, is_of}
 
 -- ---- The sorts by number.
 
 -- The numbers of the sorts are those below this one.
 abbrev pub sort_numbers : ℕ
-sort_numbers = 8
+sort_numbers = 7
 
 abbrev pub sort_number : Sort → ℕ
 sort_number an_expression = 0
@@ -19,7 +19,6 @@ sort_number a_bound = 3
 sort_number a_formal = 4
 sort_number a_Block = 5
 sort_number a_root = 6
-sort_number an_abstraction = 7
 
 abbrev pub sort_of_number : ℕ → Sort
 sort_of_number zero = an_expression
@@ -28,20 +27,19 @@ sort_of_number (suc (suc zero)) = a_declaration
 sort_of_number (suc (suc (suc zero))) = a_bound
 sort_of_number (suc (suc (suc (suc zero)))) = a_formal
 sort_of_number (suc (suc (suc (suc (suc zero))))) = a_Block
-sort_of_number (suc (suc (suc (suc (suc (suc zero)))))) = a_root
-sort_of_number (suc (suc (suc (suc (suc (suc (suc n))))))) = an_abstraction
+sort_of_number (suc (suc (suc (suc (suc (suc n)))))) = a_root
 
 -- ---- The word of a row.
 
 -- Where the parts of a row begin, after the sorts that the kind is of, and the room that they have.
 abbrev pub fixed_at : ℕ
-fixed_at = 8
+fixed_at = 7
 
 abbrev pub fixed_room : ℕ
 fixed_room = 4
 
 abbrev pub sorts_at : ℕ
-sorts_at = 10
+sorts_at = 9
 
 abbrev pub sort_bits : ℕ
 sort_bits = 3
@@ -50,13 +48,13 @@ abbrev pub sort_room : ℕ
 sort_room = 8
 
 abbrev pub shift_at : ℕ
-shift_at = 22
+shift_at = 21
 
 abbrev pub shift_room : ℕ
 shift_room = 64
 
 abbrev pub operands_at : ℕ
-operands_at = 28
+operands_at = 27
 
 abbrev pub bit : Bool → ℕ
 bit true = 1

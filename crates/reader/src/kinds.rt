@@ -49,8 +49,6 @@ pub const BIND: usize = 30;
 
 pub const DSEQ: usize = 31;
 
-pub const RBND: usize = 32;
-
 pub const REF: usize = 40;
 
 pub const ABS: usize = 41;

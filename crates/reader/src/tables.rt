@@ -1,9 +1,9 @@
 // The table of kinds: one row a kind, packed in a word, and what a row says of a node. A row, from its lowest bit on:
-//   8 bits   the sorts that the kind is of, bit s for the sort with number s
+//   7 bits   the sorts that the kind is of, bit s for the sort with number s
 //   2 bits   how many children it has beside those that its operand counts
 //   12 bits  the sorts of its last four children, from the last one on; the fourth is also that of all children before it
 //   6 bits   how far an operand is shifted to give the children that it counts; a word's bits, which leaves 0, for none
-//   36 bits  the number that its operands are below
+//   37 bits  the number that its operands are below
 ghost use Rattle.std.specs.Prelude.{◌≡◌, ℕ, ◌<◌, ◌≤◌, length};
 ghost use Rattle.rules.specs.paper.Limits.{words};
 ghost use Rattle.rules.specs.paper.Kinds.{Kind, child_sorts};
@@ -26,24 +26,22 @@ const BLOCK: u64 = 5;
 
 pub(crate) const ROOT: u64 = 6;
 
-const ABSTRACTION: u64 = 7;
-
 // Where the parts of a row begin, and the room that they have.
-const FIXED_AT: usize = 8;
+const FIXED_AT: usize = 7;
 
 const FIXED_ROOM: u64 = 4;
 
-const SORTS_AT: usize = 10;
+const SORTS_AT: usize = 9;
 
 const SORT_BITS: usize = 3;
 
 const SORT_ROOM: u64 = 8;
 
-const SHIFT_AT: usize = 22;
+const SHIFT_AT: usize = 21;
 
 const SHIFT_ROOM: u64 = 64;
 
-const OPERANDS_AT: usize = 28;
+const OPERANDS_AT: usize = 27;
 
 // Where the sorts of the last four children begin.
 const LAST_CHILDREN: usize = 4;
@@ -66,8 +64,6 @@ const IS_BLOCK: u64 = 1 << COMMAND | 1 << BLOCK | 1 << ROOT;
 const IS_DECLARATION: u64 = 1 << DECLARATION;
 
 const IS_BOUND: u64 = 1 << BOUND;
-
-const IS_ABSTRACTION: u64 = 1 << BOUND | 1 << ABSTRACTION;
 
 const IS_FORMAL: u64 = 1 << FORMAL;
 
@@ -161,15 +157,9 @@ const DSEQ_ROW: u64 = IS_DECLARATION
     | DECLARATION << LAST
     | ZERO;
 
-const RBND_ROW: u64 = IS_DECLARATION | ONE_CHILD | ABSTRACTION << LAST | A_NAME;
-
 const REF_ROW: u64 = IS_BOUND | ONE_CHILD | EXPRESSION << LAST | ZERO;
 
-const ABS_ROW: u64 = IS_ABSTRACTION
-    | COUNTED_AND_ONE
-    | FORMAL * EACH_BEFORE
-    | BLOCK << LAST
-    | A_COUNT;
+const ABS_ROW: u64 = IS_BOUND | COUNTED_AND_ONE | FORMAL * EACH_BEFORE | BLOCK << LAST | A_COUNT;
 
 const FORMAL_ROW: u64 = IS_FORMAL | NO_CHILD | NAME_AND_CODE;
 
@@ -203,7 +193,6 @@ pub(crate) fn row(kind: usize) -> u64
         kinds::COND => COND_ROW,
         kinds::BIND => BIND_ROW,
         kinds::DSEQ => DSEQ_ROW,
-        kinds::RBND => RBND_ROW,
         kinds::REF => REF_ROW,
         kinds::ABS => ABS_ROW,
         kinds::FORMAL => FORMAL_ROW,

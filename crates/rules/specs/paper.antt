@@ -19,7 +19,6 @@ pub mod Engine
 pub mod Ranges
 pub mod Cases
 pub mod Choices
-pub mod Recursions
 pub mod Quotients
 pub mod Prices
 pub mod Spans

@@ -35,7 +35,7 @@ abbrev pub meaning_number : Meaning → ℕ
 meaning_number (code c) = c
 meaning_number (function fs) = function_number
 
--- What the number of a meaning leaves open: of a function, the Formals that stand after its Abs, the node after its Bind or Rbnd.
+-- What the number of a meaning leaves open: of a function, the Formals that stand after its Abs, the node after its Bind.
 pub data MeaningAt (words : List ℕ) (node : ℕ) : Meaning → Type 0 where
   code_at : {c : ℕ} → c < codes → MeaningAt words node (code c)
   function_at : {fs : List Formal} {e j : ℕ} → HasWord words (suc node) 41 (length fs) e → StoredFormals words (suc (suc node)) j fs → MeaningAt words node (function fs)

@@ -53,8 +53,8 @@ In a release build a second is enough for about 5,000 images of check, 500 of ru
 images take 20 seconds, 3 minutes, 1 minute, 1 minute, 5 minutes, 2 minutes and 5 minutes.
 On a terminal the count and the time left are shown on standard error.
 
-families: small medium large faulty sequences choices functions recursion divisions
-          ranges limits damaged empty shaped plausible words host
+families: small medium large faulty sequences choices functions divisions ranges
+          limits damaged empty shaped plausible words host
 ";
 
 /// Compares one sample and counts what it was answered.

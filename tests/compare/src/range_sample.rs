@@ -21,16 +21,15 @@ pub const RUN_CUT_OFF: &str = "run within the limits, cut off";
 
 /// For ranges: most of what has ends, some of all else.
 pub const RANGED: Mixture = [
-    (7, Family::Small),
+    (8, Family::Small),
     (4, Family::Medium),
     (2, Family::Large),
     (3, Family::Faulty),
-    (5, Family::Sequences),
+    (6, Family::Sequences),
     (6, Family::Choices),
     (6, Family::Functions),
-    (4, Family::Recursion),
     (3, Family::Divisions),
-    (38, Family::Ranges),
+    (40, Family::Ranges),
     (7, Family::Limits),
     (5, Family::Damaged),
     (3, Family::Empty),

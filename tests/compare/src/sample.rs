@@ -41,25 +41,24 @@ pub struct Sample {
 }
 
 /// How many of each hundred samples are of which family.
-pub type Mixture = [(usize, Family); 17];
+pub type Mixture = [(usize, Family); 16];
 
 /// For checks, and for calls on bytes. Large cases take the second interpreter
 /// longest and are seldom.
 pub const CHECKED: Mixture = [
-    (10, Family::Small),
+    (11, Family::Small),
     (5, Family::Medium),
     (2, Family::Large),
     (5, Family::Faulty),
-    (7, Family::Sequences),
-    (7, Family::Choices),
-    (5, Family::Functions),
-    (7, Family::Recursion),
+    (8, Family::Sequences),
+    (8, Family::Choices),
+    (6, Family::Functions),
     (2, Family::Divisions),
     (2, Family::Ranges),
     (6, Family::Limits),
-    (15, Family::Damaged),
+    (17, Family::Damaged),
     (4, Family::Empty),
-    (7, Family::Shaped),
+    (8, Family::Shaped),
     (7, Family::Plausible),
     (4, Family::Words),
     (5, Family::Host),
@@ -67,15 +66,14 @@ pub const CHECKED: Mixture = [
 
 /// For runs, the program's too, and for pages: more of what passes the checker.
 pub const RUN: Mixture = [
-    (13, Family::Small),
-    (7, Family::Medium),
+    (15, Family::Small),
+    (8, Family::Medium),
     (4, Family::Large),
-    (7, Family::Faulty),
-    (8, Family::Sequences),
-    (8, Family::Choices),
-    (6, Family::Functions),
-    (8, Family::Recursion),
-    (5, Family::Divisions),
+    (8, Family::Faulty),
+    (9, Family::Sequences),
+    (9, Family::Choices),
+    (7, Family::Functions),
+    (6, Family::Divisions),
     (3, Family::Ranges),
     (8, Family::Limits),
     (6, Family::Damaged),
@@ -88,14 +86,13 @@ pub const RUN: Mixture = [
 
 /// For needs: more functions and Conds, and more near the limits.
 pub const NEEDED: Mixture = [
-    (11, Family::Small),
+    (12, Family::Small),
     (7, Family::Medium),
     (3, Family::Large),
     (4, Family::Faulty),
-    (9, Family::Sequences),
-    (11, Family::Choices),
-    (18, Family::Functions),
-    (4, Family::Recursion),
+    (10, Family::Sequences),
+    (12, Family::Choices),
+    (19, Family::Functions),
     (1, Family::Divisions),
     (4, Family::Ranges),
     (9, Family::Limits),

@@ -37,7 +37,6 @@ HOLDS(smallest_page, PI_PAGE_BYTES(0) == 0 && PI_PAGE_BYTES(1) == PI_PAGE_LINE_B
 HOLDS(largest_page, PI_PAGE_BYTES(PI_MOST_NODES) == 62000);
 HOLDS(registers_are_cells, PI_MOST_REGISTERS <= PI_MOST_CELLS && PI_MOST_REGISTERS <= PI_NAMES);
 HOLDS(kinds, PI_KIND_NUM == 1 && PI_KIND_ASSIGN == 20 && PI_KIND_COND == 25 && PI_KIND_BIND == 30);
-HOLDS(declarations, PI_KIND_DSEQ == 31 && PI_KIND_RBND == 32 && PI_KIND_REF == 40);
 HOLDS(limits, PI_MOST_DEPTH == 64 && PI_MOST_BUDGET == 1000000 && PI_MOST_COUNT == 8);
 HOLDS(room, PI_MOST_BINDINGS == 512 && PI_MOST_VALUES == 512 && PI_MOST_CONTROL == 512);
 HOLDS(stack, PI_STACK_WORD_FORMS < PI_STACK_BYTE_FORMS && PI_STACK_WORD_FORMS < PI_STACK_RANGES);
@@ -78,14 +77,6 @@ static const uint8_t bytes[PI_IMAGE_BYTES(1)] = {
 /* Register 0 becomes one more: 4 nodes. */
 static const uint32_t one_more[PI_IMAGE_WORDS(4)] = {
     4, 1, PI_KIND_ASSIGN, PI_KIND_SUM, PI_KIND_ID, PI_KIND_NUM, 0, 0, 0, 1,
-};
-
-/* A function that calls itself and so never returns: 8 nodes. */
-static const uint32_t recursion[PI_IMAGE_WORDS(8)] = {
-    8, 1,
-    PI_KIND_BLK, PI_KIND_RBND, PI_KIND_ABS, PI_KIND_BLK, PI_KIND_BIND, PI_KIND_NUM, PI_KIND_CALL,
-    PI_KIND_CALL,
-    0, 1, 0, 0, 2, 3, PI_OPERAND(1, 0), PI_OPERAND(1, 0),
 };
 
 static uint64_t work[PI_WORK_WORDS];
@@ -150,14 +141,5 @@ int main(void)
     ranged = give_ends(one_more, PI_IMAGE_WORDS(4), lowest, 1, highest, 1, work, PI_WORK_WORDS);
     if (ranged.refusal != PI_REFUSAL_UNSAFE_ARITHMETIC || ranged.place != 1 || lowest[0] != 21)
         return 13;
-    ranged = pi_ranges(recursion, PI_IMAGE_WORDS(8), lowest, 1, highest, 1, work, PI_WORK_WORDS);
-    if (ranged.refusal != PI_REFUSAL_RECURSION || ranged.place != 0 || lowest[0] != 21)
-        return 14;
-    needs = pi_needs(recursion, PI_IMAGE_WORDS(8), work, PI_WORK_WORDS);
-    if (needs.refusal != PI_REFUSAL_RECURSION || name_of(needs.refusal) == 0 || needs.values != 0)
-        return 15;
-    ran = pi_run(recursion, PI_IMAGE_WORDS(8), lowest, 1, PI_MOST_BUDGET, work, PI_WORK_WORDS);
-    if (ran.refusal != PI_REFUSAL_VALUES || ran.values != PI_MOST_VALUES)
-        return 16;
     return 0;
 }

@@ -42,7 +42,6 @@ int of_kind(PiKind kind)
         return 2;
     case PI_KIND_BIND:
     case PI_KIND_DSEQ:
-    case PI_KIND_RBND:
         return 3;
     case PI_KIND_REF:
     case PI_KIND_ABS:
@@ -108,8 +107,6 @@ int of_refusal(PiRefusal refusal)
     case PI_REFUSAL_LOOP:
     case PI_REFUSAL_UNSAFE_ARITHMETIC:
         return 7;
-    case PI_REFUSAL_RECURSION:
-        return 8;
     }
     return 0;
 }

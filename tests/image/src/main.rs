@@ -37,15 +37,13 @@ usage: image COMMAND FILE
                          the routine is refused
   needs FILE             what a text's routine needs at most before it is loaded: entries
                          of control and of values, cells, bindings, and steps, which are
-                         open where it has a Loop; or where it is refused, as one with an
-                         Rbnd is
+                         open where it has a Loop; or where it is refused
   page FILE              the page of a text's routine, a line for each node: the node, its
                          depth, the kind's name, the operand and the first node after its
                          descendants; or where it is refused
   ranges FILE RANGE..    between which ends a text's routine leaves each register that
                          starts within a range, LOWEST..HIGHEST or one integer for both:
-                         `register I LOWEST..HIGHEST`; or where it is refused, as one
-                         with a Loop or an Rbnd is
+                         `register I LOWEST..HIGHEST`; or where it is refused
   refusals               the refusals, one a line: number, name and what it says
   help                   prints this, and so does --help behind any command
 

@@ -74,17 +74,8 @@ pub fn wanted_name(wanted: Wanted) -> &'static str {
         Wanted::Command => "a command",
         Wanted::Declaration => "a declaration",
         Wanted::Bound => "an expression, Ref or Abs",
-        Wanted::Abs => "an Abs",
         Wanted::Formal => "a Formal",
         Wanted::Blk => "a Blk",
-    }
-}
-
-/// What is said beside a child that is of another sort, or missing.
-fn hint_for(wanted: Wanted) -> &'static str {
-    match wanted {
-        Wanted::Abs => "; an Rbnd binds a function, and a Bind a value or a cell too",
-        _ => "",
     }
 }
 
@@ -101,7 +92,6 @@ pub fn fixed_children(kind: Kind) -> &'static [Wanted] {
         Kind::Blk => &[Declaration, Command],
         Kind::Bind => &[Bound],
         Kind::DSeq => &[Declaration, Declaration],
-        Kind::Rbnd => &[Abs],
         // Their counts are in the operand.
         Kind::Call | Kind::Abs => &[],
     }
@@ -214,7 +204,7 @@ impl Parser {
         }
         let row = self.row()?;
         if !wanted.admits(row) {
-            return fault(position, format!("{must}, not {}{}", row.name, hint_for(wanted)));
+            return fault(position, format!("{must}, not {}", row.name));
         }
         if depth > MOST_DEPTH {
             return fault(position, format!("depth {depth}: no tree is deeper than {MOST_DEPTH}"));
@@ -249,7 +239,7 @@ impl Parser {
             Kind::Num => self.plain_number(),
             Kind::Boo => self.truth(),
             Kind::Id | Kind::DeRef | Kind::ValRef => self.number("a name", name),
-            Kind::Assign | Kind::Call | Kind::Bind | Kind::Rbnd => self.number("a name", name),
+            Kind::Assign | Kind::Call | Kind::Bind => self.number("a name", name),
             Kind::Formal => {
                 let name = self.number("a name", name)?;
                 Ok(name + NAMES * self.number("a type code", CODES - 1)?)
@@ -273,7 +263,7 @@ impl Parser {
     }
 
     /// A child that the node must have. Where a command of a Cond is missing the fault
-    /// says what its two are for, and where the Abs of an Rbnd is, what that is for.
+    /// says what its two are for.
     fn child(
         &mut self,
         of: &Row,
@@ -287,7 +277,7 @@ impl Parser {
                     (Kind::Cond, Wanted::Command) => {
                         "; the first of its two runs if the test is true, else the second"
                     }
-                    _ => hint_for(wanted),
+                    _ => "",
                 };
                 let missing = format!("{} of the {} at {begun}", wanted_name(wanted), of.name);
                 fault(position, format!("{missing} is missing{hint}"))

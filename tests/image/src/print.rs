@@ -52,8 +52,9 @@ fn on_one_line(node: Node, room: usize) -> Option<String> {
 fn head(node: Node) -> String {
     let operand = node.operand();
     let said = match node.kind() {
-        Kind::Num | Kind::Id | Kind::DeRef | Kind::ValRef => format!(" {operand}"),
-        Kind::Assign | Kind::Bind | Kind::Rbnd => format!(" {operand}"),
+        Kind::Num | Kind::Id | Kind::DeRef | Kind::ValRef | Kind::Assign | Kind::Bind => {
+            format!(" {operand}")
+        }
         Kind::Boo => format!(" {}", operand == 1),
         Kind::Call => format!(" {}", operand % NAMES),
         Kind::Formal => format!(" {} {}", operand % NAMES, operand / NAMES),

@@ -182,7 +182,7 @@ fn label(row: &Row, operand: Option<u32>) -> String {
         Kind::Num | Kind::Boo | Kind::Id | Kind::DeRef | Kind::ValRef => {
             format!("{kind} {operand}")
         }
-        Kind::Assign | Kind::Bind | Kind::Rbnd => format!("{kind} {operand}"),
+        Kind::Assign | Kind::Bind => format!("{kind} {operand}"),
         Kind::Call => format!("{kind} {} of {} actuals", operand % NAMES, operand / NAMES),
         Kind::Abs => format!("{kind} of {operand} Formals"),
         Kind::Formal => format!("{kind} {} of code {}", operand % NAMES, operand / NAMES),

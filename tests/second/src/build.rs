@@ -119,17 +119,9 @@ pub fn bind_ref(name: Name, value: Expression) -> Declaration {
 
 /// Bind to an Abs: a function. Each formal is its name and its type code.
 pub fn bind_abs(name: Name, formals: &[(Name, Code)], body: Blk) -> Declaration {
-    Declaration::Bind(Bind { place: 0, name, bound: Bound::Abs(abs(formals, body)) })
-}
-
-fn abs(formals: &[(Name, Code)], body: Blk) -> Abs {
     let formals = formals.iter().map(|&(name, code)| Formal { place: 0, name, code }).collect();
-    Abs { place: 0, formals, body: Box::new(body) }
-}
-
-/// Rbnd: a function that may call itself.
-pub fn rbnd(name: Name, formals: &[(Name, Code)], body: Blk) -> Declaration {
-    Declaration::Rbnd(Rbnd { place: 0, name, abs: abs(formals, body) })
+    let abs = Abs { place: 0, formals, body: Box::new(body) };
+    Declaration::Bind(Bind { place: 0, name, bound: Bound::Abs(abs) })
 }
 
 pub fn dseq(first: Declaration, second: Declaration) -> Declaration {

@@ -54,7 +54,7 @@ enum Task<'t> {
     Leave(Names<'t>, usize),
 }
 
-/// The ends of the registers after a routine that has no Loop and no Rbnd; or the node with the first
+/// The ends of the registers after a routine that has no Loop; or the node with the first
 /// operation that is not safe.
 pub fn carry(routine: &Routine, starts: &[Range]) -> Result<Vec<Range>, Place> {
     let mut carrying = Carrying::start(routine, starts);
@@ -179,9 +179,7 @@ impl<'t> Carrying<'t> {
                 self.tasks.push(Task::Make);
                 self.put(&node.value);
             }
-            Node::Loop(_) | Node::Rbnd(_) | Node::Abs(..) | Node::Formal(_) => {
-                panic!("{node:?} is no task")
-            }
+            Node::Loop(_) | Node::Abs(_) | Node::Formal(_) => panic!("{node:?} is no task"),
         }
     }
 

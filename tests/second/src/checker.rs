@@ -178,18 +178,11 @@ fn declaration<'t>(scope: &Scope<'t>, node: &'t Declaration) -> Result<Scope<'t>
             require(!on_both, refusal::REPEATED, node.place)?;
             Ok(first.joined(&second))
         }
-        Declaration::Rbnd(node) => {
-            // Its own name is one of those that its Blk sees around it, so a Formal
-            // of that name hides it.
-            let own = (node.name, Meaning::Function(&node.abs.formals));
-            abs(&scope.with(own), &node.abs)?;
-            Ok(Scope::empty().with(own))
-        }
     }
 }
 
-/// An Abs: its Blk sees the names around it, then the Formals. Around that of a Bind
-/// there is not its own name.
+/// An Abs: its Blk sees the names around the Bind, then the Formals; not its
+/// own name.
 fn abs<'t>(scope: &Scope<'t>, node: &'t Abs) -> Result<(), Refusal> {
     let mut formals = Scope::empty();
     for formal in &node.formals {

@@ -5,7 +5,7 @@
 use crate::carried::Range;
 use crate::checker::{self, Passed};
 use crate::execution::Execution;
-use crate::needs::{self, without_recursion, Needs};
+use crate::needs::{self, Needs};
 use crate::page::lines_of;
 use crate::ranges::ends;
 use crate::reader;
@@ -93,8 +93,7 @@ pub fn run_passed(routine: &Routine, registers: &mut [i64], budget: u64) -> Repl
     Reply { outcome, steps: execution.steps(), marks }
 }
 
-/// The needs alone test 22, then the image, then 45, then 40. This effort is made to find
-/// them.
+/// The needs alone test 22, then the image, then 40. This effort is made to find them.
 pub fn needs(image: &[u32], work_length: usize, effort: u64) -> Needs {
     if work_length < WORK_WORDS {
         return Needs::Refused(Refusal::whole(refusal::WORK));
@@ -118,8 +117,8 @@ pub fn page(image: &[u32], page: &mut [u8], work_length: usize) -> Result<(), Re
     Ok(())
 }
 
-/// Ranges test 22, then the image, then 45, then 20 for either list, then what the starts and the
-/// routine are refused with. The ends take the place of the starts; a refusal keeps both lists.
+/// Ranges test 22, then the image, then 20 for either list, then what the starts and the routine
+/// are refused with. The ends take the place of the starts; a refusal keeps both lists.
 pub fn ranges(
     image: &[u32],
     lowest: &mut [i64],
@@ -130,7 +129,6 @@ pub fn ranges(
         return Err(Refusal::whole(refusal::WORK));
     }
     let (routine, _) = pass(image)?;
-    without_recursion(&routine)?;
     if [lowest.len(), highest.len()] != [routine.registers as usize; 2] {
         return Err(Refusal::whole(refusal::REGISTERS));
     }

@@ -33,7 +33,6 @@ pub enum Kind {
     Cond,
     Bind,
     DSeq,
-    Rbnd,
     Ref,
     Abs,
     Formal,
@@ -62,7 +61,7 @@ const fn row(number: u32, kind: Kind, name: &'static str, sort: Sort, greatest: 
     Row { number, kind, name, sort, greatest_operand: greatest }
 }
 
-pub const TABLE: [Row; 29] = [
+pub const TABLE: [Row; 28] = [
     row(1, Kind::Num, "Num", Sort::Expression, u32::MAX),
     row(2, Kind::Boo, "Boo", Sort::Expression, 1),
     row(3, Kind::Id, "Id", Sort::Expression, NAME),
@@ -88,7 +87,6 @@ pub const TABLE: [Row; 29] = [
     row(25, Kind::Cond, "Cond", Sort::Command, 0),
     row(30, Kind::Bind, "Bind", Sort::Declaration, NAME),
     row(31, Kind::DSeq, "DSeq", Sort::Declaration, 0),
-    row(32, Kind::Rbnd, "Rbnd", Sort::Declaration, NAME),
     row(40, Kind::Ref, "Ref", Sort::Ref, 0),
     row(41, Kind::Abs, "Abs", Sort::Abs, MOST_COUNT),
     row(42, Kind::Formal, "Formal", Sort::Formal, NAME + NAMES * (CODES - 1)),
@@ -114,8 +112,6 @@ pub enum Wanted {
     Declaration,
     /// A Bind's child: expression, Ref or Abs.
     Bound,
-    /// An Rbnd's child.
-    Abs,
     Formal,
     /// The last child of an Abs.
     Blk,
@@ -129,7 +125,6 @@ impl Wanted {
             Wanted::Command => row.sort == Sort::Command,
             Wanted::Declaration => row.sort == Sort::Declaration,
             Wanted::Bound => matches!(row.sort, Sort::Expression | Sort::Ref | Sort::Abs),
-            Wanted::Abs => row.sort == Sort::Abs,
             Wanted::Formal => row.sort == Sort::Formal,
             Wanted::Blk => row.kind == Kind::Blk,
         }

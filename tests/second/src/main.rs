@@ -31,9 +31,7 @@ usage: second COMMAND [--hex]
                              each: `control N`, `values N`, `cells N`, `bindings N`
                              and `steps N` or `steps open`; or `refused N at P`.
                              Where the runs are too many to go through, each line
-                             has what some of them reach: `control at least N`.
-                             With an Rbnd in the tree it is `refused 45 at 0`, and
-                             so it is for ranges
+                             has what some of them reach: `control at least N`
   page                       standard input: an image; prints its page, a line for
                              each node: the node, its depth, the kind's name, the
                              operand and the first node after its descendants; or
@@ -54,8 +52,8 @@ usage: second COMMAND [--hex]
 With --hex, program, run, check, needs, page, ranges and show read words in
 hexadecimal, as generate prints them, in place of little-endian bytes.
 
-families: small medium large faulty sequences choices functions recursion divisions
-          ranges limits damaged empty shaped plausible words host
+families: small medium large faulty sequences choices functions divisions ranges
+          limits damaged empty shaped plausible words host
 
 Exit status: 0 where the command is done, a refusal printed too; 2 where the
 command line or the input is wrong or a stream fails.

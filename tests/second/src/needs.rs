@@ -1,6 +1,6 @@
 //! The needs of a routine before it is loaded: the most control entries, value entries,
 //! cells and bindings over all states of all free runs, and the most steps of a free run
-//! if no Loop is in the tree. With an Rbnd in it they are not known.
+//! if no Loop is in the tree.
 //!
 //! They are found by going through the free runs, both ways at each test. So that no part is
 //! gone through again and again, the states are known again at crossings: where two ways
@@ -11,7 +11,7 @@ use crate::alike::Alike;
 use crate::effect::Effect;
 use crate::free_run::{FreeRun, Next};
 use crate::node::Node;
-use crate::refusal::{Refusal, RECURSION, TOO_MANY_STEPS};
+use crate::refusal::{Refusal, TOO_MANY_STEPS};
 use crate::state::Heights;
 use crate::tree::Routine;
 use std::collections::HashMap;
@@ -70,9 +70,6 @@ impl Needs {
 /// The needs of a routine that has passed, as far as they show with this effort: each
 /// state gone through counts one, and so does each entry of a state that is kept.
 pub fn needs(routine: &Routine, effort: u64) -> Needs {
-    if let Err(refusal) = without_recursion(routine) {
-        return Needs::Refused(refusal);
-    }
     let open = has_loop(routine);
     let mut search = Search::new(if open { u64::MAX } else { MOST_STEPS }, effort);
     let too_many = Needs::Refused(Refusal::whole(TOO_MANY_STEPS));
@@ -91,16 +88,6 @@ pub fn needs(routine: &Routine, effort: u64) -> Needs {
 /// Whether there is a Loop in the tree, also in a function that is never called.
 pub fn has_loop(routine: &Routine) -> bool {
     routine.root.preorder().iter().any(|(node, _)| matches!(node, Node::Loop(_)))
-}
-
-/// 45 where an Rbnd is in the tree, also where no one calls its function: a free run may
-/// not end then, nor its room.
-pub fn without_recursion(routine: &Routine) -> Result<(), Refusal> {
-    let is_rbnd = |node: &Node| matches!(node, Node::Rbnd(_));
-    match routine.root.preorder().iter().any(|(node, _)| is_rbnd(node)) {
-        true => Err(Refusal::whole(RECURSION)),
-        false => Ok(()),
-    }
 }
 
 /// A search through the free runs of a routine.

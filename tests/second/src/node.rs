@@ -17,10 +17,8 @@ pub enum Node<'t> {
     Cond(&'t Cond),
     Bind(&'t Bind),
     DSeq(&'t DSeq),
-    Rbnd(&'t Rbnd),
     Ref(&'t Ref),
-    /// An Abs, and where it is an Rbnd's, the function's own name.
-    Abs(&'t Abs, Option<Name>),
+    Abs(&'t Abs),
     Formal(&'t Formal),
 }
 
@@ -36,9 +34,8 @@ impl<'t> Node<'t> {
             Node::Cond(node) => node.place,
             Node::Bind(node) => node.place,
             Node::DSeq(node) => node.place,
-            Node::Rbnd(node) => node.place,
             Node::Ref(node) => node.place,
-            Node::Abs(node, _) => node.place,
+            Node::Abs(node) => node.place,
             Node::Formal(node) => node.place,
         }
     }
@@ -62,9 +59,8 @@ impl<'t> Node<'t> {
             Node::Cond(_) => Kind::Cond,
             Node::Bind(_) => Kind::Bind,
             Node::DSeq(_) => Kind::DSeq,
-            Node::Rbnd(_) => Kind::Rbnd,
             Node::Ref(_) => Kind::Ref,
-            Node::Abs(..) => Kind::Abs,
+            Node::Abs(_) => Kind::Abs,
             Node::Formal(_) => Kind::Formal,
         }
     }
@@ -81,8 +77,7 @@ impl<'t> Node<'t> {
             Node::Assign(node) => node.name,
             Node::Call(node) => node.name + NAMES * node.actuals.len() as u32,
             Node::Bind(node) => node.name,
-            Node::Rbnd(node) => node.name,
-            Node::Abs(node, _) => node.formals.len() as u32,
+            Node::Abs(node) => node.formals.len() as u32,
             Node::Formal(node) => node.name + NAMES * node.code,
             Node::Loop(_)
             | Node::CSeq(_)
@@ -111,9 +106,8 @@ impl<'t> Node<'t> {
             }
             Node::Bind(node) => vec![(&node.bound).into()],
             Node::DSeq(node) => vec![(&node.first).into(), (&node.second).into()],
-            Node::Rbnd(node) => vec![node.function()],
             Node::Ref(node) => vec![(&node.value).into()],
-            Node::Abs(node, _) => {
+            Node::Abs(node) => {
                 let mut children: Vec<Node> = node.formals.iter().map(Node::Formal).collect();
                 children.push(Node::Blk(&node.body));
                 children
@@ -131,13 +125,6 @@ impl<'t> Node<'t> {
             pending.extend(node.children().into_iter().rev().map(|child| (child, depth + 1)));
         }
         listed
-    }
-}
-
-impl Rbnd {
-    /// Its Abs, which has its name.
-    pub fn function(&self) -> Node<'_> {
-        Node::Abs(&self.abs, Some(self.name))
     }
 }
 
@@ -193,7 +180,6 @@ impl<'t> From<&'t Declaration> for Node<'t> {
         match node {
             Declaration::Bind(node) => Node::Bind(node),
             Declaration::DSeq(node) => Node::DSeq(node),
-            Declaration::Rbnd(node) => Node::Rbnd(node),
         }
     }
 }
@@ -209,7 +195,7 @@ impl<'t> From<&'t Bound> for Node<'t> {
         match node {
             Bound::Expression(node) => Node::Expression(node),
             Bound::Ref(node) => Node::Ref(node),
-            Bound::Abs(node) => Node::Abs(node, None),
+            Bound::Abs(node) => Node::Abs(node),
         }
     }
 }

@@ -1,11 +1,11 @@
 //! Registers known only within limits: from a lowest and a highest start for each, a lowest
-//! and a highest end, or the first refusal of 45, 42, 43, 40, 33 to 36 and 44.
+//! and a highest end, or the first refusal of 42, 43, 40, 33 to 36 and 44.
 
 use crate::both_ways::both_ways;
 use crate::carried::Range;
 use crate::carrying::carry;
 use crate::execution::reasons_of_room;
-use crate::needs::{has_loop, without_recursion, MOST_STEPS};
+use crate::needs::{has_loop, MOST_STEPS};
 use crate::refusal::{Refusal, CROSSED_LIMITS, LOOP, TOO_MANY_STEPS, UNSAFE_ARITHMETIC};
 use crate::tree::Routine;
 use std::fmt;
@@ -14,7 +14,6 @@ use std::str::FromStr;
 /// The range of each register at the end of a routine that has passed, by its range at the
 /// start.
 pub fn ends(routine: &Routine, starts: &[Range]) -> Result<Vec<Range>, Refusal> {
-    without_recursion(routine)?;
     if starts.iter().any(|start| start.lowest > start.highest) {
         return Err(Refusal::whole(CROSSED_LIMITS));
     }

@@ -196,11 +196,6 @@ impl Reader<'_> {
                 let second = Box::new(self.declaration(depth + 1)?);
                 Declaration::DSeq(DSeq { place, first, second })
             }
-            Kind::Rbnd => {
-                let function = self.head(Wanted::Abs, depth + 1)?;
-                let abs = self.abs_of(function, depth + 1)?;
-                Declaration::Rbnd(Rbnd { place, name: head.name(), abs })
-            }
             other => unreachable!("{other:?} is no declaration"),
         })
     }

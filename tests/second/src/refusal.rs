@@ -63,9 +63,6 @@ pub const CROSSED_LIMITS: u32 = 42;
 pub const LOOP: u32 = 43;
 pub const UNSAFE_ARITHMETIC: u32 = 44;
 
-// Caused by the wish for the needs, or for the ranges, of a routine with an Rbnd.
-pub const RECURSION: u32 = 45;
-
 /// Refusals 1 to 22 come before the first step: they report 0 steps and keep
 /// the registers.
 pub fn before_the_run(number: u32) -> bool {
@@ -91,7 +88,7 @@ const fn whole(number: u32, name: &'static str, sentence: &'static str) -> Row {
 }
 
 /// Every refusal, by number.
-pub const TABLE: [Row; 27] = [
+pub const TABLE: [Row; 26] = [
     whole(LENGTH, "length", "the length does not fit the counts"),
     whole(COUNTS, "counts", "n is above 2,000, or r is above 16"),
     at_node(KIND, "kind", "no such kind of node"),
@@ -122,7 +119,6 @@ pub const TABLE: [Row; 27] = [
         "unsafe arithmetic",
         "an end leaves the integers, or the divisor's range holds 0",
     ),
-    whole(RECURSION, "recursion", "an Rbnd is in the tree, so neither needs nor ranges are known"),
 ];
 
 /// The row of a refusal.

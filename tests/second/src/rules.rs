@@ -74,17 +74,12 @@ fn at_node<'t>(node: Node<'t>, state: &State<'t>, effect: &mut Effect<'t>) {
             effect.put(&node.second);
             effect.mark(Mark::DSeqSecond);
         }
-        Node::Rbnd(node) => {
-            effect.values.push(ValueEntry::Name(node.name));
-            effect.put(node.function());
-            effect.mark(Mark::Bind);
-        }
         Node::Ref(node) => {
             effect.put(&node.value);
             effect.mark(Mark::Ref);
         }
-        Node::Abs(abs, own_name) => {
-            let closure = Closure { abs, own_name, environment: state.environment.clone() };
+        Node::Abs(abs) => {
+            let closure = Closure { abs, environment: state.environment.clone() };
             effect.values.push(ValueEntry::Closure(closure));
         }
         Node::Formal(_) => stuck("a Formal is on control"),
@@ -215,8 +210,7 @@ fn at_mark<'t>(mark: Mark<'t>, state: &State<'t>, effect: &mut Effect<'t>) -> Re
     Ok(())
 }
 
-/// A Call's mark: the closure's environment, the name of a function that knows its own
-/// with that same closure, and the Formals; then its Blk.
+/// A Call's mark: the closure's environment plus the Formals, then its Blk.
 fn at_call_mark<'t>(node: &'t Call, state: &State<'t>, effect: &mut Effect<'t>) {
     let Some(Bindable::Closure(closure)) = state.look(node.name) else {
         stuck(&format!("Call of {}: no closure", node.name));
@@ -227,12 +221,6 @@ fn at_call_mark<'t>(node: &'t Call, state: &State<'t>, effect: &mut Effect<'t>) 
     }
     // The actuals ran last to first, so the first one's value is on top.
     let mut environment = closure.environment.clone();
-    let mut bound = formals.len();
-    if let Some(own) = closure.own_name {
-        environment = environment.with((own, Bindable::Closure(closure.clone())));
-        // One binding more, hidden by a Formal or not.
-        bound += 1;
-    }
     for (depth, formal) in formals.iter().enumerate() {
         let actual = Bindable::Value(value_at(state, depth));
         environment = environment.with((formal.name, actual));
@@ -242,7 +230,7 @@ fn at_call_mark<'t>(node: &'t Call, state: &State<'t>, effect: &mut Effect<'t>) 
     effect.values.push(ValueEntry::Environment(state.environment.clone()));
     effect.environment = Some(environment);
     effect.locations = Some(LocationSet::empty());
-    effect.bindings = Some(state.bindings + bound);
+    effect.bindings = Some(state.bindings + formals.len());
     effect.put(Node::Blk(&closure.abs.body));
     effect.mark(Mark::BlkSecond { place: node.place, bindings: state.bindings });
 }

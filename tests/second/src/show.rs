@@ -33,8 +33,7 @@ fn label(node: Node) -> String {
         | Kind::DeRef
         | Kind::ValRef
         | Kind::Assign
-        | Kind::Bind
-        | Kind::Rbnd => format!("{kind} {operand}"),
+        | Kind::Bind => format!("{kind} {operand}"),
         Kind::Call => format!("{kind} {} of {} actuals", operand % NAMES, operand / NAMES),
         Kind::Abs => format!("{kind} of {operand} Formals"),
         Kind::Formal => format!("{kind} {} of code {}", operand % NAMES, operand / NAMES),

@@ -22,7 +22,6 @@ pub enum Mark<'t> {
     Loop,
     Cond,
     Ref,
-    /// That of a Bind, and of an Rbnd.
     Bind,
     /// A DSeq's first mark: its first declaration has run, and the second is to
     /// see its names.
@@ -60,12 +59,10 @@ pub enum Bindable<'t> {
     Closure(Closure<'t>),
 }
 
-/// A closure: Formals and Blk of an Abs, the function's own name if it is an Rbnd's, and
-/// the environment it was met in.
+/// A closure: Formals and Blk of an Abs, and the environment it was met in.
 #[derive(Clone, Debug)]
 pub struct Closure<'t> {
     pub abs: &'t Abs,
-    pub own_name: Option<Name>,
     pub environment: Environment<'t>,
 }
 
@@ -80,9 +77,8 @@ pub struct State<'t> {
     pub environment: Environment<'t>,
     pub store: Store,
     pub locations: LocationSet,
-    /// Live bindings: r, plus the name of each Bind and Rbnd from its mark and each
-    /// call's Formals from its mark, with one more where the function knows its own
-    /// name, until the block or call is left.
+    /// Live bindings: r, plus each Bind's name from its mark and each call's
+    /// Formals from its mark, until the block or call is left.
     pub bindings: usize,
 }
 

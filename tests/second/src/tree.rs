@@ -117,7 +117,6 @@ pub struct Cond {
 pub enum Declaration {
     Bind(Bind),
     DSeq(DSeq),
-    Rbnd(Rbnd),
 }
 
 #[derive(Clone, Debug, PartialEq, Eq)]
@@ -140,14 +139,6 @@ pub struct DSeq {
     pub place: Place,
     pub first: Box<Declaration>,
     pub second: Box<Declaration>,
-}
-
-/// A function that knows its own name.
-#[derive(Clone, Debug, PartialEq, Eq)]
-pub struct Rbnd {
-    pub place: Place,
-    pub name: Name,
-    pub abs: Abs,
 }
 
 #[derive(Clone, Debug, PartialEq, Eq)]

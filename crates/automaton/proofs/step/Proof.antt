@@ -2,7 +2,6 @@
 use Prim.Native.Nat.{ℕ, ◌+◌, ◌-◌, ◌<◌, ◌≤◌}
 use mathlib.Core.Path.{◌≡◌, refl, sym, ap, ◌∙◌}
 use mathlib.Core.List.{List}
-use mathlib.Core.Option.{Option}
 use native.Mathlib.Omega.{arith}
 use lib.ListN.{get_or}
 use Rattle.rules.specs.paper.Tree.{Expression, Formal, Command, Block, Declaration}
@@ -132,7 +131,7 @@ close-requires c κs =
     let start = c.before.before.before.before.before.before.before.before.before.before in
     let held = applicable start.args.work.now start.args.m (get_or start.args.work.now (top_control + start.args.m.control) 0) refl start.requires in
     let kind_is = c.before.before.before.before.before.kind.ensures in
-    select_abstraction start.args.work.now (get_or start.args.work.now (top_control + start.args.m.control) 0) (λ i. Applicable start.args.work.now (lowered start.args.m) (get_or start.args.work.now (top_control + start.args.m.control) 0) i → (p : ℕ) × (own : Option ℕ) × (fs : List Formal) × (d : Block) × Applicable start.args.work.now (lowered start.args.m) (get_or start.args.work.now (top_control + start.args.m.control) 0) (abstraction p own fs d)) held.0 c.before.before.before.before.before.before.before.if1.false (omega (arith, kind_is, c.before.before.if4.false)) (λ q. c.before.if5.false (kind_is ∙ q)) (λ p own fs d a. (p, own, fs, d, a)) held.1
+    select_abstraction start.args.work.now (get_or start.args.work.now (top_control + start.args.m.control) 0) (λ i. Applicable start.args.work.now (lowered start.args.m) (get_or start.args.work.now (top_control + start.args.m.control) 0) i → (p : ℕ) × (fs : List Formal) × (d : Block) × Applicable start.args.work.now (lowered start.args.m) (get_or start.args.work.now (top_control + start.args.m.control) 0) (abstraction p fs d)) held.0 c.before.before.before.before.before.before.before.if1.false (omega (arith, kind_is, c.before.before.if4.false)) (λ q. c.before.if5.false (kind_is ∙ q)) (λ p fs d a. (p, fs, d, a)) held.1
 
 same-length-6 : tie.Need-same-length-6
 same-length-6 c = search rules

@@ -2,7 +2,6 @@
 use Prim.Native.Nat.{ℕ, zero, suc, ◌+◌, ◌-◌, ◌<◌, ◌≤◌}
 use mathlib.Core.Path.{◌≡◌, refl, sym, ap, ◌∙◌, subst}
 use mathlib.Core.List.{List, [], ◌∷◌}
-use mathlib.Core.Option.{Option}
 use native.Mathlib.Omega.{arith}
 use lib.ListN.{get_or}
 use Rattle.rules.specs.paper.Tree.{Expression, Formal, Command, Block, Declaration}
@@ -59,12 +58,12 @@ module _ (words : List ℕ) (w : ℕ) (P : Item → Type 0) where
   select_reference (mark_sort l) h t f = absurd (omega (arith, l, h))
 
   pub select_abstraction : {i : Item} → ItemSort words w i → w < mark_base → 40 ≤ packed_kind (get_or words w 0) → (packed_kind (get_or words w 0) ≡ 40 → ⊥) →
-      ((p : ℕ) (own : Option ℕ) (fs : List Formal) (b : Block) → P (abstraction p own fs b)) → P i
+      ((p : ℕ) (fs : List Formal) (b : Block) → P (abstraction p fs b)) → P i
   select_abstraction (expression_sort l k) h s t f = absurd (omega (arith, k, s))
   select_abstraction (command_sort l a b) h s t f = absurd (omega (arith, b, s))
   select_abstraction (declaration_sort l a b) h s t f = absurd (omega (arith, b, s))
   select_abstraction (reference_sort l q) h s t f = absurd (t q)
-  select_abstraction (abstraction_sort {p = p} {own = own} {fs = fs} {b = b} l q) h s t f = f p own fs b
+  select_abstraction (abstraction_sort {p = p} {fs = fs} {b = b} l q) h s t f = f p fs b
   select_abstraction (mark_sort l) h s t f = absurd (omega (arith, l, h))
 
 -- ---- The state that the machine holds, at the item taken off.

@@ -2,17 +2,16 @@
 use Prim.Native.Nat.{ℕ, zero, suc, ◌+◌, ◌-◌, ◌<◌, ◌≤◌}
 use mathlib.Core.Path.{◌≡◌, refl, sym, ap, ◌∙◌, subst}
 use mathlib.Core.List.{List, [], ◌∷◌}
-use mathlib.Core.Option.{Option}
 use native.Mathlib.Omega.{arith}
 use lib.Dec.{lit<}
 use lib.ListN.{length, get_or}
-use Rattle.rules.specs.paper.Tree.{Expression, Formal, Command, Block, Declaration, Abs}
+use Rattle.rules.specs.paper.Tree.{Expression, Formal, Command, Block, Declaration}
 use Rattle.rules.specs.paper.States.{Environment, Store, Entry, Item, Mark, expression, command, declaration, reference, abstraction, mark}
 use Rattle.rules.specs.paper.Rules.{Rule, Effect}
 use Rattle.rules.specs.paper.Limits.{most_nodes}
 use Rattle.machine.specs.Layout.{top_control, mark_base}
 use Rattle.reader.specs.Pack.{kinds_room, packed_kind}
-use Rattle.reader.specs.Stored.{HasWord, kind_is, StoredBound}
+use Rattle.reader.specs.Stored.{HasWord, kind_is}
 use Rattle.reader.specs.Stored as Stored
 use Rattle.reader.specs.StandingLaws.{expression_root, command_root, declaration_root, root_low}
 use Rattle.reader.specs.KindTrees.{expression_of, expression_kinds, command_of, command_kinds, declaration_of, declaration_kinds}
@@ -69,15 +68,12 @@ pub data ItemSort (words : List ℕ) (w : ℕ) : Item → Type 0 where
   command_sort : {c : Command} → w < most_nodes → 20 ≤ packed_kind (get_or words w 0) → packed_kind (get_or words w 0) < 30 → ItemSort words w (command c)
   declaration_sort : {d : Declaration} → w < most_nodes → 30 ≤ packed_kind (get_or words w 0) → packed_kind (get_or words w 0) < 40 → ItemSort words w (declaration d)
   reference_sort : {p : ℕ} {e : Expression} → w < most_nodes → packed_kind (get_or words w 0) ≡ 40 → ItemSort words w (reference p e)
-  abstraction_sort : {p : ℕ} {own : Option ℕ} {fs : List Formal} {b : Block} → w < most_nodes → packed_kind (get_or words w 0) ≡ 41 → ItemSort words w (abstraction p own fs b)
+  abstraction_sort : {p : ℕ} {fs : List Formal} {b : Block} → w < most_nodes → packed_kind (get_or words w 0) ≡ 41 → ItemSort words w (abstraction p fs b)
   mark_sort : {k : Mark} → mark_base ≤ w → ItemSort words w (mark k)
 
 module _ (words : List ℕ) (m : Machine) where
   kind_of_node : {i k w e : ℕ} → HasWord (regions words m).nodes i k w e → k < kinds_room → packed_kind (get_or words i 0) ≡ k
   kind_of_node h low = kind_is (node_word words m h) low
-
-  function_sort : {d w j p : ℕ} {own : Option ℕ} {fs : List Formal} {b : Block} → StoredBound (regions words m).nodes d w j (Abs p fs b) → ItemSort words w (abstraction p own fs b)
-  function_sort (Stored.abs l k f s) = abstraction_sort k.place_low (kind_of_node k (lit< tt))
 
   item_sort : {mode : Mode} {w : ℕ} {ws : List ℕ} {i : Item} {C : List Item} → ControlAs (regions words m).nodes mode (w ∷ ws) (i ∷ C) → ItemSort words w i
   item_sort (expression_on s h) = let r = expression_root s in expression_sort (root_low r) (omega (arith, node_kind words m r, expression_kinds (expression_of s)))
@@ -92,7 +88,7 @@ module _ (words : List ℕ) (m : Machine) where
       let k = declaration_kinds (declaration_of s) in
       declaration_sort (root_low r) (omega (arith, q, k.0)) (omega (arith, q, k.1))
   item_sort (reference_on (Stored.ref k s) h) = reference_sort k.place_low (kind_of_node k (lit< tt))
-  item_sort (abstraction_on f h) = function_sort f.stored
+  item_sort (abstraction_on (Stored.abs l k f s) h) = abstraction_sort k.place_low (kind_of_node k (lit< tt))
   item_sort (operator_on q h) = mark_sort (omega (arith, q))
   item_sort (not_on q h) = mark_sort (omega (arith, q))
   item_sort (assign_on q h) = mark_sort (omega (arith, q))

@@ -1,5 +1,4 @@
--- Formals, what the child of a Bind or an Rbnd means, and declarations.
+-- Formals, what a Bind's child means, and declarations.
 pub mod FormalLaws
 pub mod BoundLaws
 pub mod DeclarationLaws
-pub mod RecursiveLaws

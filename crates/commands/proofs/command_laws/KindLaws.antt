@@ -2,14 +2,13 @@
 use Prim.Native.Nat.{ℕ}
 use mathlib.Core.Path.{◌≡◌, sym, ◌∙◌, subst}
 use mathlib.Core.List.{List}
-use native.Mathlib.Omega.{arith}
 use lib.ListN.{get_or}
-use Rattle.rules.specs.paper.Tree.{Expression, Command, Assign, Loop, CSeq, block, Call, Cond, Blk, Declaration, DSeq}
+use Rattle.rules.specs.paper.Tree.{Expression, Command, Assign, Loop, CSeq, block, Call, Cond, Blk, Declaration, Bind, DSeq, Bound}
 use Rattle.rules.specs.paper.States.{Item, command, declaration}
 use Rattle.reader.specs.Pack.{packed_kind}
-use Rattle.reader.specs.KindNumbers.{assign_number, loop_number, cseq_number, blk_number, conditional_number, bind_number, dseq_number, rbnd_number}
+use Rattle.reader.specs.KindNumbers.{assign_number, loop_number, cseq_number, blk_number, conditional_number, bind_number}
 use Rattle.reader.specs.StandingLaws.{command_root, declaration_root}
-use Rattle.reader.specs.KindTrees.{CommandOf, command_of, is_assign, is_loop, is_sequence, is_block, is_call, is_conditional, DeclarationOf, declaration_of, is_declaration_sequence}
+use Rattle.reader.specs.KindTrees.{CommandOf, command_of, is_assign, is_loop, is_sequence, is_block, is_call, is_conditional, DeclarationOf, declaration_of, is_bind, is_declaration_sequence}
 use Rattle.machine.specs.Regions.{regions}
 use Rattle.machine.specs.Steps.{Applicable, Steps}
 use Rattle.machine.specs.declared.Machine.{Machine}
@@ -62,11 +61,8 @@ module _ (words : List ℕ) (m : Machine) (i kind : ℕ) (known : kind ≡ packe
       let stored = (declaration_top (regions words m) i c given.ready.models).stored in
       subst (λ k. DeclarationOf i k c) (sym (known ∙ node_kind words m (declaration_root stored))) (declaration_of stored)
 
-  pub declaration_sequence_there : kind ≡ dseq_number → (d₁ d₂ : Declaration) × (c ≡ DSeq i d₁ d₂)
-  declaration_sequence_there q = is_declaration_sequence standing_declaration (λ e. apart (sym e ∙ q)) (λ e. apart_too (sym e ∙ q))
-    where
-      apart : bind_number ≡ dseq_number → ⊥
-      apart e = omega (arith, e)
+  pub bind_there : kind ≡ bind_number → (x : ℕ) × (b : Bound) × (c ≡ Bind i x b)
+  bind_there = is_bind standing_declaration
 
-      apart_too : rbnd_number ≡ dseq_number → ⊥
-      apart_too e = omega (arith, e)
+  pub declaration_sequence_there : (kind ≡ bind_number → ⊥) → (d₁ d₂ : Declaration) × (c ≡ DSeq i d₁ d₂)
+  declaration_sequence_there = is_declaration_sequence standing_declaration

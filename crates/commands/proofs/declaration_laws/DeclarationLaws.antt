@@ -1,23 +1,21 @@
--- The rules of Bind, Rbnd, DSeq, Ref and Abs.
+-- The rules of Bind, DSeq, Ref and Abs.
 use Prim.Native.Nat.{ℕ, suc, ◌+◌, ◌*◌, ◌<◌, ◌≤◌}
 use mathlib.Core.Path.{◌≡◌, refl, sym, ap, ◌∙◌, subst}
 use mathlib.Core.Bool.{false}
 use mathlib.Core.List.{List, [], ◌∷◌}
-use mathlib.Core.Option.{Option, some}
 use native.Mathlib.Omega.{arith}
 use lib.ListN.{get_or}
-use Rattle.rules.specs.paper.Tree.{Expression, Formal, Block, Declaration, Bind, DSeq, Rbnd, Bound, Ref, Abs}
+use Rattle.rules.specs.paper.Tree.{Expression, Formal, Block, Declaration, Bind, DSeq, Bound, Ref, Abs}
 use Rattle.rules.specs.paper.Limits.{names, most_nodes, most_bindings}
 use Rattle.rules.specs.paper.States.{closure, Environment, Store, Entry, bindable, name, Item, expression, declaration, reference, abstraction, mark, ref_mark, bind_mark, dseq_extend_mark, dseq_join_mark, bound_item, state}
 use Rattle.rules.specs.paper.Rules.{Rule, Effect, goes, Table}
 use Rattle.rules.specs.paper.Rules as Rules
 use Rattle.rules.specs.paper.Run.{judge}
 use Rattle.machine.specs.Layout.{row_labels, row_payloads, closure_unit, mark_word}
-use Rattle.reader.specs.KindNumbers.{bind_number, dseq_number}
-use Rattle.reader.specs.Pack.{packed_kind, packed_operand, packed_end}
-use Rattle.reader.specs.Stored.{HasWord, kind_is, operand_is, StoredExpression, StoredDeclaration, bind, dseq, rbnd, StoredBound, plain_of, ref, abs}
+use Rattle.reader.specs.Pack.{packed_operand, packed_end}
+use Rattle.reader.specs.Stored.{HasWord, operand_is, StoredExpression, StoredDeclaration, bind, dseq, StoredBound, plain_of, ref, abs}
 use Rattle.machine.specs.Regions.{slots, regions}
-use Rattle.machine.specs.Represents.{OwnNameAs, behind_bind, behind_rbnd, FunctionAs, SegmentAs, no_row, one_row, closure_as, Stage, at_end, declaring, ControlAs, expression_on, declaration_on, reference_on, abstraction_on, ref_on, bind_on, dseq_extend_on, dseq_join_on, name_on}
+use Rattle.machine.specs.Represents.{SegmentAs, no_row, one_row, closure_as, Stage, declaring, ControlAs, expression_on, declaration_on, reference_on, abstraction_on, ref_on, bind_on, dseq_extend_on, dseq_join_on, name_on}
 use Rattle.machine.specs.Steps.{StepAnswer, Applicable, Steps, Puts, Pushes, Enters}
 use Rattle.machine.specs.declared.Machine.{Machine}
 use Rattle.machine.specs.declared.Stepped.{Stepped}
@@ -25,57 +23,45 @@ use Rattle.machine.proofs.state_laws.NodeLaws.{node_word}
 use Rattle.machine.proofs.state_laws.ModelLaws.{with_items}
 use Rattle.machine.proofs.memory_laws.LookupLaws.{slot_words}
 use Rattle.reader.specs.StandingLaws.{after_node, declaration_root}
-use Rattle.machine.proofs.state_laws.ItemLaws.{DeclaringTop, node_end, declaration_top, reference_top, abstraction_top}
+use Rattle.machine.proofs.state_laws.ItemLaws.{node_end, declaration_top, reference_top, abstraction_top}
 
 -- The place of a declaration on top of control is a node's.
 pub declaration_low : (words : List ℕ) (m : Machine) (w : ℕ) (c : Declaration) → Applicable words m w (declaration c) → w < most_nodes
 declaration_low words m w c a = (declaration_root (declaration_top (regions words m) w c a.ready.models).stored).word.place_low
 
--- ---- Bind and Rbnd.
+-- ---- Bind.
+
+record BindAt (nodes : List ℕ) (i x : ℕ) (b : Bound) : Type 0 where
+  depth : ℕ
+  next : ℕ
+  name_low : x < names
+  word : HasWord nodes i 30 x next
+  bound : StoredBound nodes depth (i + 1) next b
+
+bind_at : {nodes : List ℕ} {d i j p x : ℕ} {b : Bound} → StoredDeclaration nodes d i j (Bind p x b) → BindAt nodes i x b
+bind_at {nodes} {b = b} (bind {d = d} {i = i} {j = j} l h a) =
+    record { depth = d; next = j; name_low = l; word = h; bound = subst (λ k. StoredBound nodes d k j b) (after_node i) a }
 
 bind_effect : {C : List Item} {E : Environment} {S : Store} {L : List ℕ} {n : ℕ} {r : Rule} {p x : ℕ} {b : Bound} {X : List Entry} {f : Effect} →
     Table C E S L n r (declaration (Bind p x b)) X f → goes (state (bound_item b ∷ mark bind_mark ∷ C) (name x ∷ X) E S L n) ≡ f
 bind_effect Rules.bind = refl
 
-rbnd_effect : {C : List Item} {E : Environment} {S : Store} {L : List ℕ} {n : ℕ} {r : Rule} {p x q : ℕ} {fs : List Formal} {b : Block} {X : List Entry} {f : Effect} →
-    Table C E S L n r (declaration (Rbnd p x q fs b)) X f → goes (state (abstraction q (some x) fs b ∷ mark bind_mark ∷ C) (name x ∷ X) E S L n) ≡ f
-rbnd_effect Rules.rbnd = refl
-
 -- What a Bind binds, on control.
-bound_on : {nodes : List ℕ} {g : Stage} {d i j k x : ℕ} {b : Bound} {ms ws : List ℕ} {C : List Item} → HasWord nodes i bind_number x j → StoredBound nodes d (suc i) j b →
-    ControlAs nodes (declaring g k ms) ws C → ControlAs nodes (declaring g k ms) (suc i ∷ ws) (bound_item b ∷ C)
-bound_on word (plain_of s) h = expression_on s h
-bound_on word (ref w s) h = reference_on (ref w s) h
-bound_on word (abs l w s t) h = abstraction_on (record { stored = abs l w s t; own_as = behind_bind word }) h
+bound_on : {nodes : List ℕ} {g : Stage} {d i j k : ℕ} {b : Bound} {ms ws : List ℕ} {C : List Item} → StoredBound nodes d i j b →
+    ControlAs nodes (declaring g k ms) ws C → ControlAs nodes (declaring g k ms) (i ∷ ws) (bound_item b ∷ C)
+bound_on (plain_of s) h = expression_on s h
+bound_on (ref w s) h = reference_on (ref w s) h
+bound_on (abs l w s t) h = abstraction_on (abs l w s t) h
 
-module _ (words : List ℕ) (m : Machine) (i : ℕ) (r : Stepped) (after : List ℕ) (operand : ℕ) (operand_of : operand ≡ packed_operand (get_or words i 0))
-    (enters : Enters words m operand ((i + 1) ∷ mark_word bind_mark ∷ []) r after) where
-  -- The name goes on the value stack, and what it is bound to on control over the mark.
-  name_entered : (c : Declaration) (item : Item) (x : ℕ) {C : List Item} {X : List Entry} {E : Environment} {S : Store} {L : List ℕ} {n : ℕ}
-      (t : DeclaringTop (regions words m) (λ d j. StoredDeclaration (regions words m).nodes d i j c) at_end C X E S L n) →
-      packed_operand (get_or words i 0) ≡ x → x < names →
-      ControlAs (regions words m).nodes (declaring t.stage t.bindings t.blocks) (suc i ∷ mark_word bind_mark ∷ (regions words m).control) (item ∷ mark bind_mark ∷ C) →
-      StepAnswer (judge false (goes (state (item ∷ mark bind_mark ∷ C) (name x ∷ X) E S L n))) r words after
-  name_entered c item x {C} {X} {E} {S} {L} {n} t name_is low control =
-      enters (item ∷ mark bind_mark ∷ C) X E S L n (name x) (declaring t.stage t.bindings t.blocks) t.rest
-      (subst (λ place. ControlAs (regions words m).nodes (declaring t.stage t.bindings t.blocks) (place ∷ mark_word bind_mark ∷ (regions words m).control) (item ∷ mark bind_mark ∷ C)) (after_node i) control)
-      (λ label. name_on (operand_of ∙ name_is) low t.rest.values_as)
-
-  named_steps : (packed_kind (get_or words i 0) ≡ dseq_number → ⊥) → (c : Declaration) {d j : ℕ} → StoredDeclaration (regions words m).nodes d i j c → Steps words m i (declaration c) r after
-  named_steps alone c (bind {x = x} {b = b} low word bound) C X E S L n rule f ready =
-      let t = declaration_top (regions words m) i (Bind i x b) ready.models in
-      subst (λ g. StepAnswer (judge false g) r words after) (bind_effect ready.applies)
-      (name_entered (Bind i x b) (bound_item b) x t (operand_is (node_word words m word) (omega arith)) low (bound_on word bound (bind_on refl t.control_as)))
-  named_steps alone c (rbnd {x = x} {fs = fs} {b = b} low word few abs_word formals body) C X E S L n rule f ready =
-      let t = declaration_top (regions words m) i (Rbnd i x (suc i) fs b) ready.models in
-      subst (λ g. StepAnswer (judge false g) r words after) (rbnd_effect ready.applies)
-      (name_entered (Rbnd i x (suc i) fs b) (abstraction (suc i) (some x) fs b) x t (operand_is (node_word words m word) (omega arith)) low
-      (abstraction_on (record { stored = abs few abs_word formals body; own_as = behind_rbnd low word }) (bind_on refl t.control_as)))
-  named_steps alone c (dseq word first second) C X E S L n rule f ready = absurd (alone (kind_is (node_word words m word) (omega arith)))
-
-  pub bind_steps : (packed_kind (get_or words i 0) ≡ dseq_number → ⊥) → (c : Declaration) → Steps words m i (declaration c) r after
-  bind_steps alone c C X E S L n rule f ready =
-      named_steps alone c (declaration_top (regions words m) i c ready.models).stored C X E S L n rule f ready
+pub bind_steps : (words : List ℕ) (m : Machine) (i : ℕ) (r : Stepped) (after : List ℕ) (x' : ℕ) → x' ≡ packed_operand (get_or words i 0) → Enters words m x' ((i + 1) ∷ mark_word bind_mark ∷ []) r after →
+    (x : ℕ) (b : Bound) → Steps words m i (declaration (Bind i x b)) r after
+bind_steps words m i r after x' q enters x b C X E S L n rule f ready =
+    let t = declaration_top (regions words m) i (Bind i x b) ready.models in
+    let a = bind_at t.stored in
+    let u = t.rest in
+    subst (λ g. StepAnswer (judge false g) r words after) (bind_effect ready.applies)
+    (enters (bound_item b ∷ mark bind_mark ∷ C) X E S L n (name x) (declaring t.stage t.bindings t.blocks) u (bound_on a.bound (bind_on refl t.control_as))
+    (λ label. name_on (q ∙ operand_is (node_word words m a.word) (omega arith)) a.name_low u.values_as))
 
 -- ---- DSeq.
 
@@ -139,43 +125,40 @@ reference_steps words m i r after puts p e C X E S L n rule f ready =
 
 -- ---- Abs.
 
-record AbstractionAt (nodes : List ℕ) (i : ℕ) (own : Option ℕ) (fs : List Formal) (b : Block) : Type 0 where
+record AbstractionAt (nodes : List ℕ) (i : ℕ) (fs : List Formal) (b : Block) : Type 0 where
   depth : ℕ
   next : ℕ
   place_low : i < most_nodes
-  function : FunctionAs nodes depth i next own i fs b
+  stored : StoredBound nodes depth i next (Abs i fs b)
 
-abstraction_at : {nodes : List ℕ} {d i j p : ℕ} {own : Option ℕ} {fs : List Formal} {b : Block} → StoredBound nodes d i j (Abs p fs b) → OwnNameAs nodes i own → AbstractionAt nodes i own fs b
-abstraction_at (abs {d = d} {i = i} {k = k} l h a c) named =
-    record { depth = suc d; next = k; place_low = h.place_low; function = record { stored = abs l h a c; own_as = named } }
+abstraction_at : {nodes : List ℕ} {d i j p : ℕ} {fs : List Formal} {b : Block} → StoredBound nodes d i j (Abs p fs b) → AbstractionAt nodes i fs b
+abstraction_at (abs {d = d} {i = i} {k = k} l h a c) = record { depth = suc d; next = k; place_low = h.place_low; stored = abs l h a c }
 
-abstraction_effect : {C : List Item} {E : Environment} {S : Store} {L : List ℕ} {n : ℕ} {r : Rule} {p : ℕ} {own : Option ℕ} {fs : List Formal} {b : Block} {X : List Entry} {f : Effect} →
-    Table C E S L n r (abstraction p own fs b) X f → goes (state C (bindable (closure own fs b E) ∷ X) E S L n) ≡ f
+abstraction_effect : {C : List Item} {E : Environment} {S : Store} {L : List ℕ} {n : ℕ} {r : Rule} {p : ℕ} {fs : List Formal} {b : Block} {X : List Entry} {f : Effect} →
+    Table C E S L n r (abstraction p fs b) X f → goes (state C (bindable (closure fs b E) ∷ X) E S L n) ≡ f
 abstraction_effect Rules.abs = refl
 
-pub abstraction_low : (words : List ℕ) (m : Machine) (w p : ℕ) (own : Option ℕ) (fs : List Formal) (b : Block) → Applicable words m w (abstraction p own fs b) → w < most_nodes
-abstraction_low words m w p own fs b a =
-    let f = (abstraction_top (regions words m) w p own fs b a.ready.models).stored in (abstraction_at f.stored f.own_as).place_low
+pub abstraction_low : (words : List ℕ) (m : Machine) (w p : ℕ) (fs : List Formal) (b : Block) → Applicable words m w (abstraction p fs b) → w < most_nodes
+abstraction_low words m w p fs b a = (abstraction_at (abstraction_top (regions words m) w p fs b a.ready.models).stored).place_low
 
 -- A pointer is at most the number of rows.
 segment_low : {nodes : List ℕ} (l p k : ℕ) (words : List ℕ) {at : ℕ} {E : Environment} → SegmentAs nodes (slots l p k words) at 0 E → at ≤ k
 segment_low l p k words no_row = omega arith
 segment_low l p k words (one_row {i = i} {s = s} q a b c d e f) = omega (arith, (slot_words l p k words i s q).within)
 
-pub environment_low : (words : List ℕ) (m : Machine) (w p : ℕ) (own : Option ℕ) (fs : List Formal) (b : Block) → Applicable words m w (abstraction p own fs b) → m.environment ≤ most_bindings
+pub environment_low : (words : List ℕ) (m : Machine) (w p : ℕ) (fs : List Formal) (b : Block) → Applicable words m w (abstraction p fs b) → m.environment ≤ most_bindings
 unfolding regions
-environment_low words m w p own fs b a = omega (arith, segment_low row_labels row_payloads m.bindings words a.ready.models.environment_as, a.ready.fits.few_bindings)
+environment_low words m w p fs b a = omega (arith, segment_low row_labels row_payloads m.bindings words a.ready.models.environment_as, a.ready.fits.few_bindings)
 
 environment_is : (words : List ℕ) (m : Machine) → m.environment ≡ (regions words m).environment
 unfolding regions
 environment_is words m = refl
 
 pub abstraction_steps : (words : List ℕ) (m : Machine) (i : ℕ) (r : Stepped) (after : List ℕ) → Pushes words m 0 (i + closure_unit * m.environment) r after →
-    (p : ℕ) (own : Option ℕ) (fs : List Formal) (b : Block) → Steps words m i (abstraction p own fs b) r after
-abstraction_steps words m i r after pushes p own fs b C X E S L n rule f ready =
-    let t = abstraction_top (regions words m) i p own fs b ready.models in
-    let a = abstraction_at t.stored.stored t.stored.own_as in
+    (p : ℕ) (fs : List Formal) (b : Block) → Steps words m i (abstraction p fs b) r after
+abstraction_steps words m i r after pushes p fs b C X E S L n rule f ready =
+    let t = abstraction_top (regions words m) i p fs b ready.models in
+    let a = abstraction_at t.stored in
     let u = t.rest in
     subst (λ g. StepAnswer (judge false g) r words after) (abstraction_effect ready.applies)
-    (pushes C X E S L n (closure own fs b E) (with_items t.control_as u)
-    (closure_as (ap (λ k. i + closure_unit * k) (environment_is words m)) a.place_low a.function u.environment_as))
+    (pushes C X E S L n (closure fs b E) (with_items t.control_as u) (closure_as (ap (λ k. i + closure_unit * k) (environment_is words m)) a.place_low a.stored u.environment_as))

@@ -3,12 +3,12 @@ use Prim.Native.Nat.{ℕ, zero, suc, ◌+◌, ◌-◌, ◌*◌, ◌/◌, ◌%◌
 use mathlib.Core.Path.{◌≡◌, refl, sym, ap, ◌∙◌, subst}
 use mathlib.Core.Bool.{false}
 use mathlib.Core.List.{List, [], ◌∷◌}
-use mathlib.Core.Option.{Option, some, some-injective}
+use mathlib.Core.Option.{some, some-injective}
 use native.Mathlib.Omega.{arith}
 use lib.ListN.{length, get_or}
 use Rattle.rules.specs.paper.Tree.{Formal, block}
 use Rattle.rules.specs.paper.States.{Environment, Store, Entry, environment, locations, call_mark, leave_mark, Item, command, mark, State, state}
-use Rattle.rules.specs.paper.Rules.{Rule, Effect, Matched, match_formals, call_bindings}
+use Rattle.rules.specs.paper.Rules.{Rule, Effect, Matched, match_formals}
 use Rattle.rules.specs.paper.Run.{judge}
 use Rattle.rules.specs.paper.Limits.{most_bindings, most_value_entries, most_control_entries}
 use Rattle.machine.specs.Layout.{row_payloads, closure_unit, count_unit, leave_word}
@@ -16,7 +16,6 @@ use Rattle.reader.specs.Stored.{StoredCommand, block_of}
 use Rattle.machine.specs.Regions.{Slot, slot, slots, Regions, regions, Fits, with_control, with_values, raised_control, raised_values}
 use Rattle.machine.specs.Represents.{SegmentAs, Since, none_since, Extends, Mode, running, ControlAs, command_on, leave_on, ValuesAs, frame_on, Models}
 use Rattle.machine.specs.Steps.{StepAnswer, Ready}
-use Rattle.frames.specs.OwnName.{OwnName, NamesFunction}
 use Rattle.frames.specs.Formals.{with_bound, machine_with_formals, Binding, Binds, framed, with_frame}
 use Rattle.machine.specs.declared.Machine.{Machine}
 use Rattle.machine.specs.declared.Stepped.TheVariants.{Made}
@@ -25,8 +24,7 @@ use Rattle.machine.proofs.state_laws.ModelLaws.{step_made, fits_still}
 use Rattle.machine.proofs.stack_laws.SharedLaws.{Put, put_regions, put_fits, value_fits}
 use Rattle.frames.proofs.frame_laws.FrameLaws.{with_pointers, environment_is, base_is, cells_height, answered, rows_height}
 use Rattle.frames.proofs.call_laws.FormalsLaws.{formals_end, counted}
-use Rattle.frames.proofs.call_laws.OwnNameLaws.{call_counted}
-use Rattle.frames.proofs.call_laws.CallMarkLaws.{CallTop, call_top, call_numbers, RowFound, abs_place, formal_first, called, ClosureAt, called_closure, called_name, block_is, Named, call_named, call_binding}
+use Rattle.frames.proofs.call_laws.CallMarkLaws.{CallTop, call_top, call_numbers, RowFound, formal_first, called, regions_called, ClosureAt, called_closure, block_is, call_binding}
 
 -- ---- put_frame.
 
@@ -98,48 +96,30 @@ pub record Formed (after : List ℕ) (t : Machine) : Type 0 where
   pub few_values : t.values + 2 ≤ most_value_entries
   pub few_control : t.control + 2 ≤ most_control_entries
 
-module _ (words : List ℕ) (m : Machine) (w row own : ℕ) (found : RowFound words m w row) (counts : (name : Option ℕ) → OwnName words (abs_place words m row) name → own ≡ call_bindings name 0)
-    (named : List ℕ) (v : Machine)
-    (names : (name : Option ℕ) → OwnName words (abs_place words m row) name → NamesFunction words (called words m row) name (get_or words (row_payloads + row) 0) v named)
-    (after : List ℕ) (t : Machine)
-    (machine_is : t ≡ machine_with_formals (formal_first words m row + w / count_unit - formal_first words m row) t.environment v)
-    (binds : Binds named v (formal_first words m row) (formal_first words m row + w / count_unit) t after)
-    (free : m.bindings + own + w / count_unit ≤ most_bindings) (low : m.values - w / count_unit + 2 ≤ most_value_entries) (short : m.control + 2 ≤ most_control_entries) where
+module _ (words : List ℕ) (m : Machine) (w row : ℕ) (found : RowFound words m w row) (after : List ℕ) (t : Machine)
+    (machine_is : t ≡ machine_with_formals (formal_first words m row + w / count_unit - formal_first words m row) t.environment (called words m row))
+    (binds : Binds words (called words m row) (formal_first words m row) (formal_first words m row + w / count_unit) t after)
+    (free : m.bindings + w / count_unit ≤ most_bindings) (low : m.values - w / count_unit + 2 ≤ most_value_entries) (short : m.control + 2 ≤ most_control_entries) where
   abbrev κ : Regions
   κ = regions words m
+
+  values_are : t.values ≡ m.values - w / count_unit
+  values_are = omega (arith, ap (λ k. k.values) machine_is)
+
+  bindings_are : t.bindings ≡ m.bindings + w / count_unit
+  bindings_are = omega (arith, ap (λ k. k.bindings) machine_is)
 
   module _ (p x k : ℕ) {C : List Item} {X : List Entry} {E : Environment} {S : Store} {L : List ℕ} {n : ℕ} {r : Rule} {e : Effect} (ready : Ready words m w (mark (call_mark p x k)) C X E S L n r e) where
     abbrev top : CallTop words m w p x k C X E S L n e
     top = call_top words m w p x k ready
-
-    own_names_are : NamesFunction words (called words m row) top.own (get_or words (row_payloads + row) 0) v named
-    own_names_are = names top.own (called_name words m w p x k ready row found)
-
-    own_is : own ≡ call_bindings top.own 0
-    own_is = counts top.own (called_name words m w p x k ready row found)
-
-    before : Named words m w p x k ready row found named v own_names_are own
-    before = call_named words m w p x k ready row found named v own_names_are own own_is (omega (arith, free))
-
-    control_same : t.control ≡ m.control
-    control_same = ap (λ j. j.control) machine_is ∙ before.control_same
-
-    cells_same : t.cells ≡ m.cells
-    cells_same = ap (λ j. j.cells) machine_is ∙ before.cells_same
-
-    values_are : t.values ≡ m.values - w / count_unit
-    values_are = omega (arith, ap (λ j. j.values) machine_is, before.values_same)
-
-    bindings_are : t.bindings ≡ m.bindings + own + w / count_unit
-    bindings_are = omega (arith, ap (λ j. j.bindings) machine_is, before.bindings_are)
 
     abbrev called_regions : Regions
     called_regions = with_pointers (get_or words (row_payloads + row) 0 / closure_unit) κ.declared m.cells κ
 
     bound_all : AllBound called_regions κ.base κ.declared κ.environment E (running top.outer) top.matched (regions after t)
     bound_all =
-        all_bound _ _ _ _ _ _ _ _ _
-        (binds called_regions κ.base κ.declared κ.environment E (running top.outer) top.matched (call_binding words m w p x k ready row found named v own_names_are))
+        subst (λ j. AllBound j κ.base κ.declared κ.environment E (running top.outer) top.matched (regions after t)) (regions_called words m row)
+        (all_bound _ _ _ _ _ _ _ _ _ (binds κ.base κ.declared κ.environment E (running top.outer) top.matched (call_binding words m w p x k ready row found)))
 
     abbrev bound_regions : Regions
     bound_regions = with_bound bound_all.rows bound_all.values bound_all.pointer called_regions
@@ -151,10 +131,10 @@ module _ (words : List ℕ) (m : Machine) (w row own : ℕ) (found : RowFound wo
     call_formed =
         record {
           fits =
-              fits_still words after m t ready.fits (ap (λ j. j.size) bound_are) (omega (arith, short, control_same)) (omega (arith, values_are, ready.fits.few_values)) (omega (arith, bindings_are, free))
-              (omega (arith, cells_same, ready.fits.few_cells));
+              fits_still words after m t ready.fits (ap (λ j. j.size) bound_are) (omega (arith, short, ap (λ j. j.control) machine_is)) (omega (arith, values_are, ready.fits.few_values)) (omega (arith, bindings_are, free))
+              (omega (arith, ap (λ j. j.cells) machine_is, ready.fits.few_cells));
           few_values = omega (arith, values_are, low);
-          few_control = omega (arith, short, control_same);
+          few_control = omega (arith, short, ap (λ j. j.control) machine_is);
         }
 
     module _ (last : List ℕ) (u : Machine) (framed_is : u ≡ framed t)
@@ -171,7 +151,7 @@ module _ (words : List ℕ) (m : Machine) (w row own : ℕ) (found : RowFound wo
       abbrev values_after : List Entry
       values_after = environment E ∷ locations L ∷ top.matched.rest
 
-      abbrev closure : ClosureAt κ.nodes κ.rows (get_or words (row_payloads + row) 0) top.own top.formals top.body top.definition
+      abbrev closure : ClosureAt κ.nodes κ.rows (get_or words (row_payloads + row) 0) top.formals top.body top.definition
       closure = called_closure words m w p x k ready row found
 
       bindings_before : n ≡ m.bindings
@@ -188,7 +168,7 @@ module _ (words : List ℕ) (m : Machine) (w row own : ℕ) (found : RowFound wo
           frame_on (sym (environment_is words m)) bound_all.extends (sym ready.models.bindings_as) ready.models.environment_as
           (subst (λ j. Since κ.base j L) (cells_height words m) ready.models.locations_as) (sym (base_is words m)) bound_all.values_as
 
-      models : Models last_regions control_after values_after top.matched.environment_with S [] (n + call_bindings top.own k)
+      models : Models last_regions control_after values_after top.matched.environment_with S [] (n + k)
       models =
           record {
             mode = running (n ∷ top.outer);
@@ -197,24 +177,17 @@ module _ (words : List ℕ) (m : Machine) (w row own : ℕ) (found : RowFound wo
             environment_as = bound_all.segment;
             store_as = ready.models.store_as;
             locations_as = subst (λ j. Since m.cells j []) (sym (cells_height words m)) none_since;
-            bindings_as =
-                omega (
-                  arith,
-                  bindings_before,
-                  bindings_are,
-                  own_is,
-                  call_counted top.own k,
-                  (call_numbers words m w p x k ready).count_is,
-                  rows_height after t,
-                  ap (λ j. length j.rows) bound_are,
-                );
+            bindings_as = counted_rows (length bound_all.rows) bindings_before bindings_are (call_numbers words m w p x k ready).count_is (rows_height after t) (ap (λ j. length j.rows) bound_are);
           }
+        where
+          counted_rows : (h : ℕ) → n ≡ m.bindings → t.bindings ≡ m.bindings + w / count_unit → w / count_unit ≡ k → length (regions after t).rows ≡ t.bindings → length (regions after t).rows ≡ h → n + k ≡ h
+          counted_rows h a b c f g = omega arith
 
       pub call_made : StepAnswer (judge false e) (Made u) words last
       call_made =
           answered (Made u) words last top.effect_is
-          (step_made words last m (framed t) (Made u) control_after values_after top.matched.environment_with S [] (n + call_bindings top.own k) (ap Made framed_is)
+          (step_made words last m (framed t) (Made u) control_after values_after top.matched.environment_with S [] (n + k) (ap Made framed_is)
           (fits_still words last m (framed t) ready.fits (ap (λ j. j.size) all) (omega (arith, call_formed.few_control)) (omega (arith, call_formed.few_values))
-          (omega (arith, bindings_are, free)) (omega (arith, cells_same, ready.fits.few_cells)))
-          (subst (λ j. Models j control_after values_after top.matched.environment_with S [] (n + call_bindings top.own k)) (sym all) models)
+          (omega (arith, bindings_are, free)) (omega (arith, ap (λ j. j.cells) machine_is, ready.fits.few_cells)))
+          (subst (λ j. Models j control_after values_after top.matched.environment_with S [] (n + k)) (sym all) models)
           (ap (λ j. j.nodes) all) (ap (λ j. j.beyond) all) (ap (λ j. j.size) all))

@@ -2,30 +2,27 @@
 use Prim.Native.Nat.{ℕ, suc, ◌+◌, ◌-◌, ◌*◌, ◌/◌, ◌%◌, ◌<◌, ◌≤◌}
 use mathlib.Core.Path.{◌≡◌, refl, sym, ap, ◌∙◌, subst}
 use mathlib.Core.List.{List, [], ◌∷◌}
-use mathlib.Core.Option.{Option, none, some}
+use mathlib.Core.Option.{some}
 use native.Mathlib.Omega.{arith}
-use lib.ListN.{length, get_or}
+use lib.ListN.{get_or}
 use Rattle.rules.specs.paper.Tree.{Formal, Block, block, Abs}
-use Rattle.rules.specs.paper.Limits.{names, most_parameters, most_nodes, most_bindings}
+use Rattle.rules.specs.paper.Limits.{names, most_parameters, most_nodes}
 use Rattle.rules.specs.paper.States.{Bindable, closure, Environment, lookup, Store, Entry, environment, locations, call_mark, leave_mark, Item, command, mark, state}
-use Rattle.rules.specs.paper.Rules.{Rule, Effect, goes, Table, call_at, Matched, match_formals, with_own_name, call_bindings}
+use Rattle.rules.specs.paper.Rules.{Rule, Effect, goes, Table, call_at, Matched, match_formals}
 use Rattle.machine.specs.Layout.{row_labels, row_payloads, closure_unit, carried_unit, count_unit, call_word}
 use Rattle.reader.specs.Stored.{StoredFormals, StoredBlock, StoredBound, abs}
 use Rattle.machine.specs.Regions.{Slot, Regions, regions, Fits, with_control}
-use Rattle.machine.specs.Represents.{OwnNameAs, SegmentAs, BindableAs, closure_as, Mode, running, ControlAs, call_on, ValuesAs, Models}
+use Rattle.machine.specs.Represents.{SegmentAs, BindableAs, closure_as, no_more, Mode, running, ControlAs, call_on, ValuesAs, Models}
 use Rattle.machine.specs.Lookup.{RowOf}
 use Rattle.machine.specs.Steps.{Ready, Steps}
-use Rattle.frames.specs.Formals.{with_bound, Binding, CanBind}
-use Rattle.frames.specs.OwnName.{OwnName, machine_named, with_own_row, NamesFunction}
+use Rattle.frames.specs.Formals.{Binding, CanBind}
 use Rattle.machine.specs.declared.Machine.{Machine}
 use Rattle.machine.specs.declared.Stepped.TheVariants.{Withheld}
 use Rattle.machine.specs.Room.{reason_of_room}
-use Rattle.machine.proofs.state_laws.ModelLaws.{with_items, sizes, step_withheld_for_room, fits_still}
-use Rattle.machine.proofs.memory_laws.EnvironmentLaws.{pointer_low}
+use Rattle.machine.proofs.state_laws.ModelLaws.{with_items, sizes, step_withheld_for_room}
 use Rattle.machine.proofs.state_laws.ItemLaws.{rest_of}
 use Rattle.frames.proofs.frame_laws.FrameLaws.{pointed, with_pointers, answered, environment_is, rows_height}
-use Rattle.frames.proofs.call_laws.FormalsLaws.{formals_end, Counted, counted}
-use Rattle.frames.proofs.call_laws.OwnNameLaws.{own_name, call_counted, own_rows, own_pointer, own_extends, own_segment}
+use Rattle.frames.proofs.call_laws.FormalsLaws.{formals_end, counted}
 
 -- ---- A closure.
 
@@ -39,7 +36,7 @@ record AbsAt (nodes : List ℕ) (i j : ℕ) (fs : List Formal) (b : Block) : Typ
 abs_at : {nodes : List ℕ} {d i j p : ℕ} {fs : List Formal} {b : Block} → StoredBound nodes d i j (Abs p fs b) → AbsAt nodes i j fs b
 abs_at (abs {d = d} {j = j} few word formals body) = record { depth = d; block_place = j; formals = formals; block_stored = body }
 
-pub record ClosureAt (nodes : List ℕ) (rows : List Slot) (w : ℕ) (own : Option ℕ) (fs : List Formal) (b : Block) (F : Environment) : Type 0 where
+pub record ClosureAt (nodes : List ℕ) (rows : List Slot) (w : ℕ) (fs : List Formal) (b : Block) (F : Environment) : Type 0 where
   pub place : ℕ
   pub pointer : ℕ
   pub depth : ℕ
@@ -50,31 +47,11 @@ pub record ClosureAt (nodes : List ℕ) (rows : List Slot) (w : ℕ) (own : Opti
   pub formals : StoredFormals nodes (suc place) block_place fs
   pub block_stored : StoredBlock nodes depth block_place block_end b
   pub segment : SegmentAs nodes rows pointer 0 F
-  pub own_as : OwnNameAs nodes place own
-  pub itself : BindableAs nodes rows 0 w (closure own fs b F)
 
-pub closure_at : {nodes : List ℕ} {rows : List Slot} {t w : ℕ} {own : Option ℕ} {fs : List Formal} {b : Block} {F : Environment} → BindableAs nodes rows t w (closure own fs b F) →
-    ClosureAt nodes rows w own fs b F
+pub closure_at : {nodes : List ℕ} {rows : List Slot} {t w : ℕ} {fs : List Formal} {b : Block} {F : Environment} → BindableAs nodes rows t w (closure fs b F) → ClosureAt nodes rows w fs b F
 closure_at (closure_as {p = p} {j = j} {f = f} q l h s) =
-    let at = abs_at h.stored in
-    record {
-      place = p;
-      pointer = f;
-      depth = at.depth;
-      block_place = at.block_place;
-      block_end = j;
-      word_is = q;
-      place_low = l;
-      formals = at.formals;
-      block_stored = at.block_stored;
-      segment = s;
-      own_as = h.own_as;
-      itself = closure_as q l h s;
-    }
-
-same_length : (words named : List ℕ) (m t : Machine) → (regions named t).size ≡ (regions words m).size → length named ≡ length words
-unfolding regions
-same_length words named m t q = q
+    let at = abs_at h in
+    record { place = p; pointer = f; depth = at.depth; block_place = at.block_place; block_end = j; word_is = q; place_low = l; formals = at.formals; block_stored = at.block_stored; segment = s }
 
 module _ (words : List ℕ) (m : Machine) where
   abbrev κ : Regions
@@ -83,15 +60,14 @@ module _ (words : List ℕ) (m : Machine) where
   -- ---- The stacks.
 
   pub record CallTop (w p x k : ℕ) (C : List Item) (X : List Entry) (E : Environment) (S : Store) (L : List ℕ) (n : ℕ) (e : Effect) : Type 0 where
-    pub own : Option ℕ
     pub formals : List Formal
     pub body : Block
     pub definition : Environment
     pub matched : Matched
     pub outer : List ℕ
-    pub effect_is : e ≡ goes (state (command (block body) ∷ mark (leave_mark p n) ∷ C) (environment E ∷ locations L ∷ matched.rest) matched.environment_with S [] (n + call_bindings own k))
-    pub looked : lookup x E ≡ some (closure own formals body definition)
-    pub matches : match_formals k formals X (with_own_name own formals body definition) ≡ some matched
+    pub effect_is : e ≡ goes (state (command (block body) ∷ mark (leave_mark p n) ∷ C) (environment E ∷ locations L ∷ matched.rest) matched.environment_with S [] (n + k))
+    pub looked : lookup x E ≡ some (closure formals body definition)
+    pub matches : match_formals k formals X definition ≡ some matched
     pub word_is : w ≡ call_word (x + names * k)
     pub name_low : x < names
     pub count_low : k ≤ most_parameters
@@ -103,9 +79,8 @@ module _ (words : List ℕ) (m : Machine) where
       Models (with_control w κ) (mark (call_mark p x k) ∷ C) X E S L n →
       Table C E S L n r (mark (call_mark p x k)) X e → ControlAs κ.nodes mode (w ∷ κ.control) (mark (call_mark p x k) ∷ C) →
       ValuesAs κ.nodes κ.rows κ.base κ.declared κ.environment E mode κ.values X → CallTop w p x k C X E S L n e
-  call_by w p x k mode μ (call_at {own = own} {fs = fs} {b = b} {F = F} {m = M} looked matches) (call_on {ms = ms} q low few h) v =
+  call_by w p x k mode μ (call_at {fs = fs} {b = b} {F = F} {m = M} looked matches) (call_on {ms = ms} q low few h) v =
       record {
-        own = own;
         formals = fs;
         body = b;
         definition = F;
@@ -124,10 +99,6 @@ module _ (words : List ℕ) (m : Machine) where
 
   pub call_top : (w p x k : ℕ) {C : List Item} {X : List Entry} {E : Environment} {S : Store} {L : List ℕ} {n : ℕ} {r : Rule} {e : Effect} → Ready words m w (mark (call_mark p x k)) C X E S L n r e → CallTop w p x k C X E S L n e
   call_top w p x k ready = call_by w p x k ready.models.mode ready.models ready.applies ready.models.control_as ready.models.values_as
-
-  -- As many Formals as actuals.
-  pub call_count : (w p x k : ℕ) {C : List Item} {X : List Entry} {E : Environment} {S : Store} {L : List ℕ} {n : ℕ} {e : Effect} (top : CallTop w p x k C X E S L n e) → Counted k top.formals X top.matched
-  call_count w p x k {X = X} top = counted k top.formals X (with_own_name top.own top.formals top.body top.definition) top.matched top.matches
 
   -- The numbers in the mark's word.
   pub record CallNumbers (w x k : ℕ) : Type 0 where
@@ -152,8 +123,20 @@ module _ (words : List ℕ) (m : Machine) where
     call_actuals p x k {X = X} ready =
         let top = call_top w p x k ready in
         let z = sizes words m top.models in
-        let count = call_count w p x k top in
+        let count = counted k top.formals X top.definition top.matched top.matches in
         omega (arith, z.values_height, count.entries_count, (call_numbers w p x k ready).count_is)
+
+    pub call_withheld : (reason : ℕ) → reason ≡ reason_of_room (m.bindings + w / count_unit) (m.values - w / count_unit + 2) (m.control + 2) → (reason ≡ 0 → ⊥) →
+        (p x k : ℕ) → Steps words m w (mark (call_mark p x k)) (Withheld reason) words
+    call_withheld reason is some_reason p x k C X E S L n r e ready =
+        let top = call_top w p x k ready in
+        let z = sizes words m top.models in
+        let count = counted k top.formals X top.definition top.matched top.matches in
+        let numbers = call_numbers w p x k ready in
+        answered (Withheld reason) words words top.effect_is
+        (step_withheld_for_room words _ _ _ _ _ _ (m.bindings + w / count_unit) (m.values - w / count_unit + 2) (m.control + 2) reason
+        (omega (arith, z.bindings_height, numbers.count_is)) (omega (arith, z.values_height, count.entries_count, numbers.count_is)) (omega (arith, z.control_height))
+        (omega (arith, z.cells_height, ready.fits.few_cells)) is some_reason)
 
   -- ---- The closure in its row, and its Formals.
 
@@ -163,12 +146,8 @@ module _ (words : List ℕ) (m : Machine) where
       (nodes : List ℕ) (E : Environment) (b : Bindable) → SegmentAs nodes κ.rows m.environment 0 E → lookup (w / carried_unit % 64) E ≡ some b →
       RowOf nodes κ.rows (w / carried_unit % 64) b row (get_or words (row_labels + row) 0) (get_or words (row_payloads + row) 0)
 
-  -- The place of the Abs, and of its first Formal.
-  abbrev pub abs_place : ℕ → ℕ
-  abs_place row = get_or words (row_payloads + row) 0 % closure_unit
-
   abbrev pub formal_first : ℕ → ℕ
-  formal_first row = abs_place row + 1
+  formal_first row = get_or words (row_payloads + row) 0 % closure_unit + 1
 
   abbrev pub called : ℕ → Machine
   called row = pointed (get_or words (row_payloads + row) 0 / closure_unit) m.declared m.cells m
@@ -187,34 +166,27 @@ module _ (words : List ℕ) (m : Machine) where
     in_environment : SegmentAs κ.nodes κ.rows m.environment 0 E
     in_environment = subst (λ q. SegmentAs κ.nodes κ.rows q 0 E) (environment_is words m) ready.models.environment_as
 
-    looked_up : lookup (w / carried_unit % 64) E ≡ some (closure top.own top.formals top.body top.definition)
+    looked_up : lookup (w / carried_unit % 64) E ≡ some (closure top.formals top.body top.definition)
     looked_up = ap (λ y. lookup y E) (call_numbers w p x k ready).name_is ∙ top.looked
 
     pub call_looked : (nodes : List ℕ) × (E : Environment) × (b : Bindable) × SegmentAs nodes κ.rows m.environment 0 E × (lookup (w / carried_unit % 64) E ≡ some b)
-    call_looked = (κ.nodes, E, closure top.own top.formals top.body top.definition, in_environment, looked_up)
+    call_looked = (κ.nodes, E, closure top.formals top.body top.definition, in_environment, looked_up)
 
     module _ (row : ℕ) (found : RowFound w row) where
-      row_is : RowOf κ.nodes κ.rows (w / carried_unit % 64) (closure top.own top.formals top.body top.definition) row (get_or words (row_labels + row) 0) (get_or words (row_payloads + row) 0)
-      row_is = found κ.nodes E (closure top.own top.formals top.body top.definition) in_environment looked_up
+      row_is : RowOf κ.nodes κ.rows (w / carried_unit % 64) (closure top.formals top.body top.definition) row (get_or words (row_labels + row) 0) (get_or words (row_payloads + row) 0)
+      row_is = found κ.nodes E (closure top.formals top.body top.definition) in_environment looked_up
 
       pub row_low : row < m.bindings
       row_low = omega (arith, row_is.within, rows_height words m)
 
-      pub called_closure : ClosureAt κ.nodes κ.rows (get_or words (row_payloads + row) 0) top.own top.formals top.body top.definition
+      pub called_closure : ClosureAt κ.nodes κ.rows (get_or words (row_payloads + row) 0) top.formals top.body top.definition
       called_closure = closure_at row_is.bound_to
 
-      pub place_is : abs_place row ≡ called_closure.place
-      place_is = left_over _ _ _ called_closure.word_is called_closure.place_low
+      pub first_is : formal_first row ≡ suc called_closure.place
+      first_is = plus_one _ _ _ called_closure.word_is called_closure.place_low
         where
-          left_over : (v q f : ℕ) → v ≡ q + closure_unit * f → q < most_nodes → v % closure_unit ≡ q
-          left_over v q f a l = omega arith
-
-      first_is : formal_first row ≡ suc called_closure.place
-      first_is = omega (arith, place_is)
-
-      -- The name by which the function knows itself.
-      pub called_name : OwnName words (abs_place row) top.own
-      called_name = own_name words m (abs_place row) top.own (subst (λ q. OwnNameAs κ.nodes q top.own) (sym place_is) called_closure.own_as)
+          plus_one : (v q f : ℕ) → v ≡ q + closure_unit * f → q < most_nodes → v % closure_unit + 1 ≡ suc q
+          plus_one v q f a l = omega arith
 
       pub pointer_is : get_or words (row_payloads + row) 0 / closure_unit ≡ called_closure.pointer
       pointer_is = over _ _ _ called_closure.word_is called_closure.place_low
@@ -225,111 +197,30 @@ module _ (words : List ℕ) (m : Machine) where
       -- The block stands behind its Formals.
       pub block_is : formal_first row + w / count_unit ≡ called_closure.block_place
       block_is =
-          behind _ _ _ _ _ (formals_end called_closure.formals) first_is (call_numbers w p x k ready).count_is (call_count w p x k top).formals_count
+          behind _ _ _ _ _ (formals_end called_closure.formals) first_is (call_numbers w p x k ready).count_is (counted k top.formals X top.definition top.matched top.matches).formals_count
         where
           behind : (j q f c l : ℕ) → j ≡ suc q + l → f ≡ suc q → c ≡ k → k ≡ l → f + c ≡ j
           behind j q f c l a b g h = omega arith
 
-      pub pointer_few : (called row).environment ≤ m.bindings
-      pointer_few = omega (arith, pointer_is, pointer_low called_closure.segment, rows_height words m)
+      pub call_binding : Binding (regions words (called row)) κ.base κ.declared κ.environment E (running top.outer) top.matched (regions words (called row)) (formal_first row) (formal_first row + w / count_unit)
+      call_binding =
+          subst (λ j. Binding j κ.base κ.declared κ.environment E (running top.outer) top.matched j (formal_first row) (formal_first row + w / count_unit)) (sym (regions_called row))
+          (record {
+            rows = κ.rows;
+            values = κ.values;
+            made_pointer = get_or words (row_payloads + row) 0 / closure_unit;
+            formals = top.formals;
+            actuals = X;
+            made = top.definition;
+            regions_are = refl;
+            extends = no_more;
+            matches = subst (λ j. match_formals j top.formals X top.definition ≡ some top.matched) (counted k top.formals X top.definition top.matched top.matches).formals_count top.matches;
+            stored =
+                subst (λ i. StoredFormals κ.nodes i (formal_first row + w / count_unit) top.formals) (sym first_is)
+                (subst (λ j. StoredFormals κ.nodes (suc called_closure.place) j top.formals) (sym block_is) called_closure.formals);
+            segment = subst (λ q. SegmentAs κ.nodes κ.rows q 0 top.definition) (sym pointer_is) called_closure.segment;
+            values_as = top.values_as;
+          })
 
-      -- The own name is bound, if there is one.
-      module _ (named : List ℕ) (t : Machine) (names : NamesFunction words (called row) top.own (get_or words (row_payloads + row) 0) t named) where
-        abbrev payload : ℕ
-        payload = get_or words (row_payloads + row) 0
-
-        abbrev pub called_regions : Regions
-        called_regions = with_pointers (payload / closure_unit) κ.declared m.cells κ
-
-        named_regions : regions named t ≡ with_bound (own_rows κ.rows payload (payload / closure_unit) top.own) κ.values (own_pointer κ.rows (payload / closure_unit) top.own) called_regions
-        named_regions = names.regions_are ∙ ap (with_own_row top.own payload) (regions_called row) ∙ of top.own
-          where
-            of : (own : Option ℕ) → with_own_row own payload called_regions ≡ with_bound (own_rows κ.rows payload (payload / closure_unit) own) κ.values (own_pointer κ.rows (payload / closure_unit) own) called_regions
-            of none = refl
-            of (some y) = refl
-
-        pub call_binding : Binding called_regions κ.base κ.declared κ.environment E (running top.outer) top.matched (regions named t) (formal_first row) (formal_first row + w / count_unit)
-        call_binding =
-            record {
-              rows = own_rows κ.rows payload (payload / closure_unit) top.own;
-              values = κ.values;
-              made_pointer = own_pointer κ.rows (payload / closure_unit) top.own;
-              formals = top.formals;
-              actuals = X;
-              made = with_own_name top.own top.formals top.body top.definition;
-              regions_are = named_regions;
-              extends = own_extends κ.nodes κ.rows payload (payload / closure_unit) top.own;
-              matches =
-                  subst (λ j. match_formals j top.formals X (with_own_name top.own top.formals top.body top.definition) ≡ some top.matched)
-                  (call_count w p x k top).formals_count top.matches;
-              stored =
-                  subst (λ i. StoredFormals κ.nodes i (formal_first row + w / count_unit) top.formals) (sym first_is)
-                  (subst (λ j. StoredFormals κ.nodes (suc called_closure.place) j top.formals) (sym block_is) called_closure.formals);
-              segment =
-                  own_segment κ.nodes κ.rows payload (payload / closure_unit) top.own called_closure.place top.formals top.body top.definition called_closure.own_as
-                  called_closure.itself (subst (λ q. SegmentAs κ.nodes κ.rows q 0 top.definition) (sym pointer_is) called_closure.segment);
-              values_as = top.values_as;
-            }
-
-        pub call_can_bind : CanBind named t (formal_first row) (formal_first row + w / count_unit)
-        call_can_bind =
-            record {
-              older = called_regions;
-              base = κ.base;
-              declared = κ.declared;
-              pointer = κ.environment;
-              environment = E;
-              mode = running top.outer;
-              matched = top.matched;
-              start = call_binding;
-            }
-
-        named_size : (own : Option ℕ) (κ₀ : Regions) → (with_own_row own payload κ₀).size ≡ κ₀.size
-        named_size none κ₀ = refl
-        named_size (some y) κ₀ = refl
-
-        -- The machine has as many rows more.
-        pub record Named (own : ℕ) : Type 0 where
-          pub fits : Fits named t
-          pub same_size : length named ≡ length words
-          pub control_same : t.control ≡ m.control
-          pub values_same : t.values ≡ m.values
-          pub cells_same : t.cells ≡ m.cells
-          pub bindings_are : t.bindings ≡ m.bindings + own
-
-        pub call_named : (own : ℕ) → own ≡ call_bindings top.own 0 → m.bindings + own ≤ most_bindings → Named own
-        call_named own counts few =
-            record {
-              fits =
-                  fits_still words named m t ready.fits (ap (λ j. j.size) names.regions_are ∙ named_size top.own (regions words (called row)) ∙ ap (λ j. j.size) (regions_called row))
-                  (omega (arith, (parts top.own refl).0, ready.fits.few_control)) (omega (arith, (parts top.own refl).1, ready.fits.few_values))
-                  (omega (arith, (parts top.own refl).3, counts, few)) (omega (arith, (parts top.own refl).2, ready.fits.few_cells));
-              same_size = same_length words named m t (ap (λ j. j.size) names.regions_are ∙ named_size top.own (regions words (called row)) ∙ ap (λ j. j.size) (regions_called row));
-              control_same = (parts top.own refl).0;
-              values_same = (parts top.own refl).1;
-              cells_same = (parts top.own refl).2;
-              bindings_are = omega (arith, (parts top.own refl).3, counts);
-            }
-          where
-            parts : (own : Option ℕ) → top.own ≡ own → (t.control ≡ m.control) × (t.values ≡ m.values) × (t.cells ≡ m.cells) × (t.bindings ≡ m.bindings + call_bindings top.own 0)
-            parts own q = by own (names.machine_is ∙ ap (λ o. machine_named o (called row)) q) q
-              where
-                by : (own : Option ℕ) → t ≡ machine_named own (called row) → top.own ≡ own → (t.control ≡ m.control) × (t.values ≡ m.values) × (t.cells ≡ m.cells) × (t.bindings ≡ m.bindings + call_bindings top.own 0)
-                by none is o = (ap (λ j. j.control) is, ap (λ j. j.values) is, ap (λ j. j.cells) is, omega (arith, ap (λ j. j.bindings) is, ap (λ z. call_bindings z 0) o))
-                by (some y) is o = (ap (λ j. j.control) is, ap (λ j. j.values) is, ap (λ j. j.cells) is, omega (arith, ap (λ j. j.bindings) is, ap (λ z. call_bindings z 0) o))
-
-  -- ---- A step that is withheld.
-
-  pub call_withheld : (w row own reason : ℕ) → RowFound w row → ((name : Option ℕ) → OwnName words (abs_place row) name → own ≡ call_bindings name 0) →
-      reason ≡ reason_of_room (m.bindings + own + w / count_unit) (m.values - w / count_unit + 2) (m.control + 2) → (reason ≡ 0 → ⊥) →
-      (p x k : ℕ) → Steps words m w (mark (call_mark p x k)) (Withheld reason) words
-  call_withheld w row own reason found counts is some_reason p x k C X E S L n r e ready =
-      let top = call_top w p x k ready in
-      let z = sizes words m top.models in
-      let count = call_count w p x k top in
-      let numbers = call_numbers w p x k ready in
-      let own_is = counts top.own (called_name w p x k ready row found) in
-      answered (Withheld reason) words words top.effect_is
-      (step_withheld_for_room words _ _ _ _ _ _ (m.bindings + own + w / count_unit) (m.values - w / count_unit + 2) (m.control + 2) reason
-      (omega (arith, z.bindings_height, numbers.count_is, own_is, call_counted top.own k)) (omega (arith, z.values_height, count.entries_count, numbers.count_is)) (omega (arith, z.control_height))
-      (omega (arith, z.cells_height, ready.fits.few_cells)) is some_reason)
+      pub call_can_bind : CanBind words (called row) (formal_first row) (formal_first row + w / count_unit)
+      call_can_bind = record { base = κ.base; declared = κ.declared; pointer = κ.environment; environment = E; mode = running top.outer; matched = top.matched; start = call_binding }

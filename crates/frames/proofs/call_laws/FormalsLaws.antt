@@ -50,7 +50,7 @@ first_actual : (f : Formal) (k : ℕ) (fs : List Formal) (X : List Entry) (F : E
 unfolding match_formals
 first_actual f k fs [] F M q = missing q
 first_actual f k fs (bindable (value v) ∷ X) F M q = record { actual = v; rest = X; are = refl; matches = q }
-first_actual f k fs (bindable (closure own gs b E) ∷ X) F M q = missing q
+first_actual f k fs (bindable (closure gs b E) ∷ X) F M q = missing q
 first_actual f k fs (name x ∷ X) F M q = missing q
 first_actual f k fs (node c ∷ X) F M q = missing q
 first_actual f k fs (environment E ∷ X) F M q = missing q

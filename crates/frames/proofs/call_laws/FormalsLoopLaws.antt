@@ -45,8 +45,8 @@ pub record Around (before : List ℕ) (m₀ : Machine) (first block : ℕ) (word
   pub same_size : length words ≡ length before
   pub fits : Fits words m
   pub machine_is : m ≡ machine_with_formals (formal - first) m.environment m₀
-  pub bound_so_far : (older : Regions) (base declared pointer : ℕ) (E : Environment) (mode : Mode) (M : Matched) →
-      Binding older base declared pointer E mode M (regions before m₀) first block → Binding older base declared pointer E mode M (regions words m) formal block
+  pub bound_so_far : (base declared pointer : ℕ) (E : Environment) (mode : Mode) (M : Matched) →
+      Binding (regions before m₀) base declared pointer E mode M (regions before m₀) first block → Binding (regions before m₀) base declared pointer E mode M (regions words m) formal block
 
 module _ (before : List ℕ) (m₀ : Machine) (first block : ℕ) (can : CanBind before m₀ first block) where
   pub around_first : Fits before m₀ → Around before m₀ first block before m₀ first
@@ -57,14 +57,14 @@ module _ (before : List ℕ) (m₀ : Machine) (first block : ℕ) (can : CanBind
         same_size = refl;
         fits = f;
         machine_is = machine_same m₀ (machine_with_formals (first - first) m₀.environment m₀) refl (omega arith) refl refl refl refl (omega arith);
-        bound_so_far = λ older base declared pointer E mode M σ. σ;
+        bound_so_far = λ base declared pointer E mode M σ. σ;
       }
 
   module _ (words : List ℕ) (m : Machine) (formal : ℕ) (around : Around before m₀ first block words m formal) (low : formal < block) where
     pub around_numbers : Numbers words m formal
     around_numbers =
-        formal_numbers can.older can.base can.declared can.pointer can.environment can.mode can.matched words m formal block
-        (next_formal _ _ _ _ _ _ _ _ _ _ _ (around.bound_so_far can.older can.base can.declared can.pointer can.environment can.mode can.matched can.start) low)
+        formal_numbers (regions before m₀) can.base can.declared can.pointer can.environment can.mode can.matched words m formal block
+        (next_formal _ _ _ _ _ _ _ _ _ _ _ (around.bound_so_far can.base can.declared can.pointer can.environment can.mode can.matched can.start) low)
 
     pub some_rows_left : m₀.bindings + (block - first) ≤ most_bindings → m.bindings < most_bindings
     some_rows_left few = less (ap (λ k. k.bindings) around.machine_is) around.started
@@ -90,9 +90,9 @@ module _ (before : List ℕ) (m₀ : Machine) (first block : ℕ) (can : CanBind
           machine_is =
               machine_same (after_one (raised_rows m)) (machine_with_formals (formal + 1 - first) (m.bindings + 1) m₀) (ap (λ k. k.control) is) (one_value_less (ap (λ k. k.values) is) around.started) refl
               (ap (λ k. k.declared) is) (ap (λ k. k.cells) is) (ap (λ k. k.base) is) (one_row_more (ap (λ k. k.bindings) is) around.started);
-          bound_so_far = λ older base declared pointer E mode M σ.
-              formal_bound older base declared pointer E mode M words m formal block
-              (next_formal _ _ _ _ _ _ _ _ _ _ _ (around.bound_so_far older base declared pointer E mode M σ) low) after put;
+          bound_so_far = λ base declared pointer E mode M σ.
+              formal_bound (regions before m₀) base declared pointer E mode M words m formal block
+              (next_formal _ _ _ _ _ _ _ _ _ _ _ (around.bound_so_far base declared pointer E mode M σ) low) after put;
         })
       where
         put : regions after (raised_rows m) ≡ with_row (slot (formal_link words m formal) (get_or words (top_payload + m.values) 0)) (regions words m)
@@ -113,7 +113,7 @@ module _ (before : List ℕ) (m₀ : Machine) (first block : ℕ) (can : CanBind
   pub around_last : (words : List ℕ) (m : Machine) (formal : ℕ) → Around before m₀ first block words m formal → block ≤ formal →
       (m ≡ machine_with_formals (block - first) m.environment m₀) × Binds before m₀ first block m words
   around_last words m formal around done =
-      (around.machine_is ∙ ap (λ i. machine_with_formals (i - first) m.environment m₀) last, λ older base declared pointer E mode M σ. subst (λ i. Binding older base declared pointer E mode M (regions words m) i block) last (around.bound_so_far older base declared pointer E mode M σ))
+      (around.machine_is ∙ ap (λ i. machine_with_formals (i - first) m.environment m₀) last, λ base declared pointer E mode M σ. subst (λ i. Binding (regions before m₀) base declared pointer E mode M (regions words m) i block) last (around.bound_so_far base declared pointer E mode M σ))
     where
       last : formal ≡ block
       last = omega (arith, around.within, done)

@@ -2,17 +2,16 @@
 -- under it.
 use Prim.Native.Nat.{ℕ, suc, ◌+◌, ◌<◌}
 use mathlib.Core.Path.{◌≡◌}
-use mathlib.Core.Option.{Option}
 use mathlib.Core.List.{List, ◌∷◌}
 use native.Mathlib.Omega.{arith}
 use lib.ListN.{get_or}
-use Rattle.rules.specs.paper.Tree.{Expression, Formal, Command, Block, Declaration, Ref}
+use Rattle.rules.specs.paper.Tree.{Expression, Formal, Command, Block, Declaration, Ref, Abs}
 use Rattle.rules.specs.paper.States.{Environment, Store, Entry, Item, command, declaration, reference, abstraction}
 use Rattle.reader.specs.Pack.{packed_kind, packed_end}
 use Rattle.reader.specs.Stored.{kind_is, end_is, StoredCommand, StoredDeclaration, StoredBound}
 use Rattle.reader.specs.StandingLaws.{Rooted}
 use Rattle.machine.specs.Regions.{Regions, regions, with_control}
-use Rattle.machine.specs.Represents.{FunctionAs, Stage, at_end, Mode, running, declaring, ControlAs, command_on, declaration_on, reference_on, abstraction_on, ValuesAs, Beside, Models}
+use Rattle.machine.specs.Represents.{Stage, at_end, Mode, running, declaring, ControlAs, command_on, declaration_on, reference_on, abstraction_on, ValuesAs, Beside, Models}
 use Rattle.machine.specs.declared.Machine.{Machine}
 use Rattle.machine.proofs.state_laws.NodeLaws.{node_word}
 
@@ -72,9 +71,9 @@ module _ (κ : Regions) (w : ℕ) {C : List Item} {X : List Entry} {E : Environm
       by m (reference_on {g = g} {m = k} {ms = ms} {d = d} {j = j} s h) v =
           record { depth = d; next = j; stored = s; stage = g; bindings = k; blocks = ms; control_as = h; rest = rest_of (reference p e) (declaring g k ms) μ v }
 
-  pub abstraction_top : (p : ℕ) (own : Option ℕ) (fs : List Formal) (b : Block) → Models (with_control w κ) (abstraction p own fs b ∷ C) X E S L n → DeclaringTop κ (λ d j. FunctionAs κ.nodes d w j own p fs b) (λ g. g) C X E S L n
-  abstraction_top p own fs b μ = by μ.mode μ.control_as μ.values_as
+  pub abstraction_top : (p : ℕ) (fs : List Formal) (b : Block) → Models (with_control w κ) (abstraction p fs b ∷ C) X E S L n → DeclaringTop κ (λ d j. StoredBound κ.nodes d w j (Abs p fs b)) (λ g. g) C X E S L n
+  abstraction_top p fs b μ = by μ.mode μ.control_as μ.values_as
     where
-      by : (m : Mode) → ControlAs κ.nodes m (w ∷ κ.control) (abstraction p own fs b ∷ C) → Values κ E X m → DeclaringTop κ (λ d j. FunctionAs κ.nodes d w j own p fs b) (λ g. g) C X E S L n
+      by : (m : Mode) → ControlAs κ.nodes m (w ∷ κ.control) (abstraction p fs b ∷ C) → Values κ E X m → DeclaringTop κ (λ d j. StoredBound κ.nodes d w j (Abs p fs b)) (λ g. g) C X E S L n
       by m (abstraction_on {g = g} {m = k} {ms = ms} {d = d} {j = j} s h) v =
-          record { depth = d; next = j; stored = s; stage = g; bindings = k; blocks = ms; control_as = h; rest = rest_of (abstraction p own fs b) (declaring g k ms) μ v }
+          record { depth = d; next = j; stored = s; stage = g; bindings = k; blocks = ms; control_as = h; rest = rest_of (abstraction p fs b) (declaring g k ms) μ v }

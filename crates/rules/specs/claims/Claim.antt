@@ -20,7 +20,7 @@ named_cell none = []
 named_cell (some (value (integer z))) = []
 named_cell (some (value (truth b))) = []
 named_cell (some (value (location l))) = l ∷ []
-named_cell (some (closure own fs b E)) = []
+named_cell (some (closure fs b E)) = []
 
 abbrev pub shown_cell : Option Value → List ℕ
 shown_cell none = []
@@ -75,7 +75,7 @@ item_cells (expression e) X E S = expression_cells e E S
 item_cells (command c) X E S = []
 item_cells (declaration d) X E S = []
 item_cells (reference p e) X E S = []
-item_cells (abstraction p own fs b) X E S = []
+item_cells (abstraction p fs b) X E S = []
 item_cells (mark m) X E S = mark_cells m X E
 
 -- The cells that the rule on top of control reads or sets.

@@ -40,7 +40,7 @@ RangedValue (location l) = Unit {0}
 abbrev mutual
   pub RangedBindable : Bindable → Type 0
   RangedBindable (value v) = RangedValue v
-  RangedBindable (closure own fs b F) = RangedEnvironment F
+  RangedBindable (closure fs b F) = RangedEnvironment F
 
   pub RangedEnvironment : Environment → Type 0
   RangedEnvironment empty = Unit {0}

@@ -11,7 +11,7 @@ use Rattle.rules.specs.paper.States.{integer, truth, Environment, Store, Entry, 
 use Rattle.rules.specs.paper.Rules.{Rule, Effect, goes, Applies}
 use Rattle.rules.specs.paper.Fire.{after_test, chosen}
 use Rattle.rules.specs.paper.Run.{ended, run}
-use Rattle.rules.specs.paper.Needs.{Figure, control, values, cells, bindings, Sizes, sizes, routine_need, has_loop, has_conditional, has_recursion}
+use Rattle.rules.specs.paper.Needs.{Figure, control, values, cells, bindings, Sizes, sizes, routine_need, has_loop, has_conditional}
 use Rattle.rules.specs.paper.HighMarks.{size}
 use Rattle.rules.specs.paper.Engine.{check_image, passed, start}
 use Rattle.rules.specs.claims.History.{History, Reach}
@@ -36,17 +36,17 @@ pub data FreeReach (first : State) : (steps : ℕ) → State → Type 0 where
   at_start : FreeReach first 0 first
   one_more : {k : ℕ} {σ τ : State} → FreeReach first k σ → FreeStep σ τ → FreeReach first (suc k) τ
 
--- ---- For every passed image without Rbnd, which alone has figures, and one starting value per register:
+-- ---- For every passed image and one starting value per register:
 
-abbrev pub ForPassedWithoutRecursion : (ℕ → Root → Passed → List ℤ → Type 0) → Type 0
-ForPassedWithoutRecursion claim =
-    (image : List ℕ) (r : ℕ) (t : Root) (a : Passed) → check_image image ≡ passed r t a → has_recursion t ≡ false →
+abbrev pub ForPassed : (ℕ → Root → Passed → List ℤ → Type 0) → Type 0
+ForPassed claim =
+    (image : List ℕ) (r : ℕ) (t : Root) (a : Passed) → check_image image ≡ passed r t a →
     (registers : List ℤ) → length registers ≡ r → AllInRange registers → claim r t a registers
 
 -- 1. In no state of a free run does any size exceed its figure, and without Loop no free run has more steps than the figure.
 abbrev pub NothingExceeds : Type 0
 NothingExceeds =
-    ForPassedWithoutRecursion
+    ForPassed
     (λ r t a registers.
     (k : ℕ) (σ : State) → FreeReach (start r t registers) k σ →
     ((f : Figure) → size σ f ≤ (routine_need r t).most f) × (has_loop t ≡ false → k ≤ (routine_need r t).steps))
@@ -65,7 +65,7 @@ pub record StepsReached (first : State) (steps : ℕ) : Type 0 where
 
 abbrev pub EachReached : Type 0
 EachReached =
-    ForPassedWithoutRecursion
+    ForPassed
     (λ r t a registers.
     ((f : Figure) → SizeReached (start r t registers) f ((routine_need r t).most f))
     × (has_loop t ≡ false → StepsReached (start r t registers) (routine_need r t).steps))
@@ -77,7 +77,7 @@ RunIsFree =
 
 abbrev pub RunExceedsNothing : Type 0
 RunExceedsNothing =
-    ForPassedWithoutRecursion
+    ForPassed
     (λ r t a registers.
     (budget steps : ℕ) (σ : State) (h : History) → Reach budget (start r t registers) r steps σ h →
     ((f : Figure) → size σ f ≤ (routine_need r t).most f) × (has_loop t ≡ false → steps ≤ (routine_need r t).steps))
@@ -95,7 +95,7 @@ room_reason bindings = Bindings
 
 abbrev pub RoomSuffices : Type 0
 RoomSuffices =
-    ForPassedWithoutRecursion
+    ForPassed
     (λ r t a registers.
     ((f : Figure) → (routine_need r t).most f ≤ limits f) →
     (budget steps : ℕ) (σ : State) (h : History) → Reach budget (start r t registers) r steps σ h →
@@ -104,7 +104,7 @@ RoomSuffices =
 -- Without Loop a budget of the steps is enough: 30 holds nowhere in it.
 abbrev pub BudgetSuffices : Type 0
 BudgetSuffices =
-    ForPassedWithoutRecursion
+    ForPassed
     (λ r t a registers.
     has_loop t ≡ false →
     (budget steps : ℕ) → (routine_need r t).steps ≤ budget → (σ : State) (h : History) → Reach budget (start r t registers) r steps σ h →
@@ -120,7 +120,7 @@ pub record SizeMet (budget : ℕ) (first : State) (r : ℕ) (f : Figure) (most :
 
 abbrev pub ReachesExactly : Type 0
 ReachesExactly =
-    ForPassedWithoutRecursion
+    ForPassed
     (λ r t a registers.
     has_loop t ≡ false → has_conditional t ≡ false →
     (budget k : ℕ) (τ : State) → run budget 0 (start r t registers) ≡ ended k τ →

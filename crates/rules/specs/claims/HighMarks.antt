@@ -9,7 +9,7 @@ use Rattle.rules.specs.paper.HighMarks.{size, high_marks}
 use Rattle.rules.specs.paper.Engine.{start, engine, MostSteps, figures, needs}
 use Rattle.rules.specs.claims.History.{History, Reach}
 use Rattle.rules.specs.claims.Claim.{AllInRange}
-use Rattle.rules.specs.claims.FreeRun.{ForPassedWithoutRecursion, SizeMet}
+use Rattle.rules.specs.claims.FreeRun.{ForPassed, SizeMet}
 
 -- ---- The most over all states that a run reaches, the first included.
 
@@ -23,17 +23,17 @@ HighMarksAreMost = (budget : ℕ) (first : State) (registers : ℕ) → MostReac
 
 -- ---- The needs.
 
--- For every passed image without Rbnd, one starting value per register and any budget the marks are at most the figures ..
+-- For every passed image, one starting value per register and any budget the marks are at most the figures ..
 abbrev pub HighMarksWithinNeeds : Type 0
 HighMarksWithinNeeds =
-    ForPassedWithoutRecursion
+    ForPassed
     (λ r t a registers.
     (budget : ℕ) (f : Figure) → high_marks budget (start r t registers) f ≤ (routine_need r t).most f)
 
 -- .. and without Loop and Cond, where the run ends normally, they are the figures.
 abbrev pub HighMarksAreNeeds : Type 0
 HighMarksAreNeeds =
-    ForPassedWithoutRecursion
+    ForPassed
     (λ r t a registers.
     has_loop t ≡ false → has_conditional t ≡ false →
     (budget k : ℕ) (τ : State) → run budget 0 (start r t registers) ≡ ended k τ →

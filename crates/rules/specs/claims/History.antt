@@ -67,7 +67,7 @@ item_place (expression e) = none
 item_place (command c) = command_place c
 item_place (declaration d) = none
 item_place (reference p e) = none
-item_place (abstraction p own fs b) = none
+item_place (abstraction p fs b) = none
 item_place (mark m) = none
 
 abbrev pub node_on_top : State → Option ℕ
@@ -114,7 +114,7 @@ left_by_item (expression e) = none
 left_by_item (command c) = none
 left_by_item (declaration d) = none
 left_by_item (reference p e) = none
-left_by_item (abstraction p own fs b) = none
+left_by_item (abstraction p fs b) = none
 left_by_item (mark m) = left_by_mark m
 
 -- The place of the node that the step from this state leaves, if it leaves one.

@@ -1,8 +1,8 @@
 -- The preorder listing of a tree: the words of its nodes, as the table of kinds has them.
 use Rattle.std.specs.Prelude.{ℕ, zero, suc, ◌+◌, ◌*◌, Bool, true, false, List, [], ◌∷◌, ◌++◌, length}
-use Rattle.rules.specs.paper.Tree.{Expression, Num, Boo, Id, DeRef, ValRef, Binary, Not, Formal, Command, Assign, Loop, CSeq, block, Call, Cond, Block, Blk, Declaration, Bind, DSeq, Rbnd, Bound, plain, Ref, Abs, Root, expression, command, absent}
+use Rattle.rules.specs.paper.Tree.{Expression, Num, Boo, Id, DeRef, ValRef, Binary, Not, Formal, Command, Assign, Loop, CSeq, block, Call, Cond, Block, Blk, Declaration, Bind, DSeq, Bound, plain, Ref, Abs, Root, expression, command, absent}
 use Rattle.rules.specs.paper.Limits.{names}
-use Rattle.rules.specs.paper.Kinds.{Kind, num, boo, id, deref, valref, binary, negation, assign, loop, cseq, blk, call, conditional, bind, dseq, rbnd, expression_kind, command_kind, declaration_kind, ref, abs, formal, kind_number}
+use Rattle.rules.specs.paper.Kinds.{Kind, num, boo, id, deref, valref, binary, negation, assign, loop, cseq, blk, call, conditional, bind, dseq, expression_kind, command_kind, declaration_kind, ref, abs, formal, kind_number}
 use Rattle.rules.specs.paper.Reader.{Node}
 
 abbrev pub a_node : (kind operand : ℕ) → Node
@@ -48,7 +48,6 @@ unfoldable mutual
   pub declaration_nodes : Declaration → List Node
   declaration_nodes (Bind p x b) = node_of (declaration_kind bind) x ∷ bound_nodes b
   declaration_nodes (DSeq p d₁ d₂) = node_of (declaration_kind dseq) 0 ∷ declaration_nodes d₁ ++ declaration_nodes d₂
-  declaration_nodes (Rbnd p x q fs b) = node_of (declaration_kind rbnd) x ∷ node_of abs (length fs) ∷ all_nodes formal_nodes fs ++ block_nodes b
 
   pub bound_nodes : Bound → List Node
   bound_nodes (plain e) = expression_nodes e

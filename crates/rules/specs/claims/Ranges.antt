@@ -10,7 +10,7 @@ use Rattle.rules.specs.paper.Integers.{compare, equal_integers}
 use Rattle.rules.specs.paper.States.{State, store_of}
 use Rattle.rules.specs.paper.Rules.{Rule, Effect, Applies}
 use Rattle.rules.specs.paper.Run.{ended, run}
-use Rattle.rules.specs.paper.Needs.{has_loop, has_recursion}
+use Rattle.rules.specs.paper.Needs.{has_loop}
 use Rattle.rules.specs.paper.Engine.{check_image, passed, start, registers_from, engine, Outcome, outcome, refused}
 use Rattle.rules.specs.paper.Carried.{Carried, numbers, truths, location, unfit, possible, carry_order, carry_equal}
 use Rattle.rules.specs.paper.Carrying.{carry_routine}
@@ -39,11 +39,11 @@ ComparisonsExact =
     (a b c d : ℤ) → a ≤ℤ b → c ≤ℤ d →
     ((o : Order) → JustTruths (carry_order o a b c d) (SomePair a b c d (compare o))) × JustTruths (carry_equal a b c d) (SomePair a b c d equal_integers)
 
--- ---- The carrying of a passed image without Loop and Rbnd, over limits that do not cross, is never unfit.
+-- ---- The carrying of a passed image without Loop, over limits that do not cross, is never unfit.
 
 abbrev pub CarryingFits : Type 0
 CarryingFits =
-    (image : List ℕ) (r : ℕ) (t : Root) (a : Passed) → check_image image ≡ passed r t a → has_loop t ≡ false → has_recursion t ≡ false →
+    (image : List ℕ) (r : ℕ) (t : Root) (a : Passed) → check_image image ≡ passed r t a → has_loop t ≡ false →
     (lowest highest : List ℤ) → length lowest ≡ r → length highest ≡ r → limits_cross lowest highest ≡ false → carry_routine r t lowest highest ≡ unfit → ⊥
 
 -- ---- The runs.

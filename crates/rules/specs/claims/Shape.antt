@@ -2,7 +2,7 @@
 -- the nodes of t are numbered in preorder from i up to but not including j, that t is at most d deep, and that its names,
 -- counts and codes are within the paper's limits.
 use Rattle.std.specs.Prelude.{ℕ, zero, suc, ◌≤◌, ◌<◌, ◌≡◌, Bool, List, [], ◌∷◌, length}
-use Rattle.rules.specs.paper.Tree.{Operator, Expression, Num, Boo, Id, DeRef, ValRef, Binary, Not, Formal, Command, Assign, Loop, CSeq, block, Call, Cond, Block, Blk, Declaration, Bind, DSeq, Rbnd, Bound, plain, Ref, Abs, Root, expression, command, absent}
+use Rattle.rules.specs.paper.Tree.{Operator, Expression, Num, Boo, Id, DeRef, ValRef, Binary, Not, Formal, Command, Assign, Loop, CSeq, block, Call, Cond, Block, Blk, Declaration, Bind, DSeq, Bound, plain, Ref, Abs, Root, expression, command, absent}
 use Rattle.rules.specs.paper.Limits.{words, names, codes, most_parameters}
 
 pub data ShapedExpression : (depth place next : ℕ) → Expression → Type 0 where
@@ -40,9 +40,6 @@ mutual
   pub data ShapedDeclaration : (depth place next : ℕ) → Declaration → Type 0 where
     bind : {d i j x : ℕ} {b : Bound} → x < names → ShapedBound d (suc i) j b → ShapedDeclaration (suc d) i j (Bind i x b)
     dseq : {d i j k : ℕ} {d₁ d₂ : Declaration} → ShapedDeclaration d (suc i) j d₁ → ShapedDeclaration d j k d₂ → ShapedDeclaration (suc d) i k (DSeq i d₁ d₂)
-    -- its Abs has the place behind its own
-    rbnd : {d i j k x : ℕ} {fs : List Formal} {b : Block} → x < names → length fs ≤ most_parameters →
-        Many Formal (ShapedFormal d) (suc (suc i)) j fs → ShapedBlock d j k b → ShapedDeclaration (suc (suc d)) i k (Rbnd i x (suc i) fs b)
 
   pub data ShapedBound : (depth place next : ℕ) → Bound → Type 0 where
     plain_of : {d i j : ℕ} {e : Expression} → ShapedExpression d i j e → ShapedBound d i j (plain e)

@@ -2,9 +2,9 @@
 -- CheckerExact.antt shows that the checker passes exactly what these derive.
 use Rattle.std.specs.Prelude.{ℕ, zero, suc, ◌≤◌, ◌<◌, ◌≡◌, Bool, List, [], ◌∷◌, ◌++◌}
 use Rattle.std.proofs.Math.Option.{Option, none, some}
-use Rattle.rules.specs.paper.Tree.{Arithmetic, Order, Logic, Operator, arithmetic, Eq, order, logic, Expression, Num, Boo, Id, DeRef, ValRef, Binary, Not, Formal, Command, Assign, Loop, CSeq, block, Call, Cond, Block, Blk, Declaration, Bind, DSeq, Rbnd, Bound, plain, Ref, Abs, Root, expression, command, absent}
+use Rattle.rules.specs.paper.Tree.{Arithmetic, Order, Logic, Operator, arithmetic, Eq, order, logic, Expression, Num, Boo, Id, DeRef, ValRef, Binary, Not, Formal, Command, Assign, Loop, CSeq, block, Call, Cond, Block, Blk, Declaration, Bind, DSeq, Bound, plain, Ref, Abs, Root, expression, command, absent}
 use Rattle.rules.specs.paper.Limits.{plain_codes}
-use Rattle.rules.specs.paper.Checker.{Meaning, code, function, Named, Scope, meaning_of, own_name, with_formals, Passed, expression_of_code, a_command}
+use Rattle.rules.specs.paper.Checker.{Meaning, code, function, Named, Scope, meaning_of, with_formals, Passed, expression_of_code, a_command}
 
 -- Γ ⊢ e ∶ c: in this scope the expression has this type code.
 pub data HasCode (Γ : Scope) : Expression → ℕ → Type 0 where
@@ -70,9 +70,6 @@ mutual
     -- The second declaration of a DSeq sees the names of the first. A name on both sides is a fault.
     dseq : {Γ Δ₁ Δ₂ Δ : Scope} {p : ℕ} {d₁ d₂ : Declaration} → Gives Γ d₁ Δ₁ → Gives (Δ₁ ++ Γ) d₂ Δ₂ →
         ((x : ℕ) → Declares x Δ₁ → Declares x Δ₂ → ⊥) → Δ ≡ Δ₂ ++ Δ₁ → Gives Γ (DSeq p d₁ d₂) Δ
-    -- Rbnd gives its name the function. Its Blk sees the names around, then this name, then the Formals, which hide it.
-    rbnd : {Γ Δ : Scope} {p x q : ℕ} {fs : List Formal} {b : Block} → Distinct [] fs → BlockOk (with_formals fs (own_name x fs ∷ Γ)) b →
-        Δ ≡ own_name x fs ∷ [] → Gives Γ (Rbnd p x q fs b) Δ
 
   -- What a Bind binds its name to.
   pub data Means : Scope → Bound → Meaning → Type 0 where

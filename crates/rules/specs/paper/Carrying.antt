@@ -3,7 +3,7 @@
 -- commands. A function is carried as what its Blk leaves, whatever it is called with, so each part is carried from its children's.
 use Rattle.std.specs.Prelude.{ℕ, zero, suc, ◌-◌, Bool, true, false, cond, List, [], ◌∷◌, ◌++◌, eqb, ℤ, pos, length, drop, get_or}
 use Rattle.std.proofs.Math.Option.{Option, none, some}
-use Rattle.rules.specs.paper.Tree.{Expression, Num, Boo, Id, DeRef, ValRef, Binary, Not, Formal, Command, Assign, Loop, CSeq, block, Call, Cond, Block, Blk, Declaration, Bind, DSeq, Rbnd, Bound, plain, Ref, Abs, Root, expression, command, absent}
+use Rattle.rules.specs.paper.Tree.{Expression, Num, Boo, Id, DeRef, ValRef, Binary, Not, Formal, Command, Assign, Loop, CSeq, block, Call, Cond, Block, Blk, Declaration, Bind, DSeq, Bound, plain, Ref, Abs, Root, expression, command, absent}
 use Rattle.rules.specs.paper.Carried.{Carried, numbers, truths, location, only_number, only_truth, Carrying, carried, unfit, ◌>>=◌, fitting, carry_operator, carry_negation, wider}
 
 -- ---- Cells: newest first; a cell's location is the number of cells that are older.
@@ -174,8 +174,6 @@ unfoldable mutual
       carry_declaration N K d₁ >>= λ D.
       carry_declaration (D.names_declared ++ N) D.cells_after d₂ >>= λ F.
       carried (record { names_declared = F.names_declared ++ D.names_declared; cells_after = F.cells_after })
-  -- With an Rbnd in the tree nothing is carried (45).
-  carry_declaration N K (Rbnd p x q fs b) = unfit
 
   pub carry_bound : CarriedNames → CarriedCells → Bound → Carrying CarriedBound
   carry_bound N K (plain e) = carry_expression N K e >>= λ v. carried (record { bound_as = a_value v; cells_after = K })

@@ -3,7 +3,7 @@
 -- The rules themselves stand in Typing.antt, and CheckerExact.antt shows that this function passes exactly what they derive.
 use Rattle.std.specs.Prelude.{ℕ, zero, suc, ◌≤◌, Bool, true, false, cond, ◌||◌, List, [], ◌∷◌, ◌++◌, eqb, ltb}
 use Rattle.std.proofs.Math.Option.{Option, none, some}
-use Rattle.rules.specs.paper.Tree.{Operator, arithmetic, Eq, order, logic, Expression, Num, Boo, Id, DeRef, ValRef, Binary, Not, Formal, Command, Assign, Loop, CSeq, block, Call, Cond, Block, Blk, Declaration, Bind, DSeq, Rbnd, Bound, plain, Ref, Abs, Root, expression, command, absent}
+use Rattle.rules.specs.paper.Tree.{Operator, arithmetic, Eq, order, logic, Expression, Num, Boo, Id, DeRef, ValRef, Binary, Not, Formal, Command, Assign, Loop, CSeq, block, Call, Cond, Block, Blk, Declaration, Bind, DSeq, Bound, plain, Ref, Abs, Root, expression, command, absent}
 use Rattle.rules.specs.paper.Limits.{plain_codes}
 use Rattle.rules.specs.paper.Refusals.{Refusal, Unbound, Mistyped, Repeated, NotAssignable, BadCall}
 
@@ -165,10 +165,6 @@ unfoldable pub with_formals : List Formal → Scope → Scope
 with_formals [] Γ = Γ
 with_formals (f ∷ fs) Γ = with_formals fs (record { name = f.name; meaning = code f.code } ∷ Γ)
 
--- The name of a function.
-abbrev pub own_name : (name : ℕ) → List Formal → Named
-own_name x fs = record { name = x; meaning = function fs }
-
 -- Ref: c of at most 5 gives c + 2.
 abbrev pub ref_code : (place : ℕ) → ℕ → Judged Meaning
 ref_code p zero = fine (code 2)
@@ -210,9 +206,6 @@ unfoldable mutual
       declaration_gives Γ d₁ >>= λ Δ₁.
       declaration_gives (Δ₁ ++ Γ) d₂ >>= λ Δ₂.
       cond (shares_name Δ₁ Δ₂) (fault Repeated p) (fine (Δ₂ ++ Δ₁))
-  -- Rbnd: as a Bind of its Abs, whose Blk sees the names around, then the Rbnd's own name, then the Formals.
-  declaration_gives Γ (Rbnd p x q fs b) =
-      distinct [] fs >>= λ done. block_ok (with_formals fs (own_name x fs ∷ Γ)) b >>= λ inside. fine (own_name x fs ∷ [])
 
   -- What a Bind gives its name: the child's code, or the function.
   -- Abs: its Blk sees the names around the Bind, then the Formals; not its own name.

@@ -11,7 +11,7 @@ use Rattle.rules.specs.paper.Reader.{Reading, bad, image, read}
 use Rattle.rules.specs.paper.Checker.{Judged, fault, fine, Passed, expression_of_code, a_command, register_scope, root_is}
 use Rattle.rules.specs.paper.States.{Value, integer, truth, location, Bindable, value, closure, Environment, empty, bound, Store, find, Entry, bindable, name, node, environment, locations, Item, expression, command, State, state, values_of, store_of}
 use Rattle.rules.specs.paper.Run.{Ending, ended, stopped, lost, run}
-use Rattle.rules.specs.paper.Needs.{Sizes, Need, routine_need, has_loop, has_recursion}
+use Rattle.rules.specs.paper.Needs.{Sizes, Need, routine_need, has_loop}
 use Rattle.rules.specs.paper.Needs as Needs
 use Rattle.rules.specs.paper.HighMarks.{no_high_marks, high_marks}
 
@@ -65,7 +65,7 @@ outcome_of_value (location l) = cell l
 abbrev pub outcome_of : List Entry → Outcome
 outcome_of [] = nothing
 outcome_of (bindable (value v) ∷ X) = outcome_of_value v
-outcome_of (bindable (closure own fs b E) ∷ X) = nothing
+outcome_of (bindable (closure fs b E) ∷ X) = nothing
 outcome_of (name x ∷ X) = nothing
 outcome_of (node c ∷ X) = nothing
 outcome_of (environment E ∷ X) = nothing
@@ -172,19 +172,15 @@ figures_of r t =
     let counted = cond (ltb most_steps n.steps) (no_figures Refusals.TooManySteps 0) (room_figures n (given n.steps)) in
     cond (has_loop t) (room_figures n left_open) counted
 
--- 45: an Rbnd is in the tree. It is tested straight after the image.
-unfoldable pub tree_needs : (registers : ℕ) → Root → NeedsAnswer
-tree_needs r t = cond (has_recursion t) (no_figures Refusals.HasRecursion 0) (figures_of r t)
-
 abbrev pub needs_answer : Checked → NeedsAnswer
 needs_answer (turned_back x p) = no_figures x p
-needs_answer (passed r t c) = tree_needs r t
+needs_answer (passed r t c) = figures_of r t
 
 pub record NeedsCalled : Type 0 where
   pub answer : NeedsAnswer
   pub work : List ℕ
 
--- The needs alone test 22, then the image, then 45, then 40. 22 touches nothing; every other call clears the work words.
+-- The needs alone test 22, then the image, then 40. 22 touches nothing; every other call clears the work words.
 unfoldable pub needs : (image : List ℕ) → (work : List ℕ) → NeedsCalled
 needs im ws =
     let body : NeedsCalled = record { answer = needs_answer (check_image im); work = cleared ws } in

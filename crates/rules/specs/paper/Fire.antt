@@ -2,10 +2,10 @@
 -- FireExact.antt shows that this function and the table of Rules.antt are the same relation.
 use Rattle.std.specs.Prelude.{ℕ, suc, ◌+◌, Bool, true, false, not, List, [], ◌∷◌, ℤ, pos, length}
 use Rattle.std.proofs.Math.Option.{Option, none, some}
-use Rattle.rules.specs.paper.Tree.{Operator, arithmetic, Eq, order, logic, Expression, Num, Boo, Id, DeRef, ValRef, Binary, Not, Formal, Command, Assign, Loop, CSeq, block, Call, Cond, Block, Blk, Declaration, Bind, DSeq, Rbnd}
+use Rattle.rules.specs.paper.Tree.{Operator, arithmetic, Eq, order, logic, Expression, Num, Boo, Id, DeRef, ValRef, Binary, Not, Formal, Command, Assign, Loop, CSeq, block, Call, Cond, Block, Blk, Declaration, Bind, DSeq}
 use Rattle.rules.specs.paper.Integers.{compute, compare, equal_integers, equal_truths, combine}
 use Rattle.rules.specs.paper.States.{Value, integer, truth, location, Bindable, value, closure, Environment, empty, bound, lookup, join, Store, find, store_at, remove, Entry, bindable, name, node, environment, locations, val, Mark, operator_mark, not_mark, assign_mark, loop_mark, conditional_mark, ref_mark, bind_mark, dseq_extend_mark, dseq_join_mark, extend_mark, leave_mark, call_mark, Item, expression, command, declaration, reference, abstraction, mark, bound_item, State, state}
-use Rattle.rules.specs.paper.Rules.{Rule, rule-Num, rule-Boo, rule-Id, rule-DeRef, rule-ValRef, rule-Binary, rule-Not, rule-Assign, rule-Loop, rule-CSeq, rule-Blk, rule-Call, rule-Cond, rule-Bind, rule-DSeq, rule-Rbnd, rule-Ref, rule-Abs, mark-arithmetic, mark-Eq, mark-order, mark-logic, mark-Not, mark-Assign, mark_Loop, mark-Cond, mark_Ref, mark-Bind, mark-DSeq-extend, mark-DSeq-join, mark-extend, mark-leave, mark-Call, Effect, goes, pushed, equal_values, put_actuals, Matched, match_formals, with_own_name, call_bindings}
+use Rattle.rules.specs.paper.Rules.{Rule, rule-Num, rule-Boo, rule-Id, rule-DeRef, rule-ValRef, rule-Binary, rule-Not, rule-Assign, rule-Loop, rule-CSeq, rule-Blk, rule-Call, rule-Cond, rule-Bind, rule-DSeq, rule-Ref, rule-Abs, mark-arithmetic, mark-Eq, mark-order, mark-logic, mark-Not, mark-Assign, mark_Loop, mark-Cond, mark_Ref, mark-Bind, mark-DSeq-extend, mark-DSeq-join, mark-extend, mark-leave, mark-Call, Effect, goes, pushed, equal_values, put_actuals, Matched, match_formals}
 
 pub data Firing : Type 0 where
   stuck : Firing
@@ -30,7 +30,7 @@ as_bindable (locations L) = none
 
 abbrev pub as_value : Entry → Option Value
 as_value (bindable (value v)) = some v
-as_value (bindable (closure own fs b E)) = none
+as_value (bindable (closure fs b E)) = none
 as_value (name x) = none
 as_value (node c) = none
 as_value (environment E) = none
@@ -40,7 +40,7 @@ abbrev pub as_integer : Entry → Option ℤ
 as_integer (bindable (value (integer z))) = some z
 as_integer (bindable (value (truth b))) = none
 as_integer (bindable (value (location l))) = none
-as_integer (bindable (closure own fs b E)) = none
+as_integer (bindable (closure fs b E)) = none
 as_integer (name x) = none
 as_integer (node c) = none
 as_integer (environment E) = none
@@ -50,7 +50,7 @@ abbrev pub as_truth : Entry → Option Bool
 as_truth (bindable (value (integer z))) = none
 as_truth (bindable (value (truth b))) = some b
 as_truth (bindable (value (location l))) = none
-as_truth (bindable (closure own fs b E)) = none
+as_truth (bindable (closure fs b E)) = none
 as_truth (name x) = none
 as_truth (node c) = none
 as_truth (environment E) = none
@@ -123,7 +123,7 @@ as_locations (locations L) = some L
 -- The value, location or closure that a name is bound to.
 abbrev pub bound_value : Bindable → Option Value
 bound_value (value v) = some v
-bound_value (closure own fs b E) = none
+bound_value (closure fs b E) = none
 
 abbrev pub as_location : Value → Option ℕ
 as_location (integer z) = none
@@ -132,17 +132,16 @@ as_location (location l) = some l
 
 abbrev pub bound_location : Bindable → Option ℕ
 bound_location (value v) = as_location v
-bound_location (closure own fs b E) = none
+bound_location (closure fs b E) = none
 
 pub record Closure : Type 0 where
-  pub own : Option ℕ
   pub formals : List Formal
   pub body : Block
   pub environment_of : Environment
 
 abbrev pub bound_closure : Bindable → Option Closure
 bound_closure (value v) = none
-bound_closure (closure own fs b E) = some (record { own = own; formals = fs; body = b; environment_of = E })
+bound_closure (closure fs b E) = some (record { formals = fs; body = b; environment_of = E })
 
 -- What Id pushes: a plain value itself, and of a location its cell's contents.
 abbrev pub id_value : Store → Value → Option Value
@@ -195,8 +194,6 @@ fire_declaration (Bind p x b) C X E S L n =
     fires rule-Bind (goes (state (bound_item b ∷ mark bind_mark ∷ C) (name x ∷ X) E S L n))
 fire_declaration (DSeq p d₁ d₂) C X E S L n =
     fires rule-DSeq (goes (state (declaration d₁ ∷ mark dseq_extend_mark ∷ declaration d₂ ∷ mark dseq_join_mark ∷ C) X E S L n))
-fire_declaration (Rbnd p x q fs b) C X E S L n =
-    fires rule-Rbnd (goes (state (abstraction q (some x) fs b ∷ mark bind_mark ∷ C) (name x ∷ X) E S L n))
 
 unfoldable pub fire_operator : Operator → List Item → List Entry → Environment → Store → List ℕ → ℕ → Firing
 fire_operator (arithmetic o) C X E S L n =
@@ -240,16 +237,16 @@ fire_mark (leave_mark p m) C X E S L n =
     fires mark-leave (goes (state C Z F (remove L S) K m))))
 fire_mark (call_mark p x k) C X E S L n =
     given (lookup x E) (λ b. given (bound_closure b) (λ c.
-    given (match_formals k c.formals X (with_own_name c.own c.formals c.body c.environment_of)) (λ m.
+    given (match_formals k c.formals X c.environment_of) (λ m.
     fires mark-Call
-    (goes (state (command (block c.body) ∷ mark (leave_mark p n) ∷ C) (environment E ∷ locations L ∷ m.rest) m.environment_with S [] (n + (call_bindings c.own k)))))))
+    (goes (state (command (block c.body) ∷ mark (leave_mark p n) ∷ C) (environment E ∷ locations L ∷ m.rest) m.environment_with S [] (n + k))))))
 
 unfoldable pub fire_item : Item → List Item → List Entry → Environment → Store → List ℕ → ℕ → Firing
 fire_item (expression e) C X E S L n = fire_expression e C X E S L n
 fire_item (command c) C X E S L n = fire_command c C X E S L n
 fire_item (declaration d) C X E S L n = fire_declaration d C X E S L n
 fire_item (reference p e) C X E S L n = fires rule-Ref (goes (state (expression e ∷ mark ref_mark ∷ C) X E S L n))
-fire_item (abstraction p own fs b) C X E S L n = fires rule-Abs (goes (state C (bindable (closure own fs b E) ∷ X) E S L n))
+fire_item (abstraction p fs b) C X E S L n = fires rule-Abs (goes (state C (bindable (closure fs b E) ∷ X) E S L n))
 fire_item (mark m) C X E S L n = fire_mark m C X E S L n
 
 unfoldable pub fire : State → Firing

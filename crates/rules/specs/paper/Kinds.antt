@@ -14,9 +14,9 @@ pub data CommandKind : Type 0 where
   assign loop cseq blk call conditional : CommandKind
 
 pub data DeclarationKind : Type 0 where
-  bind dseq rbnd : DeclarationKind
+  bind dseq : DeclarationKind
 
--- A kind with its sort: kinds 1 to 17 are expressions, 20 to 25 commands, 30 to 32 declarations.
+-- A kind with its sort: kinds 1 to 17 are expressions, 20 to 25 commands, 30 and 31 declarations.
 pub data Kind : Type 0 where
   expression_kind : ExpressionKind → Kind
   command_kind : CommandKind → Kind
@@ -24,9 +24,9 @@ pub data Kind : Type 0 where
   ref abs formal : Kind
 
 -- What a child, or the root, may be: an expression, a command, a declaration; what a Bind binds, which is an expression, Ref or Abs; a
--- Formal; a Blk and no other command; the root, which is an expression or a command; and an Abs, the child of an Rbnd.
+-- Formal; a Blk and no other command; and the root, which is an expression or a command.
 pub data Sort : Type 0 where
-  an_expression a_command a_declaration a_bound a_formal a_Block a_root an_abstraction : Sort
+  an_expression a_command a_declaration a_bound a_formal a_Block a_root : Sort
 
 -- The children of a kind: one of each of these sorts; or first some of one sort, as many as the operand counts.
 pub data Children : Type 0 where
@@ -75,7 +75,6 @@ row_of (command_kind call) = row 24 (names * suc most_parameters) (counted upper
 row_of (command_kind conditional) = row 25 1 (these (an_expression ∷ a_command ∷ a_command ∷ []))
 row_of (declaration_kind bind) = row 30 names (these (a_bound ∷ []))
 row_of (declaration_kind dseq) = row 31 1 (these (a_declaration ∷ a_declaration ∷ []))
-row_of (declaration_kind rbnd) = row 32 names (these (an_abstraction ∷ []))
 row_of ref = row 40 1 (these (an_expression ∷ []))
 row_of abs = row 41 (suc most_parameters) (counted (λ w. w) a_formal (a_Block ∷ []))
 row_of formal = row 42 (names * codes) (these [])
@@ -147,12 +146,6 @@ is_of a_root (declaration_kind k) = false
 is_of a_root ref = false
 is_of a_root abs = false
 is_of a_root formal = false
-is_of an_abstraction (expression_kind k) = false
-is_of an_abstraction (command_kind k) = false
-is_of an_abstraction (declaration_kind k) = false
-is_of an_abstraction ref = false
-is_of an_abstraction abs = true
-is_of an_abstraction formal = false
 
 -- Every kind: `kind_known` (ReaderComplete.antt) shows that none is missing.
 unfoldable pub every_kind : List Kind
@@ -165,7 +158,7 @@ every_kind =
     expression_kind (binary (logic And)) ∷ expression_kind (binary (logic Or)) ∷
     expression_kind negation ∷ expression_kind deref ∷ expression_kind valref ∷
     command_kind assign ∷ command_kind loop ∷ command_kind cseq ∷ command_kind blk ∷ command_kind call ∷ command_kind conditional ∷
-    declaration_kind bind ∷ declaration_kind dseq ∷ declaration_kind rbnd ∷
+    declaration_kind bind ∷ declaration_kind dseq ∷
     ref ∷ abs ∷ formal ∷
     []
 

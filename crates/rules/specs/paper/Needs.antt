@@ -3,8 +3,7 @@
 -- control, above what lies under the node), and how many steps are made until the node is done. A node's need is that of its own step,
 -- then of what this puts on control, one after the other, each over what lies under it then.
 use Rattle.std.specs.Prelude.{ℕ, zero, suc, ◌+◌, max, Bool, true, false, cond, ◌||◌, List, [], ◌∷◌, ◌++◌, eqb, length}
-use Rattle.rules.specs.paper.Kinds.{Kind, command_kind, declaration_kind, assign, loop, cseq, blk, call, conditional, rbnd, kind_number}
-use Rattle.rules.specs.paper.Tree.{Expression, Num, Boo, Id, DeRef, ValRef, Binary, Not, Formal, Command, Assign, Loop, CSeq, block, Call, Cond, Block, Blk, Declaration, Bind, DSeq, Rbnd, Bound, plain, Ref, Abs, Root, expression, command, absent}
+use Rattle.rules.specs.paper.Tree.{Expression, Num, Boo, Id, DeRef, ValRef, Binary, Not, Formal, Command, Assign, Loop, CSeq, block, Call, Cond, Block, Blk, Declaration, Bind, DSeq, Bound, plain, Ref, Abs, Root, expression, command, absent}
 
 -- The four sizes of a state.
 pub data Figure : Type 0 where
@@ -113,12 +112,10 @@ cells_of_bound (Abs p fs b) = 0
 unfoldable pub cells_left : Declaration → ℕ
 cells_left (Bind p x b) = cells_of_bound b
 cells_left (DSeq p d₁ d₂) = cells_left d₂ + cells_left d₁
-cells_left (Rbnd p x q fs b) = 0
 
 unfoldable pub bindings_left : Declaration → ℕ
 bindings_left (Bind p x b) = 1
 bindings_left (DSeq p d₁ d₂) = bindings_left d₂ + bindings_left d₁
-bindings_left (Rbnd p x q fs b) = 1
 
 -- ---- Commands and declarations.
 
@@ -181,14 +178,11 @@ unfoldable mutual
       step (sizes 1 3 (cells_left d₂ + cells_left d₁) (bindings_left d₂ + bindings_left d₁)) ∷
       []
       )
-  -- As the Bind of its Abs. With an Rbnd in the tree there are no figures (45), so what its function needs is not asked.
-  declaration_need N (Rbnd p x q fs b) = in_turn (node_step ∷ over (sizes 1 1 0 0) push_step ∷ step (sizes 1 2 0 1) ∷ [])
 
   -- The names that a declaration gives, a function's with the need of its Blk.
   pub names_given : Needs → Declaration → Needs
   names_given N (Bind p x b) = record { name = x; need = bound_function N b } ∷ []
   names_given N (DSeq p d₁ d₂) = names_given (names_given N d₁ ++ N) d₂ ++ names_given N d₁
-  names_given N (Rbnd p x q fs b) = record { name = x; need = block_need (over_formals fs N) b } ∷ []
 
   pub bound_function : Needs → Bound → Need
   bound_function N (plain e) = nothing
@@ -204,48 +198,50 @@ root_need N absent = nothing
 unfoldable pub routine_need : (registers : ℕ) → Root → Need
 routine_need r t = over (sizes 0 0 r r) (root_need (register_needs r) t)
 
--- ---- Which kinds are in a tree, in its functions too, called or not: of commands, and Rbnd.
+-- ---- The commands of a tree, those of its functions too, called or not.
 
--- Some such node has a kind that meets this test.
+abbrev pub is_loop : Command → Bool
+is_loop (Assign p x e) = false
+is_loop (Loop p e c) = true
+is_loop (CSeq p c₁ c₂) = false
+is_loop (block b) = false
+is_loop (Call p x es) = false
+is_loop (Cond p e c₁ c₂) = false
+
+abbrev pub is_conditional : Command → Bool
+is_conditional (Assign p x e) = false
+is_conditional (Loop p e c) = false
+is_conditional (CSeq p c₁ c₂) = false
+is_conditional (block b) = false
+is_conditional (Call p x es) = false
+is_conditional (Cond p e c₁ c₂) = true
+
+-- Some command meets this test.
 unfoldable mutual
-  pub some_command : (Kind → Bool) → Command → Bool
-  some_command t (Assign p x e) = t (command_kind assign)
-  some_command t (Loop p e c) = t (command_kind loop) || some_command t c
-  some_command t (CSeq p c₁ c₂) = t (command_kind cseq) || some_command t c₁ || some_command t c₂
+  pub some_command : (Command → Bool) → Command → Bool
+  some_command t (Assign p x e) = t (Assign p x e)
+  some_command t (Loop p e c) = t (Loop p e c) || some_command t c
+  some_command t (CSeq p c₁ c₂) = t (CSeq p c₁ c₂) || some_command t c₁ || some_command t c₂
   some_command t (block b) = some_in_block t b
-  some_command t (Call p x es) = t (command_kind call)
-  some_command t (Cond p e c₁ c₂) = t (command_kind conditional) || some_command t c₁ || some_command t c₂
+  some_command t (Call p x es) = t (Call p x es)
+  some_command t (Cond p e c₁ c₂) = t (Cond p e c₁ c₂) || some_command t c₁ || some_command t c₂
 
-  pub some_in_block : (Kind → Bool) → Block → Bool
-  some_in_block t (Blk p d c) = t (command_kind blk) || some_in_declaration t d || some_command t c
+  pub some_in_block : (Command → Bool) → Block → Bool
+  some_in_block t (Blk p d c) = t (block (Blk p d c)) || some_in_declaration t d || some_command t c
 
-  pub some_in_declaration : (Kind → Bool) → Declaration → Bool
+  pub some_in_declaration : (Command → Bool) → Declaration → Bool
   some_in_declaration t (Bind p x b) = some_in_bound t b
   some_in_declaration t (DSeq p d₁ d₂) = some_in_declaration t d₁ || some_in_declaration t d₂
-  some_in_declaration t (Rbnd p x q fs b) = t (declaration_kind rbnd) || some_in_block t b
 
-  pub some_in_bound : (Kind → Bool) → Bound → Bool
+  pub some_in_bound : (Command → Bool) → Bound → Bool
   some_in_bound t (plain e) = false
   some_in_bound t (Ref p e) = false
   some_in_bound t (Abs p fs b) = some_in_block t b
 
-unfoldable pub some_in_root : (Kind → Bool) → Root → Bool
+unfoldable pub some_in_root : (Command → Bool) → Root → Bool
 some_in_root t (expression e) = false
 some_in_root t (command c) = some_command t c
 some_in_root t absent = false
-
--- The test for one kind.
-abbrev pub is_kind : Kind → Kind → Bool
-is_kind k j = eqb (kind_number j) (kind_number k)
-
-abbrev pub is_loop : Kind → Bool
-is_loop = is_kind (command_kind loop)
-
-abbrev pub is_conditional : Kind → Bool
-is_conditional = is_kind (command_kind conditional)
-
-abbrev pub is_recursion : Kind → Bool
-is_recursion = is_kind (declaration_kind rbnd)
 
 -- A Loop anywhere in the tree.
 unfoldable pub has_loop : Root → Bool
@@ -253,7 +249,3 @@ has_loop = some_in_root is_loop
 
 unfoldable pub has_conditional : Root → Bool
 has_conditional = some_in_root is_conditional
-
--- An Rbnd anywhere in the tree.
-unfoldable pub has_recursion : Root → Bool
-has_recursion = some_in_root is_recursion

@@ -1,12 +1,12 @@
--- The needs before loading, by examples: cases of the paper, a slot with no routine, and an Rbnd, which has no needs.
+-- The needs before loading, by examples: cases of the paper, and a slot with no routine.
 use Rattle.std.specs.Prelude.{ℕ, ◌≡◌, refl, List, [], ◌∷◌, replicate}
-use Rattle.rules.specs.paper.Refusals.{NotAssignable, Unbound, HasRecursion}
+use Rattle.rules.specs.paper.Refusals.{NotAssignable}
 use Rattle.rules.specs.paper.Limits.{work_words}
 use Rattle.rules.specs.paper.Kinds.{kind_of, operand_fits}
 use Rattle.rules.specs.paper.Reader.{read, read_root, read_command, read_expression, read_many, read_formal, node, nodes_of}
 use Rattle.rules.specs.paper.Checker.{root_is, register_scope, command_ok, expression_codes, expression_code, meaning_of, has_name, shares_name, distinct, with_formals}
-use Rattle.rules.specs.paper.Needs.{in_turn, expression_need, actuals_need, need_of, over_formals, register_needs, cells_left, bindings_left, bound_need, function_need, tested_need, command_need, root_need, routine_need, some_command, some_in_root, has_loop, has_recursion}
-use Rattle.rules.specs.paper.Engine.{check_image, NeedsAnswer, figures, no_figures, given, left_open, figures_of, tree_needs, needs}
+use Rattle.rules.specs.paper.Needs.{in_turn, expression_need, actuals_need, need_of, over_formals, register_needs, cells_left, bindings_left, bound_need, function_need, tested_need, command_need, root_need, routine_need, some_command, some_in_root, has_loop}
+use Rattle.rules.specs.paper.Engine.{check_image, NeedsAnswer, figures, no_figures, given, left_open, figures_of, needs}
 
 pub record Price : Type 0 where
   pub image : List ℕ
@@ -33,15 +33,11 @@ prices =
     price (6 ∷ 1 ∷ 23 ∷ 30 ∷ 40 ∷ 16 ∷ 20 ∷ 16 ∷ 0 ∷ 1 ∷ 0 ∷ 0 ∷ 1 ∷ 0 ∷ []) (no_figures NotAssignable 4) ∷
     -- no routine, three registers
     price (0 ∷ 3 ∷ []) (figures 0 0 3 3 (given 0)) ∷
-    -- Blk(Rbnd(1, Abs(Blk(Bind(2, 0), Assign(0, 1)))), Assign(0, 2)), one register: 45, although the function is not called
-    price (10 ∷ 1 ∷ 23 ∷ 32 ∷ 41 ∷ 23 ∷ 30 ∷ 1 ∷ 20 ∷ 1 ∷ 20 ∷ 1 ∷ 0 ∷ 1 ∷ 0 ∷ 0 ∷ 2 ∷ 0 ∷ 0 ∷ 1 ∷ 0 ∷ 2 ∷ []) (no_figures HasRecursion 0) ∷
-    -- the same with a name that is not bound: the image's refusals come first
-    price (10 ∷ 1 ∷ 23 ∷ 32 ∷ 41 ∷ 23 ∷ 30 ∷ 1 ∷ 20 ∷ 1 ∷ 20 ∷ 1 ∷ 0 ∷ 1 ∷ 0 ∷ 0 ∷ 2 ∷ 0 ∷ 0 ∷ 1 ∷ 5 ∷ 2 ∷ []) (no_figures Unbound 8) ∷
     []
 
 -- The needs, lent 8,192 work words, give what the row says.
 unfoldable pub Holds : Price → Type 0
-unfolding needs check_image read read_root read_command read_expression read_many read_formal node nodes_of kind_of operand_fits root_is register_scope command_ok expression_codes expression_code meaning_of has_name shares_name distinct with_formals tree_needs figures_of in_turn expression_need actuals_need need_of over_formals register_needs cells_left bindings_left bound_need function_need tested_need command_need root_need routine_need some_command some_in_root has_loop has_recursion
+unfolding needs check_image read read_root read_command read_expression read_many read_formal node nodes_of kind_of operand_fits root_is register_scope command_ok expression_codes expression_code meaning_of has_name shares_name distinct with_formals figures_of in_turn expression_need actuals_need need_of over_formals register_needs cells_left bindings_left bound_need function_need tested_need command_need root_need routine_need some_command some_in_root has_loop
 Holds p = (needs p.image (replicate work_words 0)).answer ≡ p.answer
 
 unfoldable pub AllHold : List Price → Type 0
@@ -51,4 +47,4 @@ AllHold (p ∷ ps) = Holds p × AllHold ps
 
 pub prices_hold : AllHold prices
 unfolding AllHold
-prices_hold = (refl, (refl, (refl, (refl, (refl, (refl, (refl, (refl, tt))))))))
+prices_hold = (refl, (refl, (refl, (refl, (refl, (refl, tt))))))

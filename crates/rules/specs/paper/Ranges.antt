@@ -1,5 +1,5 @@
 -- The ranges of the registers (document 02, request 10): from image words, a lowest and a highest start for each register and the work slice's
--- words to the answer, the final lists and the final work words. 22 is tested first, then the image, 45, 20 for either list, 42, 43, 40, 33 to 36
+-- words to the answer, the final lists and the final work words. 22 is tested first, then the image, 20 for either list, 42, 43, 40, 33 to 36
 -- by the room figures, and 44.
 use Rattle.std.specs.Prelude.{ℕ, zero, suc, Bool, false, cond, ◌&&◌, ◌||◌, List, [], ◌∷◌, eqb, ltb, ℤ, pos, length}
 use Rattle.std.proofs.Math.Option.{Option, none, some}
@@ -8,7 +8,7 @@ use Rattle.rules.specs.paper.Tree.{Root}
 use Rattle.rules.specs.paper.Refusals.{Refusal, Withheld, Reason, Cells, Bindings, ValueEntries, ControlEntries}
 use Rattle.rules.specs.paper.Refusals as Refusals
 use Rattle.rules.specs.paper.Limits.{most_steps, most_cells, most_bindings, most_value_entries, most_control_entries, work_words}
-use Rattle.rules.specs.paper.Needs.{Sizes, routine_need, has_loop, has_recursion}
+use Rattle.rules.specs.paper.Needs.{Sizes, routine_need, has_loop}
 use Rattle.rules.specs.paper.Needs as Needs
 use Rattle.rules.specs.paper.Engine.{Checked, turned_back, passed, check_image, cleared}
 use Rattle.rules.specs.paper.Carried.{Carried, numbers, truths, location, Carrying, carried, unsafe, unfit}
@@ -83,13 +83,9 @@ ranges_of r t ls hs ws =
     let limited = cond (limits_cross ls hs) (no_ranges Refusals.CrossedLimits 0 ls hs ws) straight in
     cond (eqb (length ls) r && eqb (length hs) r) limited (no_ranges Refusals.Registers 0 ls hs ws)
 
--- 45: an Rbnd is in the tree. It is tested straight after the image.
-unfoldable pub tree_ranges : (registers : ℕ) → Root → (lowest highest : List ℤ) → List ℕ → RangesCalled
-tree_ranges r t ls hs ws = cond (has_recursion t) (no_ranges Refusals.HasRecursion 0 ls hs ws) (ranges_of r t ls hs ws)
-
 abbrev pub ranges_checked : Checked → (lowest highest : List ℤ) → List ℕ → RangesCalled
 ranges_checked (turned_back x p) ls hs ws = no_ranges x p ls hs ws
-ranges_checked (passed r t c) ls hs ws = tree_ranges r t ls hs ws
+ranges_checked (passed r t c) ls hs ws = ranges_of r t ls hs ws
 
 -- 22 touches nothing; every other call clears the work words.
 unfoldable pub ranges : (image : List ℕ) → (lowest highest : List ℤ) → (work : List ℕ) → RangesCalled

@@ -3,11 +3,11 @@
 -- so it needs no other measure: where no level is left, the answer is refusal 6.
 use Rattle.std.specs.Prelude.{ℕ, zero, suc, ◌+◌, ◌*◌, ◌%◌, Bool, true, false, cond, ◌&&◌, List, [], ◌∷◌, eqb, leb, length, take, drop}
 use Rattle.std.proofs.Math.Option.{Option, none, some}
-use Rattle.rules.specs.paper.Tree.{Expression, Num, Boo, Id, DeRef, ValRef, Binary, Not, Formal, Command, Assign, Loop, CSeq, block, Call, Cond, Block, Blk, Declaration, Bind, DSeq, Rbnd, Bound, plain, Ref, Abs, Root, expression, command, absent}
+use Rattle.rules.specs.paper.Tree.{Expression, Num, Boo, Id, DeRef, ValRef, Binary, Not, Formal, Command, Assign, Loop, CSeq, block, Call, Cond, Block, Blk, Declaration, Bind, DSeq, Bound, plain, Ref, Abs, Root, expression, command, absent}
 use Rattle.rules.specs.paper.Refusals.{Refusal}
 use Rattle.rules.specs.paper.Refusals as Refusals
 use Rattle.rules.specs.paper.Limits.{names, most_nodes, most_registers, most_depth}
-use Rattle.rules.specs.paper.Kinds.{Kind, ExpressionKind, CommandKind, DeclarationKind, num, boo, id, deref, valref, binary, negation, assign, loop, cseq, blk, call, conditional, bind, dseq, rbnd, expression_kind, command_kind, declaration_kind, ref, abs, formal, upper_part, kind_of, operand_fits}
+use Rattle.rules.specs.paper.Kinds.{Kind, ExpressionKind, CommandKind, DeclarationKind, num, boo, id, deref, valref, binary, negation, assign, loop, cseq, blk, call, conditional, bind, dseq, expression_kind, command_kind, declaration_kind, ref, abs, formal, upper_part, kind_of, operand_fits}
 
 -- A node as it stands in the image: the words of the two parallel arrays.
 pub record Node : Type 0 where
@@ -108,18 +108,6 @@ wants_formal ref = none
 wants_formal abs = none
 wants_formal formal = some formal_kind
 
--- The child of an Rbnd: an Abs.
-pub data AbstractionKind : Type 0 where
-  abstraction_kind : AbstractionKind
-
-abbrev pub wants_abstraction : Kind → Option AbstractionKind
-wants_abstraction (expression_kind k) = none
-wants_abstraction (command_kind k) = none
-wants_abstraction (declaration_kind k) = none
-wants_abstraction ref = none
-wants_abstraction abs = some abstraction_kind
-wants_abstraction formal = none
-
 -- The root: an expression or a command.
 pub data RootKind : Type 0 where
   root_expression : ExpressionKind → RootKind
@@ -192,16 +180,9 @@ command_by conditional p w e c d = e >>= λ a. c >>= λ b₁. c >>= λ b₂. giv
 abbrev pub command_of : Header CommandKind → Read Expression → Read Command → Read Declaration → Read Command
 command_of h e c d = command_by h.kind h.place h.operand e c d
 
--- An Abs: its place, its Formals and its Blk.
-pub record Function : Type 0 where
-  pub place : ℕ
-  pub formals : List Formal
-  pub body : Block
-
-abbrev pub declaration_by : DeclarationKind → (place operand : ℕ) → Read Bound → Read Declaration → Read Function → Read Declaration
-declaration_by bind p w b d f = b >>= λ a. give (Bind p w a)
-declaration_by dseq p w b d f = d >>= λ a. d >>= λ c. give (DSeq p a c)
-declaration_by rbnd p w b d f = f >>= λ a. give (Rbnd p w a.place a.formals a.body)
+abbrev pub declaration_by : DeclarationKind → (place operand : ℕ) → Read Bound → Read Declaration → Read Declaration
+declaration_by bind p w b d = b >>= λ a. give (Bind p w a)
+declaration_by dseq p w b d = d >>= λ a. d >>= λ c. give (DSeq p a c)
 
 abbrev pub bound_by : BoundKind → (place operand : ℕ) → Read Expression → Read Formal → Read Block → Read Bound
 bound_by (plain_kind k) p w e f b = expression_by k p w e >>= λ a. give (plain a)
@@ -223,21 +204,13 @@ unfoldable mutual
   pub read_declaration : ℕ → Read Declaration
   read_declaration zero = node wants_declaration >>= λ h. refuse Refusals.Depth h.place
   read_declaration (suc d) =
-      node wants_declaration >>= λ h.
-      declaration_by h.kind h.place h.operand (read_bound d) (read_declaration d) (read_abstraction d)
+      node wants_declaration >>= λ h. declaration_by h.kind h.place h.operand (read_bound d) (read_declaration d)
 
   pub read_bound : ℕ → Read Bound
   read_bound zero = node wants_bound >>= λ h. refuse Refusals.Depth h.place
   read_bound (suc d) =
       node wants_bound >>= λ h.
       bound_by h.kind h.place h.operand (read_expression d) (read_formal d) (read_block d)
-
-  pub read_abstraction : ℕ → Read Function
-  read_abstraction zero = node wants_abstraction >>= λ h. refuse Refusals.Depth h.place
-  read_abstraction (suc d) =
-      node wants_abstraction >>= λ h.
-      read_many h.operand (read_formal d) >>= λ fs. read_block d >>= λ b.
-      give (record { place = h.place; formals = fs; body = b })
 
 abbrev pub root_by : RootKind → (place operand : ℕ) → Read Expression → Read Command → Read Declaration → Read Root
 root_by (root_expression k) p w e c d = expression_by k p w e >>= λ a. give (expression a)

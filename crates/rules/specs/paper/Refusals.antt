@@ -26,8 +26,6 @@ pub data Refusal : Type 0 where
   ShortPage : Refusal
   -- by the ranges: a lowest start exceeds its highest; the image has a Loop; an end leaves the integers or a divisor's range holds 0
   CrossedLimits HasLoop UnsafeArithmetic : Refusal
-  -- by the needs and the ranges: the image has an Rbnd
-  HasRecursion : Refusal
 
 unfoldable pub reason_number : Reason → ℕ
 reason_number Steps = 30
@@ -59,4 +57,3 @@ refusal_number ShortPage = 41
 refusal_number CrossedLimits = 42
 refusal_number HasLoop = 43
 refusal_number UnsafeArithmetic = 44
-refusal_number HasRecursion = 45

@@ -5,7 +5,7 @@
 -- C is the rest of control, X of the value stack; E, S, L and n are the environment, store, location set and live bindings.
 use Rattle.std.specs.Prelude.{ℕ, zero, suc, ◌+◌, ◌≡◌, Bool, true, false, not, List, [], ◌∷◌, ℤ, pos, length}
 use Rattle.std.proofs.Math.Option.{Option, none, some}
-use Rattle.rules.specs.paper.Tree.{Arithmetic, Order, Logic, Operator, arithmetic, Eq, order, logic, Expression, Num, Boo, Id, DeRef, ValRef, Binary, Not, Formal, Command, Assign, Loop, CSeq, block, Call, Cond, Block, Blk, Declaration, Bind, DSeq, Rbnd, Bound}
+use Rattle.rules.specs.paper.Tree.{Arithmetic, Order, Logic, Operator, arithmetic, Eq, order, logic, Expression, Num, Boo, Id, DeRef, ValRef, Binary, Not, Formal, Command, Assign, Loop, CSeq, block, Call, Cond, Block, Blk, Declaration, Bind, DSeq, Bound}
 use Rattle.rules.specs.paper.Refusals.{Reason}
 use Rattle.rules.specs.paper.Integers.{Result, number, failed, compute, compare, equal_integers, equal_truths, combine}
 use Rattle.rules.specs.paper.States.{Value, integer, truth, location, Bindable, value, closure, Environment, empty, bound, lookup, join, Store, find, store_at, remove, Entry, bindable, name, node, environment, locations, val, Mark, operator_mark, not_mark, assign_mark, loop_mark, conditional_mark, ref_mark, bind_mark, dseq_extend_mark, dseq_join_mark, extend_mark, leave_mark, call_mark, Item, expression, command, declaration, reference, abstraction, mark, bound_item, State, state}
@@ -14,7 +14,7 @@ use Rattle.rules.specs.paper.States.{Value, integer, truth, location, Bindable, 
 pub data Rule : Type 0 where
   rule-Num rule-Boo rule-Id rule-DeRef rule-ValRef rule-Binary rule-Not : Rule
   rule-Assign rule-Loop rule-CSeq rule-Blk rule-Call rule-Cond : Rule
-  rule-Bind rule-DSeq rule-Rbnd rule-Ref rule-Abs : Rule
+  rule-Bind rule-DSeq rule-Ref rule-Abs : Rule
   mark-arithmetic mark-Eq mark-order mark-logic mark-Not : Rule
   mark-Assign mark_Loop mark-Cond mark_Ref mark-Bind mark-DSeq-extend mark-DSeq-join mark-extend mark-leave mark-Call : Rule
 
@@ -61,21 +61,11 @@ match_formals zero (f ∷ fs) X F = none
 match_formals (suc k) [] X F = none
 match_formals (suc k) (f ∷ fs) [] F = none
 match_formals (suc k) (f ∷ fs) (bindable (value v) ∷ X) F = match_formals k fs X (bound f.name (value v) F)
-match_formals (suc k) (f ∷ fs) (bindable (closure s gs b E) ∷ X) F = none
+match_formals (suc k) (f ∷ fs) (bindable (closure gs b E) ∷ X) F = none
 match_formals (suc k) (f ∷ fs) (name x ∷ X) F = none
 match_formals (suc k) (f ∷ fs) (node c ∷ X) F = none
 match_formals (suc k) (f ∷ fs) (environment E ∷ X) F = none
 match_formals (suc k) (f ∷ fs) (locations L ∷ X) F = none
-
--- What a call's Formals are added to: the closure's environment, then, where an Rbnd declared the function, its name with that closure.
-abbrev pub with_own_name : (own : Option ℕ) → List Formal → Block → Environment → Environment
-with_own_name none fs b F = F
-with_own_name (some x) fs b F = bound x (closure (some x) fs b F) F
-
--- How many live bindings a call makes: its Formals, and one more for the own name.
-abbrev pub call_bindings : (own : Option ℕ) → (formals : ℕ) → ℕ
-call_bindings none k = k
-call_bindings (some x) k = suc k
 
 pub data Table (C : List Item) (E : Environment) (S : Store) (L : List ℕ) (n : ℕ) : Rule → Item → List Entry → Effect → Type 0 where
   -- Num, Boo, Id, DeRef, ValRef: one step, pushing the value (002, rules 11, 17, 26, 27).
@@ -144,12 +134,9 @@ pub data Table (C : List Item) (E : Environment) (S : Store) (L : List ℕ) (n :
       Table C E S L n rule-Bind (declaration (Bind p x b)) X (goes (state (bound_item b ∷ mark bind_mark ∷ C) (name x ∷ X) E S L n))
   bind_at : {x : ℕ} {b : Bindable} {X : List Entry} →
       Table C E S L n mark-Bind (mark bind_mark) (bindable b ∷ name x ∷ X) (goes (state C (environment (bound x b empty) ∷ X) E S L (suc n)))
-  -- Rbnd: as Bind, its Abs with the name. So the mark is Bind's. This line stands in place of 000's rule 44.
-  rbnd : {p x q : ℕ} {fs : List Formal} {b : Block} {X : List Entry} →
-      Table C E S L n rule-Rbnd (declaration (Rbnd p x q fs b)) X (goes (state (abstraction q (some x) fs b ∷ mark bind_mark ∷ C) (name x ∷ X) E S L n))
-  -- Abs: one step to a closure of Formals, Blk and E (002, rule 35), and of the name that an Rbnd gives it.
-  abs : {p : ℕ} {own : Option ℕ} {fs : List Formal} {b : Block} {X : List Entry} →
-      Table C E S L n rule-Abs (abstraction p own fs b) X (goes (state C (bindable (closure own fs b E) ∷ X) E S L n))
+  -- Abs: one step to a closure of Formals, Blk and E (002, rule 35).
+  abs : {p : ℕ} {fs : List Formal} {b : Block} {X : List Entry} →
+      Table C E S L n rule-Abs (abstraction p fs b) X (goes (state C (bindable (closure fs b E) ∷ X) E S L n))
   -- DSeq: one step puts D1, the first mark, D2 and the second mark on control. These three lines stand in place of 000's rules 30
   -- and 31, by which D2 did not see D1's names.
   dseq : {p : ℕ} {d₁ d₂ : Declaration} {X : List Entry} →
@@ -174,12 +161,12 @@ pub data Table (C : List Item) (E : Environment) (S : Store) (L : List ℕ) (n :
   -- Call: one step puts all actuals and the mark on control (000, rule 36).
   call : {p x : ℕ} {es : List Expression} {X : List Entry} →
       Table C E S L n rule-Call (command (Call p x es)) X (goes (state (put_actuals es (mark (call_mark p x (length es)) ∷ C)) X E S L n))
-  -- The mark pushes L, then E, sets L empty, sets the environment to the closure's, with its own name if it knows it, plus Formals, and runs
-  -- the Blk with the block's second mark behind it. Rule 37 forgets L. The own name and the Formals are live bindings from here.
-  call_at : {p x k : ℕ} {own : Option ℕ} {fs : List Formal} {b : Block} {F : Environment} {m : Matched} {X : List Entry} →
-      lookup x E ≡ some (closure own fs b F) → match_formals k fs X (with_own_name own fs b F) ≡ some m →
+  -- The mark pushes L, then E, sets L empty, sets the environment to the closure's plus Formals, and runs the Blk with the
+  -- block's second mark behind it. Rule 37 forgets L. The Formals are live bindings from here.
+  call_at : {p x k : ℕ} {fs : List Formal} {b : Block} {F : Environment} {m : Matched} {X : List Entry} →
+      lookup x E ≡ some (closure fs b F) → match_formals k fs X F ≡ some m →
       Table C E S L n mark-Call (mark (call_mark p x k)) X
-      (goes (state (command (block b) ∷ mark (leave_mark p n) ∷ C) (environment E ∷ locations L ∷ m.rest) m.environment_with S [] (n + (call_bindings own k))))
+      (goes (state (command (block b) ∷ mark (leave_mark p n) ∷ C) (environment E ∷ locations L ∷ m.rest) m.environment_with S [] (n + k)))
 
 -- "A rule applies when its node or mark is on top of control and the entries of V, bindings and cell contents it uses are
 -- there and of the sorts it takes" (paper, "Agreement between supplier and tester").

@@ -2,17 +2,17 @@
 -- and the steps with both commands of a Cond counted.
 use Rattle.std.specs.Prelude.{ℕ, ◌≡◌, refl, List, [], ◌∷◌, ℤ, pos, negsuc, replicate}
 use Rattle.rules.specs.paper.Tree.{Root, command, Cond, Assign, Binary, Id, Num, order, Lt, arithmetic, Sum}
-use Rattle.rules.specs.paper.Refusals.{Registers, CrossedLimits, HasLoop, UnsafeArithmetic, HasRecursion}
+use Rattle.rules.specs.paper.Refusals.{Registers, CrossedLimits, HasLoop, UnsafeArithmetic}
 use Rattle.rules.specs.paper.Limits.{work_words}
 use Rattle.rules.specs.paper.Integers.{greatest_integer, compute, compare, equal_integers}
 use Rattle.rules.specs.paper.Kinds.{kind_of, operand_fits}
 use Rattle.rules.specs.paper.Reader.{read, read_root, read_command, read_expression, read_many, read_formal, node, nodes_of}
 use Rattle.rules.specs.paper.Checker.{root_is, register_scope, command_ok, expression_codes, expression_code, meaning_of, has_name, shares_name, distinct, with_formals}
-use Rattle.rules.specs.paper.Needs.{in_turn, expression_need, actuals_need, need_of, over_formals, register_needs, cells_left, bindings_left, bound_need, function_need, tested_need, command_need, root_need, routine_need, some_command, some_in_root, has_loop, has_recursion}
+use Rattle.rules.specs.paper.Needs.{in_turn, expression_need, actuals_need, need_of, over_formals, register_needs, cells_left, bindings_left, bound_need, function_need, tested_need, command_need, root_need, routine_need, some_command, some_in_root, has_loop}
 use Rattle.rules.specs.paper.Carried.{lower, higher, over_ends, carry_arithmetic, carry_order, carry_operator}
 use Rattle.rules.specs.paper.Carrying.{carried_at, carry_to, oldest_cells, wider_cells, carried_meaning, carry_formals, carry_expression, carry_actuals, carry_assign, carry_command, carry_root, register_names, register_cells, carry_routine}
 use Rattle.rules.specs.paper.Engine.{check_image}
-use Rattle.rules.specs.paper.Ranges.{RangesAnswer, ends_given, no_ends, ends_from, limits_cross, room_refusal, ranges_of, tree_ranges, ranges}
+use Rattle.rules.specs.paper.Ranges.{RangesAnswer, ends_given, no_ends, ends_from, limits_cross, room_refusal, ranges_of, ranges}
 
 -- A call's image and limits, its answer, and what it leaves in both lists.
 pub record Span : Type 0 where
@@ -52,10 +52,6 @@ two_actuals =
     23 ∷ 30 ∷ 41 ∷ 42 ∷ 42 ∷ 23 ∷ 30 ∷ 1 ∷ 20 ∷ 3 ∷ 24 ∷ 7 ∷ 1 ∷ 3 ∷ 7 ∷ 1 ∷ 3 ∷
     0 ∷ 1 ∷ 2 ∷ 2 ∷ 3 ∷ 0 ∷ 4 ∷ 1 ∷ 0 ∷ 2 ∷ 129 ∷ 0 ∷ 1 ∷ 0 ∷ 0 ∷ 2 ∷ 0 ∷ []
 
--- Blk(Rbnd(1, Abs(Blk(Bind(2, 0), Assign(0, 1)))), Assign(0, 2)), one register
-abbrev recursive : List ℕ
-recursive = 10 ∷ 1 ∷ 23 ∷ 32 ∷ 41 ∷ 23 ∷ 30 ∷ 1 ∷ 20 ∷ 1 ∷ 20 ∷ 1 ∷ 0 ∷ 1 ∷ 0 ∷ 0 ∷ 2 ∷ 0 ∷ 0 ∷ 1 ∷ 0 ∷ 2 ∷ []
-
 -- `negsuc n` is −(n + 1).
 abbrev pub spans : List Span
 spans =
@@ -89,16 +85,13 @@ spans =
     -- a lowest start that exceeds its highest: 42; a list that is too short: 20
     kept divided (pos 5 ∷ []) (pos 4 ∷ []) (no_ends CrossedLimits 0) ∷
     kept divided (pos 5 ∷ []) [] (no_ends Registers 0) ∷
-    -- Blk(Rbnd(1, Abs(Blk(Bind(2, 0), Assign(0, 1)))), Assign(0, 2)): 45, before the lists are looked at
-    kept recursive (pos 5 ∷ []) (pos 6 ∷ []) (no_ends HasRecursion 0) ∷
-    kept recursive (pos 5 ∷ []) [] (no_ends HasRecursion 0) ∷
     -- no routine, two registers
     span (0 ∷ 2 ∷ []) (pos 1 ∷ negsuc 2 ∷ []) (pos 4 ∷ pos 0 ∷ []) (pos 1 ∷ negsuc 2 ∷ []) (pos 4 ∷ pos 0 ∷ []) ∷
     []
 
 -- The ranges, lent 8,192 work words, give what the row says.
 unfoldable pub Holds : Span → Type 0
-unfolding ranges tree_ranges ranges_of limits_cross room_refusal ends_from carry_routine register_names register_cells carry_root carry_command carry_assign carry_actuals carry_expression carry_formals carried_meaning wider_cells oldest_cells carry_to carried_at carry_operator carry_order carry_arithmetic over_ends lower higher compute compare equal_integers check_image read read_root read_command read_expression read_many read_formal node nodes_of kind_of operand_fits root_is register_scope command_ok expression_codes expression_code meaning_of has_name shares_name distinct with_formals in_turn expression_need actuals_need need_of over_formals register_needs cells_left bindings_left bound_need function_need tested_need command_need root_need routine_need some_command some_in_root has_loop has_recursion
+unfolding ranges ranges_of limits_cross room_refusal ends_from carry_routine register_names register_cells carry_root carry_command carry_assign carry_actuals carry_expression carry_formals carried_meaning wider_cells oldest_cells carry_to carried_at carry_operator carry_order carry_arithmetic over_ends lower higher compute compare equal_integers check_image read read_root read_command read_expression read_many read_formal node nodes_of kind_of operand_fits root_is register_scope command_ok expression_codes expression_code meaning_of has_name shares_name distinct with_formals in_turn expression_need actuals_need need_of over_formals register_needs cells_left bindings_left bound_need function_need tested_need command_need root_need routine_need some_command some_in_root has_loop
 Holds s =
     ((ranges s.image s.lowest s.highest (replicate work_words 0)).answer ≡ s.answer)
     × ((ranges s.image s.lowest s.highest (replicate work_words 0)).lowest ≡ s.lowest_after)
@@ -111,7 +104,7 @@ AllHold (s ∷ ss) = Holds s × AllHold ss
 
 pub spans_hold : AllHold spans
 unfolding AllHold
-spans_hold = ((refl, refl, refl), ((refl, refl, refl), ((refl, refl, refl), ((refl, refl, refl), ((refl, refl, refl), ((refl, refl, refl), ((refl, refl, refl), ((refl, refl, refl), ((refl, refl, refl), ((refl, refl, refl), ((refl, refl, refl), ((refl, refl, refl), ((refl, refl, refl), ((refl, refl, refl), ((refl, refl, refl), ((refl, refl, refl), ((refl, refl, refl), ((refl, refl, refl), tt))))))))))))))))))
+spans_hold = ((refl, refl, refl), ((refl, refl, refl), ((refl, refl, refl), ((refl, refl, refl), ((refl, refl, refl), ((refl, refl, refl), ((refl, refl, refl), ((refl, refl, refl), ((refl, refl, refl), ((refl, refl, refl), ((refl, refl, refl), ((refl, refl, refl), ((refl, refl, refl), ((refl, refl, refl), ((refl, refl, refl), ((refl, refl, refl), tt))))))))))))))))
 
 -- ---- 40 counts both commands of a Cond: of Cond(Lt(Id 0, 10), Assign(1, 1), Assign(1, Sum(Id 1, 5))) a test of 4 steps and commands of 3 and 6.
 

@@ -12,10 +12,10 @@ pub data Value : Type 0 where
   location : ℕ → Value
 
 mutual
-  -- What a name is bound to: a value, or the closure of Formals, Blk and environment. A function that an Rbnd declares knows its own name.
+  -- What a name is bound to: a value, or the closure of Formals, Blk and environment.
   pub data Bindable : Type 0 where
     value : Value → Bindable
-    closure : (own : Option ℕ) → List Formal → Block → Environment → Bindable
+    closure : List Formal → Block → Environment → Bindable
 
   -- Newest first: inner names hide outer ones.
   pub data Environment : Type 0 where
@@ -85,14 +85,14 @@ pub data Item : Type 0 where
   command : Command → Item
   declaration : Declaration → Item
   reference : (place : ℕ) → Expression → Item  -- Ref
-  abstraction : (place : ℕ) → (own : Option ℕ) → List Formal → Block → Item  -- Abs, with the name of the Rbnd that it is the child of, if it is one's
+  abstraction : (place : ℕ) → List Formal → Block → Item  -- Abs
   mark : Mark → Item
 
 -- What a Bind puts on control for what it binds.
 abbrev pub bound_item : Bound → Item
 bound_item (plain e) = expression e
 bound_item (Ref p e) = reference p e
-bound_item (Abs p fs b) = abstraction p none fs b
+bound_item (Abs p fs b) = abstraction p fs b
 
 pub data State : Type 0 where
   state : (control : List Item) → (values : List Entry) → Environment → Store → (locations : List ℕ) → (bindings : ℕ) → State

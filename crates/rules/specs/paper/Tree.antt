@@ -48,11 +48,10 @@ mutual
   pub data Block : Type 0 where
     Blk : (place : ℕ) → Declaration → Command → Block
 
-  -- Kinds 30 to 32. An Rbnd has an Abs as its only child: the function's place, its Formals and its Blk.
+  -- Kinds 30 and 31.
   pub data Declaration : Type 0 where
     Bind : (place name : ℕ) → Bound → Declaration
     DSeq : (place : ℕ) → Declaration → Declaration → Declaration
-    Rbnd : (place name function : ℕ) → List Formal → Block → Declaration
 
   -- What a Bind binds its name to: an expression, a Ref (kind 40) or an Abs (kind 41).
   pub data Bound : Type 0 where

@@ -63,14 +63,6 @@ mod range_places;
 mod range_refusals;
 #[path = "../../../second/tests/suite/ranges.rs"]
 mod ranges;
-#[path = "../../../second/tests/suite/recursion.rs"]
-mod recursion;
-#[path = "../../../second/tests/suite/recursion_limits.rs"]
-mod recursion_limits;
-#[path = "../../../second/tests/suite/recursion_names.rs"]
-mod recursion_names;
-#[path = "../../../second/tests/suite/recursion_types.rs"]
-mod recursion_types;
 #[path = "../../../second/tests/suite/refused_images.rs"]
 mod refused_images;
 #[path = "../../../second/tests/suite/sequence_limits.rs"]

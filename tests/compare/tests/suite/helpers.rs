@@ -182,8 +182,8 @@ pub fn papers_image(wanted: &str) -> Vec<u32> {
     case.expect("a case of the paper").1
 }
 
-/// The images that are changed word by word: those of the paper's cases, one with a Cond in
-/// the other in a function, and one with two functions that call themselves.
+/// The images that are changed word by word: those of the paper's cases, and one with a
+/// Cond in the other in a function.
 pub fn images_to_change() -> Vec<Vec<u32>> {
     let inner = cond(id(3), assign(0, num(4)), call(1, vec![id(2), lt(id(0), num(9))]));
     let outer = cond(lt(id(2), id(0)), assign(0, num(5)), blk(bind_ref(3, boo(true)), inner));
@@ -191,19 +191,7 @@ pub fn images_to_change() -> Vec<Vec<u32>> {
     let function = bind_abs(5, &[(2, 0)], block(bind(4, num(6)), outer));
     let choice = blk(nothing, blk(function, call(5, vec![num(7)])));
     let paper = papers_images().into_iter().map(|(_, image, _)| image);
-    paper.chain([image(1, choice), image(1, recursions())]).collect()
-}
-
-/// Two functions that call themselves, the second also the first, and one with its name.
-fn recursions() -> Command {
-    let down = |name, count| call(name, vec![sub(id(count), num(1))]);
-    let last = assign(0, sum(id(0), num(4)));
-    let first = cond(gt(id(2), num(0)), down(1, 2), last);
-    let first = rbnd(1, &[(2, 0)], block(bind_ref(4, id(2)), first));
-    let both = cseq(down(1, 2), call(3, vec![sub(id(2), num(1)), deref(5)]));
-    let second = cond(gt(id(2), num(0)), both, assign(5, id(2)));
-    let second = rbnd(3, &[(2, 0), (5, 2)], block(bind(4, num(6)), second));
-    blk(dseq(first, second), call(3, vec![num(2), deref(0)]))
+    paper.chain([image(1, choice)]).collect()
 }
 
 /// The images of the cases A to L, each with the checker's answer by the paper.

@@ -43,7 +43,6 @@ pub fn images() -> Vec<Vec<u32>> {
         image(0, sum(num(1), boo(true))),
         image(1, blk(bind(1, num(0)), call(1, vec![]))),
         image(1, blk(dseq(bind(1, num(0)), bind(1, num(0))), assign(0, num(0)))),
-        image(1, blk(rbnd(1, &[], block(bind(2, num(0)), call(1, vec![]))), assign(0, num(0)))),
         encode(&with_nodes(2_000)),
     ]);
     all

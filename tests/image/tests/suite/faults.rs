@@ -188,45 +188,6 @@ fn choices() {
     assert_eq!(said("(If (Boo true))"), "2:2: `If` is no kind of node");
 }
 
-/// An Rbnd has a name and an Abs; where something else stands there the fault says what an
-/// Rbnd is for.
-#[test]
-fn recursion() {
-    let said = |tree: &str| fault(&format!("registers 1\n{tree}"));
-    let hint = "; an Rbnd binds a function, and a Bind a value or a cell too";
-    let child = |child: &str| said(&format!("(Blk (Rbnd 1 {child}) (Call 1))"));
-    let must = "2:14: an Abs must stand here, not";
-    assert_eq!(child("(Num 1)"), format!("{must} Num{hint}"));
-    assert_eq!(child("(Ref (Num 1))"), format!("{must} Ref{hint}"));
-    assert_eq!(child("(Bind 1 (Num 1))"), format!("{must} Bind{hint}"));
-    assert_eq!(child("(Rbnd 1 (Num 1))"), format!("{must} Rbnd{hint}"));
-    assert_eq!(child("(Formal 1 0)"), format!("{must} Formal{hint}"));
-    let block = "(Blk (Bind 2 (Num 0)) (Call 1))";
-    assert_eq!(child(block), format!("{must} Blk{hint}"));
-    assert_eq!(child("5"), "2:14: an Abs must stand here, not `5`");
-    assert_eq!(child("(abs)"), "2:15: `abs` is no kind of node; Abs is");
-    assert_eq!(
-        said("(Blk (Rbnd 1) (Call 1))"),
-        format!("2:13: an Abs of the Rbnd at 2:6 is missing{hint}")
-    );
-    assert_eq!(
-        said(&format!("(Blk (Rbnd 1 (Abs {block}) (Num 1)) (Call 1))")),
-        "2:52: the Rbnd at 2:6 has no further child"
-    );
-    let name = "a name must stand here, 0 to 63, not";
-    assert_eq!(
-        said(&format!("(Blk (Rbnd 64 (Abs {block})) (Call 1))")),
-        format!("2:12: {name} `64`")
-    );
-    assert_eq!(said(&format!("(Blk (Rbnd (Abs {block})) (Call 1))")), format!("2:12: {name} `(`"));
-    assert_eq!(said("(Rbnd 1 (Abs))"), "2:1: an expression or a command must stand here, not Rbnd");
-    assert_eq!(
-        said("(Blk (Bind 1 (Rbnd 1 (Abs))) (Call 1))"),
-        "2:14: an expression, Ref or Abs must stand here, not Rbnd"
-    );
-    assert_eq!(said("(rbnd 1 (Abs))"), "2:2: `rbnd` is no kind of node; Rbnd is");
-}
-
 #[test]
 fn parentheses() {
     let said = |tree: &str| fault(&format!("registers 1\n{tree}"));

@@ -1,7 +1,6 @@
 //! The suite: trees go to text and back unchanged, faults of a text are named where
 //! they are, damaged images are shown as far as they go, a text's routine is run, its needs,
-//! its page and its ranges are printed, also of one that calls itself, and the tables of
-//! refusals agree.
+//! its page and its ranges are printed, and the tables of refusals agree.
 
 mod binary;
 
@@ -13,7 +12,6 @@ mod needed;
 mod paged;
 mod ran;
 mod ranged;
-mod recursion;
 mod round_trip;
 mod shown;
 mod streams;

@@ -125,39 +125,6 @@ fn a_choice_goes_to_text_and_back() {
     }
 }
 
-/// An Rbnd as a Bind is written, on one line where it fits.
-#[test]
-fn recursion_goes_to_text_and_back() {
-    let short = "registers 1
-(Blk (Rbnd 1 (Abs (Blk (Bind 2 (Num 0)) (Call 1)))) (Assign 0 (Num 1)))
-";
-    let body = block(bind(2, num(0)), call(1, vec![]));
-    let root = blk(rbnd(1, &[], body), assign(0, num(1)));
-    assert_eq!(parse(short).unwrap().image(), image(1, root));
-    let long = "registers 1
-(Blk
-  (DSeq
-    (Rbnd 7
-      (Abs (Formal 8 2)
-        (Blk
-          (Bind 9 (Num 0))
-          (Cond (Gt (Id 8) (Num 0)) (Call 7 (DeRef 8)) (Assign 8 (Num 1))))))
-    (Rbnd 63 (Abs (Blk (Bind 9 (Num 0)) (Call 7 (DeRef 0))))))
-  (Call 63))
-";
-    let test = gt(id(8), num(0));
-    let again = cond(test, call(7, vec![deref(8)]), assign(8, num(1)));
-    let first = rbnd(7, &[(8, 2)], block(bind(9, num(0)), again));
-    let second = rbnd(63, &[], block(bind(9, num(0)), call(7, vec![deref(0)])));
-    let words = image(1, blk(dseq(first, second), call(63, vec![])));
-    assert_eq!(parse(long).unwrap().image(), words);
-    for text in [short, long] {
-        let printed = print(&read(&parse(text).unwrap().image()).unwrap());
-        assert_eq!(parse(&printed).unwrap().image(), parse(text).unwrap().image());
-    }
-    assert_eq!(print(&read(&parse(short).unwrap().image()).unwrap()), short);
-}
-
 #[test]
 fn starting_values_are_split_off() {
     let image = image(2, id(1));

@@ -1,10 +1,97 @@
 //! One fault put into an image: each refusal of the image is reached by some of
 //! these, at many places. What the answer is, the reader and checker say.
 
-use super::parts::{gives_a_name, Parts};
+use super::noise::children;
 use super::random::Random;
 use crate::kinds::{by_number, Kind, MOST_DEPTH, NAMES, TABLE};
 use std::ops::Range;
+
+/// An image of the right length, taken apart.
+struct Parts {
+    registers: u32,
+    nodes: Vec<(u32, u32)>,
+}
+
+impl Parts {
+    fn of(image: &[u32]) -> Parts {
+        let (kinds, operands) = image[2..].split_at(image[0] as usize);
+        let nodes = kinds.iter().copied().zip(operands.iter().copied()).collect();
+        Parts { registers: image[1], nodes }
+    }
+
+    fn image(&self) -> Vec<u32> {
+        let mut words = vec![self.nodes.len() as u32, self.registers];
+        words.extend(self.nodes.iter().map(|(kind, _)| kind));
+        words.extend(self.nodes.iter().map(|(_, operand)| operand));
+        words
+    }
+
+    fn kind(&self, place: usize) -> Kind {
+        by_number(self.nodes[place].0).expect("a kind").kind
+    }
+
+    /// The places of the nodes of some kinds.
+    fn places(&self, wanted: impl Fn(Kind) -> bool) -> Vec<usize> {
+        self.places_in(0..self.nodes.len(), wanted)
+    }
+
+    /// Those of them among some places.
+    fn places_in(&self, places: Range<usize>, wanted: impl Fn(Kind) -> bool) -> Vec<usize> {
+        places.filter(|place| wanted(self.kind(*place))).collect()
+    }
+
+    /// The place behind the node at this place and all below it.
+    fn behind(&self, place: usize) -> usize {
+        let (mut next, mut missing) = (place, 1);
+        while missing > 0 {
+            missing = missing - 1 + children(self.kind(next), self.nodes[next].1).len();
+            next += 1;
+        }
+        next
+    }
+
+    /// The places of the Binds that a declaration is made of.
+    fn binds(&self, declaration: usize) -> Vec<usize> {
+        match self.kind(declaration) {
+            Kind::DSeq => {
+                let first = declaration + 1;
+                [self.binds(first), self.binds(self.behind(first))].concat()
+            }
+            _ => vec![declaration],
+        }
+    }
+
+    /// The places among some where a name is used.
+    fn uses(&self, places: Range<usize>) -> Vec<usize> {
+        use Kind::*;
+        self.places_in(places, |kind| matches!(kind, Id | DeRef | ValRef | Assign | Call))
+    }
+
+    /// One among some places with a node of some kinds, if there is one.
+    fn one_in(
+        &self,
+        random: &mut Random,
+        places: Range<usize>,
+        wanted: impl Fn(Kind) -> bool,
+    ) -> Option<usize> {
+        let found = self.places_in(places, wanted);
+        (!found.is_empty()).then(|| *random.pick(&found))
+    }
+
+    /// One with a node of this kind, if there is one.
+    fn one_of(&self, random: &mut Random, kind: Kind) -> Option<usize> {
+        self.one_in(random, 0..self.nodes.len(), |other| other == kind)
+    }
+
+    /// One of some nodes takes the name of one of others.
+    fn take_a_name(&mut self, random: &mut Random, takers: &[usize], givers: &[usize]) {
+        if !takers.is_empty() && !givers.is_empty() {
+            let name = self.nodes[*random.pick(givers)].1 % NAMES;
+            let operand = &mut self.nodes[*random.pick(takers)].1;
+            *operand = *operand / NAMES * NAMES + name;
+        }
+    }
+}
 
 /// A well-shaped image of one node or more with one fault, or one change that may
 /// be none.
@@ -15,9 +102,9 @@ pub fn damage(random: &mut Random, image: &[u32]) -> Vec<u32> {
     let mut parts = Parts::of(image);
     let all = 0..parts.nodes.len();
     let place = random.below(parts.nodes.len());
-    match random.below(20) {
+    match random.below(18) {
         0 => {
-            parts.nodes[place].0 = *random.pick(&[0, 18, 19, 26, 29, 33, 39, 43, 1 << 16, u32::MAX])
+            parts.nodes[place].0 = *random.pick(&[0, 18, 19, 26, 29, 32, 39, 43, 1 << 16, u32::MAX])
         }
         1 => parts.nodes[place].0 = random.pick(&TABLE).number,
         2 => parts.nodes[place].1 = operand_too_great(random, parts.nodes[place].0),
@@ -38,7 +125,6 @@ pub fn damage(random: &mut Random, image: &[u32]) -> Vec<u32> {
         12 | 13 => change_a_sequence(random, &mut parts),
         14 => set_another_name(random, &mut parts, all),
         15 | 16 => change_a_choice(random, &mut parts),
-        17 | 18 => change_a_recursion(random, &mut parts),
         _ => swap_kinds(random, &mut parts),
     }
     parts.image()
@@ -73,7 +159,7 @@ fn rename(random: &mut Random, parts: &mut Parts, places: Range<usize>) {
     use Kind::*;
     let commands = random.chance(1, 2);
     let named = parts.places_in(places, |kind| match kind {
-        Assign | Call | Bind | Rbnd => true,
+        Assign | Call | Bind => true,
         Id | DeRef | ValRef | Formal => !commands,
         _ => false,
     });
@@ -111,11 +197,10 @@ fn deepen(random: &mut Random, parts: &mut Parts) {
     }
 }
 
-/// One Bind, Rbnd or Formal takes the name of another.
+/// One Bind or Formal takes the name of another.
 fn repeat_a_name(random: &mut Random, parts: &mut Parts) {
-    let formals = random.chance(1, 2);
-    let named =
-        parts.places(|kind| if formals { kind == Kind::Formal } else { gives_a_name(kind) });
+    let wanted = *random.pick(&[Kind::Bind, Kind::Formal]);
+    let named = parts.places(|kind| kind == wanted);
     parts.take_a_name(random, &named, &named);
 }
 
@@ -181,7 +266,7 @@ fn change_a_choice(random: &mut Random, parts: &mut Parts) {
         5 => change_a_call(random, parts, command),
         // The second command uses what the first declares.
         6 => {
-            let binds = parts.places_in(first..second, gives_a_name);
+            let binds = parts.places_in(first..second, |kind| kind == Kind::Bind);
             let uses = parts.uses(second..end);
             parts.take_a_name(random, &uses, &binds);
         }
@@ -206,10 +291,10 @@ pub fn change_a_function_of(random: &mut Random, image: &[u32]) -> Vec<u32> {
     parts.image()
 }
 
-/// Another function is called, or what a Call names is hidden by another Bind, Rbnd or Formal.
+/// Another function is called, or what a Call names is hidden by another Bind or Formal.
 fn change_a_function(random: &mut Random, parts: &mut Parts) {
     let calls = parts.places(|kind| kind == Kind::Call);
-    let binds = parts.places(gives_a_name);
+    let binds = parts.places(|kind| kind == Kind::Bind);
     let formals = parts.places(|kind| kind == Kind::Formal);
     match random.below(4) {
         0 => parts.take_a_name(random, &calls, &calls),
@@ -219,75 +304,11 @@ fn change_a_function(random: &mut Random, parts: &mut Parts) {
     }
 }
 
-/// The same image with a change at one of its Rbnds.
-pub fn change_a_recursion_of(random: &mut Random, image: &[u32]) -> Vec<u32> {
-    let mut parts = Parts::of(image);
-    change_a_recursion(random, &mut parts);
-    parts.image()
-}
-
-/// A change of an Rbnd: of its child, its name or the node itself, of what its Blk means by
-/// its name, or of a Call there. Where there is none, a Bind of an Abs becomes one.
-fn change_a_recursion(random: &mut Random, parts: &mut Parts) {
-    let Some(place) = parts.one_of(random, Kind::Rbnd) else {
-        return bind_a_function(random, parts, 30, 32);
-    };
-    let function = place + 1;
-    let end = parts.behind(place);
-    let body = function + 1 + parts.nodes[function].1 as usize;
-    match random.below(14) {
-        // A child that is no Abs: an expression, a Ref, the Blk alone, a Bind of the Abs.
-        0 => drop(parts.nodes.splice(function..end, [(1, 7)])),
-        1 => drop(parts.nodes.splice(function..end, [(40, 0), (1, 7)])),
-        2 => drop(parts.nodes.drain(function..body)),
-        3 => parts.nodes.insert(function, (30, 5)),
-        // No child.
-        4 => drop(parts.nodes.drain(function..end)),
-        5 => parts.nodes[place].1 = operand_too_great(random, parts.nodes[place].0),
-        // A Bind in its place: the function does not know its own name.
-        6 => bind_a_function(random, parts, 32, 30),
-        // A Formal or a declaration of its Blk has its name, and hides it.
-        7 => parts.take_a_name(random, &(function + 1..body).collect::<Vec<_>>(), &[place]),
-        8 => {
-            let inner = parts.places_in(body..end, gives_a_name);
-            parts.take_a_name(random, &inner, &[place]);
-        }
-        // In its Blk another count of actuals, another code, another function.
-        9 => change_a_call(random, parts, body..end),
-        10 => retype(random, parts, function + 1..end),
-        11 => {
-            let calls = parts.places_in(body..end, |kind| kind == Kind::Call);
-            let functions = parts.places(|kind| kind == Kind::Rbnd);
-            parts.take_a_name(random, &calls, &functions);
-        }
-        // A name on both sides of a DSeq, if there is one; its declarations change places.
-        12 => {
-            let Some(first) = parts.one_of(random, Kind::DSeq).map(|place| place + 1) else {
-                return;
-            };
-            let seconds = parts.binds(parts.behind(first));
-            parts.take_a_name(random, &seconds, &parts.binds(first));
-        }
-        _ => change_a_sequence(random, parts),
-    }
-}
-
-/// Of the declarations of one kind that bind an Abs, one becomes of another kind.
-fn bind_a_function(random: &mut Random, parts: &mut Parts, from: u32, to: u32) {
-    let all = 1..parts.nodes.len();
-    let behind: Vec<usize> = parts.places_in(all, |kind| kind == Kind::Abs);
-    let functions = behind.into_iter().map(|place| place - 1);
-    let functions: Vec<usize> = functions.filter(|place| parts.nodes[*place].0 == from).collect();
-    if !functions.is_empty() {
-        parts.nodes[*random.pick(&functions)].0 = to;
-    }
-}
-
-/// An Assign among some places takes a name that a Bind, an Rbnd or a Formal has: one that
-/// may not be set.
+/// An Assign among some places takes a name that a Bind or a Formal has: one that may
+/// not be set.
 fn set_another_name(random: &mut Random, parts: &mut Parts, places: Range<usize>) {
     let assigns = parts.places_in(places, |kind| kind == Kind::Assign);
-    let named = parts.places(|kind| gives_a_name(kind) || kind == Kind::Formal);
+    let named = parts.places(|kind| matches!(kind, Kind::Bind | Kind::Formal));
     parts.take_a_name(random, &assigns, &named);
 }
 

@@ -121,14 +121,9 @@ impl Generator<'_> {
         let meanings: Vec<_> =
             formals.iter().map(|&(formal, code)| (formal, Meaning::Code(code))).collect();
         let body = Room { nodes: room.nodes - 2 - count, levels: room.levels - 2 };
+        let body = self.block(&scope.with(&meanings), body);
         let codes = formals.iter().map(|(_, code)| *code).collect();
-        let declared = vec![(name, Meaning::Function(codes))];
-        if scope.has_recursion() && self.random.chance(2, 3) {
-            // The Blk may call the function, unless a Formal has its name.
-            let inside = scope.with(&declared).with(&meanings);
-            return (rbnd(name, &formals, self.own_block(&inside, body, name, &formals)), declared);
-        }
-        (bind_abs(name, &formals, self.block(&scope.with(&meanings), body)), declared)
+        (bind_abs(name, &formals, body), vec![(name, Meaning::Function(codes))])
     }
 }
 

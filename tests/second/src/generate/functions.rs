@@ -57,11 +57,7 @@ impl Generator<'_> {
                 self.within_functions(scope, count, Tasks { levels: 2, choices, loops })
             };
             if Node::from(&command).preorder().len() <= MOST_NODES {
-                return if self.random.chance(1, 40) {
-                    self.with_recursion(command)
-                } else {
-                    command
-                };
+                return command;
             }
         }
     }

@@ -3,17 +3,13 @@
 pub mod choices;
 pub mod damage;
 pub mod declarations;
-pub mod descent;
 pub mod divisions;
 pub mod empty;
 pub mod functions;
 pub mod limits;
 pub mod noise;
-mod own_calls;
-mod parts;
 pub mod random;
 pub mod ranges;
-pub mod recursion;
 pub mod scope;
 pub mod starts;
 pub mod steps;
@@ -58,9 +54,6 @@ pub enum Family {
     /// Functions that call functions, some with Loops and some of very many steps, up to
     /// 300 nodes; one in three has a change at a Call, which may be a fault.
     Functions,
-    /// Functions that call themselves, some without end, up to 300 nodes; one in three has
-    /// a change at an Rbnd, which may be a fault.
-    Recursion,
     /// Quotients of every sign, of each other, in Assigns, Conds, loops and functions, up to
     /// some 120 nodes, with starting values of every sign and size.
     Divisions,
@@ -84,7 +77,7 @@ pub enum Family {
 }
 
 impl Family {
-    pub const ALL: [(&'static str, Family); 17] = [
+    pub const ALL: [(&'static str, Family); 16] = [
         ("small", Family::Small),
         ("medium", Family::Medium),
         ("large", Family::Large),
@@ -92,7 +85,6 @@ impl Family {
         ("sequences", Family::Sequences),
         ("choices", Family::Choices),
         ("functions", Family::Functions),
-        ("recursion", Family::Recursion),
         ("divisions", Family::Divisions),
         ("ranges", Family::Ranges),
         ("limits", Family::Limits),
@@ -134,11 +126,6 @@ impl Family {
                 |generator, scope| generator.functions(scope),
                 damage::change_a_function_of,
             ),
-            Family::Recursion => changed_case(
-                random,
-                |generator, scope| generator.recursion(scope),
-                damage::change_a_recursion_of,
-            ),
             Family::Divisions => divisions_case(random),
             Family::Ranges => ranges_case(random),
             Family::Limits => {
@@ -165,21 +152,16 @@ impl Family {
     }
 }
 
-/// A well-typed routine of at most so many nodes, at least 6. In one of twelve, or of a small
-/// one in one of four, most functions may call themselves, if it has any: of such a routine
-/// neither needs nor ranges are known.
+/// A well-typed routine of at most so many nodes, at least 6.
 pub fn well_typed_routine(random: &mut Random, most_nodes: usize, temper: Temper) -> Routine {
     let registers = *random.pick(&[0, 1, 1, 2, 2, 3, 4, 8, 15, 16]);
-    let scope = Scope::of_registers(registers);
-    let of = if most_nodes <= 80 { 4 } else { 12 };
-    let scope = if random.chance(1, of) { scope.with_recursion() } else { scope };
     // A room is seldom filled, so half of the routines get twice the room, the
     // others any part of it; what has become too large is written again smaller.
     let least = if random.chance(1, 2) { 2 * most_nodes } else { LEAST_COMMAND.nodes };
     let mut nodes = random.between(least, 2 * most_nodes);
     loop {
         let room = Room { nodes, levels: MOST_DEPTH as usize };
-        let root = Generator { random, temper }.root(&scope, room);
+        let root = Generator { random, temper }.root(&Scope::of_registers(registers), room);
         if root.preorder().len() <= most_nodes {
             return Routine { registers, root };
         }

@@ -44,7 +44,7 @@ pub fn shaped(random: &mut Random, nodes: usize) -> Vec<u32> {
         let spare = nodes.saturating_sub(kinds.len() + wanted.len());
         let close = depth > 50 || spare < 4;
         let mut fitting: Vec<&Row> = TABLE.iter().filter(|row| want.admits(row)).collect();
-        if close && !matches!(want, Wanted::Abs | Wanted::Blk) {
+        if close && want != Wanted::Blk {
             fitting.retain(|row| closes(row.kind));
         }
         let row = random.pick(&fitting);
@@ -82,8 +82,7 @@ fn operand(random: &mut Random, kind: Kind, close: bool) -> u32 {
     match kind {
         Kind::Num => random.below(5) as u32,
         Kind::Boo => random.below(2) as u32,
-        Kind::Id | Kind::DeRef | Kind::ValRef => name,
-        Kind::Assign | Kind::Bind | Kind::Rbnd => name,
+        Kind::Id | Kind::DeRef | Kind::ValRef | Kind::Assign | Kind::Bind => name,
         Kind::Call if close => name,
         Kind::Call => name + NAMES * random.below(3) as u32,
         Kind::Abs => *random.pick(&[0, 1, 1, 2, MOST_COUNT]),
@@ -105,7 +104,6 @@ pub(super) fn children(kind: Kind, operand: u32) -> Vec<Wanted> {
         Kind::Cond => vec![Wanted::Expression, Wanted::Command, Wanted::Command],
         Kind::Bind => vec![Wanted::Bound],
         Kind::DSeq => vec![Wanted::Declaration; 2],
-        Kind::Rbnd => vec![Wanted::Abs],
         Kind::Abs => {
             let mut all = vec![Wanted::Formal; operand as usize];
             all.push(Wanted::Blk);

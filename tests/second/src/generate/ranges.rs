@@ -26,7 +26,7 @@ enum Shape {
 }
 
 impl Generator<'_> {
-    /// A root without Loop, but for one in sixteen, and without Rbnd, but for one in forty.
+    /// A root without Loop, but for one in sixteen.
     pub fn ranges(&mut self, scope: &Scope) -> Root {
         let registers = !scope.assignable().is_empty();
         let root = match self.random.below(16) {
@@ -39,9 +39,6 @@ impl Generator<'_> {
         match root {
             Root::Command(command) if self.random.chance(1, 16) => {
                 Root::Command(self.with_a_loop(command))
-            }
-            Root::Command(command) if self.random.chance(1, 40) => {
-                Root::Command(self.with_recursion(command))
             }
             root => root,
         }

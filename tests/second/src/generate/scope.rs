@@ -19,25 +19,13 @@ pub struct Scope {
     /// The names that the first declaration of a DSeq gives to the second, one bit
     /// a name: they are used more often than others.
     earlier: u64,
-    /// Whether functions may call themselves in this tree.
-    recursive: bool,
 }
 
 impl Scope {
     /// Names 0 to r − 1 are registers, code 2.
     pub fn of_registers(registers: u32) -> Scope {
         let register = |name| if name < registers { Some(Meaning::Code(2)) } else { None };
-        let meanings = (0..NAMES).map(register).collect();
-        Scope { meanings, earlier: 0, recursive: false }
-    }
-
-    /// The same scope in a tree with functions that call themselves.
-    pub fn with_recursion(&self) -> Scope {
-        Scope { recursive: true, ..self.clone() }
-    }
-
-    pub fn has_recursion(&self) -> bool {
-        self.recursive
+        Scope { meanings: (0..NAMES).map(register).collect(), earlier: 0 }
     }
 
     /// The scope inside, where these names hide others.

@@ -39,7 +39,7 @@ fn choices<'t>(node: Node<'t>, around: &[Around], found: &mut Vec<(&'t Cond, Vec
         }
         Node::Blk(_) => with(Around::Block),
         Node::Loop(_) => with(Around::Loop),
-        Node::Abs(..) => with(Around::Function),
+        Node::Abs(_) => with(Around::Function),
         _ => around.to_vec(),
     };
     for child in node.children() {

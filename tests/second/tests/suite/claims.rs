@@ -38,13 +38,7 @@ fn no_location_dangles(state: &State) {
             ValueEntry::Name(_) | ValueEntry::Loop(_) | ValueEntry::Cond(_) => {}
         }
     }
-    // One that is met again, as a function's is in its own Blk, is looked at once.
-    let mut seen: Vec<&Environment> = Vec::new();
     while let Some(environment) = environments.pop() {
-        if seen.iter().any(|other| other.same(environment)) {
-            continue;
-        }
-        seen.push(environment);
         for (_, bound) in environment.iter() {
             match bound {
                 Bindable::Value(value) => live(*value),
@@ -58,7 +52,7 @@ fn no_location_dangles(state: &State) {
 }
 
 /// Run a case and check the claims at each state. Answers the steps made.
-pub fn hold(case: &Case, budget: u64, dangling: bool) -> u64 {
+fn hold(case: &Case, budget: u64, dangling: bool) -> u64 {
     let Ok((routine, passed)) = pass(&case.image) else {
         return 0;
     };
@@ -106,12 +100,10 @@ pub fn hold(case: &Case, budget: u64, dangling: bool) -> u64 {
 fn first_reason(execution: &Execution, reason: u32, budget: u64) {
     let all = told_first(execution.state(), execution.steps(), budget, reason);
     let of_room: Vec<u32> = all.into_iter().filter(|reason| *reason >= 33).collect();
-    // 33 comes alone: Ref's and Bind's marks put nothing on control. 34 comes with 36 only
-    // where a function without Formals binds its own name, for a Call with Formals has had as
-    // much on control as its mark leaves; that leaves an even number on V. A DSeq puts nothing
-    // on V, and its marks nothing on control.
-    let both = [vec![34, 36], vec![35, 36]];
-    assert!(of_room.len() <= 1 || both.contains(&of_room), "{of_room:?}");
+    // 33 and 34 come alone, and 35 with 36 at most: Ref's and Bind's marks put nothing on
+    // control, and a Call with Formals has had as much on control as its mark leaves, which
+    // leaves an even number on V. A DSeq puts nothing on V, and its marks nothing on control.
+    assert!(of_room.len() <= 1 || of_room == [35, 36], "{of_room:?}");
 }
 
 #[test]

@@ -6,7 +6,7 @@ use second::engine::pass;
 use second::free_run::{FreeRun, Next};
 use second::generate::random::Random;
 use second::generate::Family;
-use second::needs::{needs, without_recursion, Figures, Needs, Steps, EFFORT};
+use second::needs::{needs, Figures, Needs, Steps, EFFORT};
 use second::state::{ControlEntry, Heights, Mark};
 use second::tree::Routine;
 
@@ -68,19 +68,12 @@ fn one_by_one(routine: &Routine, left: u64) -> Option<Reached> {
     Some(reached)
 }
 
-/// The routine of an image that passes and has no Rbnd.
-fn with_needs(image: &[u32]) -> Option<Routine> {
-    let (routine, _) = pass(image).ok()?;
-    without_recursion(&routine).ok()?;
-    Some(routine)
-}
-
 /// The search finds what the free runs reach one by one, in images with many of them.
 #[test]
 fn the_search_finds_what_the_runs_reach() {
     for (family, count, least, many) in [
-        (Family::Small, 3_000, 2_700, 200),
-        (Family::Medium, 600, 450, 220),
+        (Family::Small, 3_000, 2_900, 200),
+        (Family::Medium, 600, 500, 250),
         (Family::Choices, 2_000, 1_200, 1_000),
         (Family::Sequences, 1_000, 800, 50),
         (Family::Functions, 1_500, 1_000, 350),
@@ -88,7 +81,7 @@ fn the_search_finds_what_the_runs_reach() {
     ] {
         let (mut compared, mut with_many) = (0, 0);
         for seed in 0..count {
-            let Some(routine) = with_needs(&family.case(seed).image) else { continue };
+            let Ok((routine, _)) = pass(&family.case(seed).image) else { continue };
             let Some(reached) = one_by_one(&routine, 30_000) else { continue };
             let Needs::Figures(Figures { room, steps }) = needs(&routine, EFFORT) else {
                 panic!("{family:?} {seed} has few states");
@@ -111,7 +104,7 @@ fn runs_by_chance_stay_within_the_figures() {
     let families = [(Family::Medium, 300), (Family::Large, 60), (Family::Choices, 300)];
     for (family, count) in families {
         for seed in 0..count {
-            let Some(routine) = with_needs(&family.case(seed).image) else { continue };
+            let Ok((routine, _)) = pass(&family.case(seed).image) else { continue };
             let Needs::Figures(figures) = needs(&routine, EFFORT) else {
                 panic!("{family:?} {seed} has not so many states");
             };

@@ -65,7 +65,6 @@ fn hides(routine: &Routine) -> bool {
     let nodes = routine.root.preorder();
     let functions = nodes.iter().filter_map(|(node, _)| match node {
         Node::Bind(Bind { name, bound: Bound::Abs(_), .. }) => Some(*name),
-        Node::Rbnd(Rbnd { name, .. }) => Some(*name),
         _ => None,
     });
     let functions: Vec<Name> = functions.collect();
@@ -192,7 +191,7 @@ fn functions_have_steps_of_every_length() {
 #[test]
 fn changes_of_functions_end_in_many_ways() {
     let mut often: BTreeMap<u32, u32> = BTreeMap::new();
-    for seed in 0..4_000 {
+    for seed in 0..2_000 {
         let refusal = checked(&Family::Functions.case(seed).image).refusal();
         *often.entry(refusal.map_or(0, |refusal| refusal.number)).or_default() += 1;
     }

@@ -127,12 +127,10 @@ fn damage_reaches_every_refusal_of_the_image_at_many_places() {
     assert!(places.contains_key(&0));
 }
 
-/// And where a function calls itself without end, 33 to 36.
 #[test]
 fn well_typed_cases_reach_30_31_32_and_normal_ends() {
-    let numbers: BTreeSet<u32> = ends(Family::Small, 1_500).into_keys().collect();
-    assert!(numbers.is_superset(&BTreeSet::from([0, 30, 31, 32])), "{numbers:?}");
-    assert!(numbers.iter().all(|number| *number == 0 || *number >= 30), "{numbers:?}");
+    let numbers: Vec<u32> = ends(Family::Small, 1_500).into_keys().collect();
+    assert_eq!(numbers, [0, 30, 31, 32]);
     // Faulty ones mostly end in 31 or 32, after very different numbers of steps.
     let mut steps: BTreeMap<u32, BTreeSet<u64>> = BTreeMap::new();
     for seed in 0..1_000 {

@@ -78,7 +78,6 @@ fn marks_of_sequences_choices_and_functions() {
     for family in [Family::Sequences, Family::Choices, Family::Functions] {
         met(&hold_all(family, 500, 3_000), &[0], 100);
     }
-    met(&hold_all(Family::Recursion, 500, 3_000), &[0, 30, 34, 35], 20);
 }
 
 /// Each limit is met, and the mark is never above it.

@@ -6,7 +6,7 @@ use crate::helpers::*;
 use second::engine::{pass, MOST_BUDGET};
 use second::execution::{reasons_of_room, Execution};
 use second::generate::{Case, Family};
-use second::needs::{has_loop, without_recursion, Figures, Needs, Steps};
+use second::needs::{has_loop, Figures, Needs, Steps};
 use second::node::Node;
 use second::tree::Routine;
 
@@ -22,8 +22,6 @@ struct Held {
     /// Images with 40, and those whose free runs are too many.
     too_many_steps: u64,
     unknown: u64,
-    /// Images with an Rbnd.
-    recursive: u64,
 }
 
 fn has_choice(routine: &Routine) -> bool {
@@ -37,11 +35,6 @@ fn hold(case: &Case, budget: u64, held: &mut Held) {
         return;
     }
     let needs = needed(&case.image);
-    if without_recursion(&routine).is_err() {
-        assert_eq!(needs, needs_refused(45, 0));
-        held.recursive += 1;
-        return;
-    }
     let straight = !has_loop(&routine) && !has_choice(&routine);
     // A run whose steps are a figure may take them all.
     let budget = if has_loop(&routine) { budget } else { MOST_BUDGET };
@@ -102,9 +95,7 @@ fn needs_of_well_typed_images() {
     ] {
         let held = hold_all(family, count, 5_000);
         assert_eq!((held.too_many_steps, held.unknown), (0, 0), "{family:?}");
-        // Few have an Rbnd: the others mean something here.
-        assert!(held.recursive < count / 12, "{family:?}: {}", held.recursive);
-        assert!(held.with_room > count * 8 / 10, "{family:?}: {}", held.with_room);
+        assert!(held.with_room > count * 9 / 10, "{family:?}: {}", held.with_room);
         assert!(held.exact >= exact, "{family:?}: {}", held.exact);
     }
 }
@@ -114,7 +105,6 @@ fn needs_of_sequences_and_choices() {
     for (family, exact) in [(Family::Sequences, 300), (Family::Choices, 0)] {
         let held = hold_all(family, 1_500, 5_000);
         assert_eq!((held.too_many_steps, held.unknown), (0, 0), "{family:?}");
-        assert_eq!(held.recursive, 0, "{family:?}");
         assert!(held.with_room > 1_000 && held.exact >= exact, "{family:?}: {}", held.exact);
     }
 }
@@ -124,7 +114,6 @@ fn needs_of_functions() {
     let held = hold_all(Family::Functions, 700, 2_000);
     assert!(held.too_many_steps >= 7, "{} are 40", held.too_many_steps);
     assert!(held.unknown <= 4, "{} are not known", held.unknown);
-    assert!((5..=40).contains(&held.recursive), "{} have an Rbnd", held.recursive);
     assert!(held.with_room > 450 && held.exact >= 80, "{}, {}", held.with_room, held.exact);
     // Some runs have steps by the hundred thousand.
     assert!(held.states > 1_500_000, "{} states are few", held.states);
@@ -147,7 +136,7 @@ fn needs_of_whatever_passes() {
     assert!(held.with_room > 100 && held.exact > 100, "{}, {}", held.with_room, held.exact);
 }
 
-/// Every image that passes has figures, 40 or 45, and every other the checker's refusal.
+/// Every image that passes has figures or 40, and every other the checker's refusal.
 #[test]
 fn needs_are_refused_as_the_check_is() {
     for (_, family) in Family::ALL {
@@ -156,8 +145,8 @@ fn needs_are_refused_as_the_check_is() {
             let case = family.case(seed);
             let refused = needed_with(&case.image, case.work_length).refusal();
             let checked = second::check(&case.image, case.work_length).refusal();
-            let own = refused.is_some_and(|refusal| [40, 45].contains(&refusal.number));
-            assert!(refused == checked || (own && checked.is_none()), "{family:?} {seed}");
+            let too_many = refused.is_some_and(|refusal| refusal.number == 40);
+            assert!(refused == checked || (too_many && checked.is_none()), "{family:?} {seed}");
         }
     }
 }

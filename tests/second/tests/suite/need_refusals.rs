@@ -1,4 +1,4 @@
-//! The needs refused: 22, then the image, then 45, then 40; and no figures with any of them.
+//! The needs refused: 22, then the image, then 40; and no figures with any of them.
 
 use crate::helpers::*;
 use crate::refused_images::refused_images;
@@ -54,47 +54,6 @@ fn first_22_then_the_image_then_40() {
     }
 }
 
-/// A function that calls itself, declared before the command.
-fn beside_an_rbnd(command: Command) -> Command {
-    let again = cond(gt(id(61), num(0)), call(60, vec![sub(id(61), num(1))]), assign(0, num(1)));
-    blk(rbnd(60, &[(61, 0)], block(bind(62, num(0)), again)), command)
-}
-
-/// With an Rbnd anywhere in the tree 45, whatever else there is: called or not, and whether it
-/// calls itself or not. It comes behind the image and before 40.
-#[test]
-fn with_an_rbnd_45() {
-    let set = || assign(0, num(1));
-    let idle = || rbnd(60, &[], block(bind(62, num(0)), set()));
-    let in_a_function = bind_abs(59, &[], block(idle(), set()));
-    let roots = [
-        beside_an_rbnd(set()),
-        beside_an_rbnd(call(60, vec![num(2)])),
-        beside_an_rbnd(doubling(20)),
-        beside_an_rbnd(factorial()),
-        blk(idle(), set()),
-        cseq(doubling(20), blk(idle(), set())),
-        blk(dseq(bind(59, num(0)), idle()), set()),
-        blk(in_a_function, set()),
-        cond(boo(true), set(), blk(idle(), call(60, vec![]))),
-    ];
-    for root in roots {
-        let words = image(2, root.clone());
-        assert_eq!(needed(&words), needs_refused(45, 0));
-        assert_eq!(needed_with(&words, FEW), needs_refused(22, 0));
-        let place = words[0] + 2;
-        let unbound = image(2, cseq(root, assign(0, id(63))));
-        assert_eq!(needed(&unbound), needs_refused(10, place));
-        let mut no_tree = words.clone();
-        no_tree[2] = 99;
-        assert_eq!(needed(&no_tree), needs_refused(3, 0));
-        assert_eq!(needed(&words[..words.len() - 1]), needs_refused(1, 0));
-    }
-    // A Bind in its place has figures.
-    let bound = bind_abs(60, &[], block(bind(62, num(0)), set()));
-    assert!(matches!(needed(&image(1, blk(bound, set()))), Needs::Figures(_)));
-}
-
 /// Each refusal of the image, with its place, as the checker has it.
 #[test]
 fn the_images_refusals() {
@@ -104,18 +63,17 @@ fn the_images_refusals() {
     }
 }
 
-/// Every image that the checker passes has needs, 40 or 45; every other is refused alike.
+/// Every image that the checker passes has needs, or 40; every other is refused alike.
 #[test]
 fn as_the_checker_says() {
     for (image, open) in [(image(2, factorial()), true), (image(1, doubling(5)), false)] {
         let Needs::Figures(figures) = needed(&image) else { panic!("it passes") };
         assert_eq!(figures.steps == Steps::Open, open);
         for place in 2..image.len() {
-            for word in [0, 1, 3, 20, 24, 31, 32, 64] {
+            for word in [0, 1, 3, 20, 24, 31, 64] {
                 let mut changed = image.clone();
                 changed[place] = word;
-                let own = needed(&changed).refusal().filter(|refusal| refusal.number != 45);
-                assert_eq!(own, checked(&changed).refusal());
+                assert_eq!(needed(&changed).refusal(), checked(&changed).refusal());
             }
         }
     }

@@ -37,11 +37,6 @@ fn in_declaration(declaration: &Declaration, change: &Change) -> Declaration {
             let bound = Bound::Abs(Abs { body, ..abs.clone() });
             Declaration::Bind(Bind { place: *place, name: *name, bound })
         }
-        Declaration::Rbnd(Rbnd { place, name, abs }) => {
-            let body = Box::new(in_block(&abs.body, change));
-            let abs = Abs { body, ..abs.clone() };
-            Declaration::Rbnd(Rbnd { place: *place, name: *name, abs })
-        }
         Declaration::Bind(_) => declaration.clone(),
         Declaration::DSeq(node) => {
             let below = |one: &Declaration| Box::new(in_declaration(one, change));

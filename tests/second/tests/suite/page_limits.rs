@@ -23,13 +23,13 @@ fn greatest() -> Command {
     blk(names(), (2..=62).rev().fold(last, |next, depth| cseq(before_the_next(depth), next)))
 }
 
-/// A cell that shows register 0, a truth cell, and a function that knows its own name.
+/// A cell that shows register 0, a truth cell, and a function.
 fn names() -> Declaration {
     let body = block(
         bind(9, mul(id(6), num(429_496_729))),
         repeat(id(7), cseq(assign(8, sub(id(8), id(9))), assign(3, boo(false)))),
     );
-    let function = rbnd(4, &[(6, 0), (7, 1), (8, 2)], body);
+    let function = bind_abs(4, &[(6, 0), (7, 1), (8, 2)], body);
     dseq(dseq(bind_ref(2, deref(0)), bind_ref(3, boo(true))), function)
 }
 

@@ -62,7 +62,7 @@ fn the_count_of_registers_does_not_show() {
 /// A tree with all kinds.
 fn every_kind() -> Command {
     let body = block(bind(4, not(id(3))), repeat(id(4), assign(0, num(9))));
-    let names = dseq(bind_ref(1, deref(0)), rbnd(2, &[(3, 1)], body));
+    let names = dseq(bind_ref(1, deref(0)), bind_abs(2, &[(3, 1)], body));
     let either = or(lt(valref(1), num(5)), boo(true));
     let at_least = binary(Operator::Ge, num(12), num(13));
     let at_most = binary(Operator::Le, num(1), num(2));
@@ -79,7 +79,7 @@ fn every_kind_by_its_name() {
    2  3 Bind            1    5
    3  4 Ref             0    5
    4  5 DeRef           0    5
-   5  3 Rbnd            2   16
+   5  3 Bind            2   16
    6  4 Abs             1   16
    7  5 Formal         67    8
    8  5 Blk             0   16

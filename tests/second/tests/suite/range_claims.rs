@@ -10,7 +10,7 @@ use second::execution::reasons_of_room;
 use second::generate::random::Random;
 use second::generate::starts::{starts, within};
 use second::generate::Family;
-use second::needs::{has_loop, needs, without_recursion, Figures, Needs, Steps, MOST_STEPS};
+use second::needs::{has_loop, needs, Figures, Needs, Steps, MOST_STEPS};
 use second::node::Node;
 use second::ranges::ends;
 use second::refusal;
@@ -135,7 +135,7 @@ fn steps_and_room_of_both_ways_are_those_of_the_needs() {
     let (mut with_choices, mut without) = (0, 0);
     for (family, count) in FAMILIES {
         for (_, routine) in passing(family, count) {
-            if has_loop(&routine) || without_recursion(&routine).is_err() {
+            if has_loop(&routine) {
                 continue;
             }
             let nodes = routine.root.preorder();
@@ -163,15 +163,13 @@ fn steps_and_room_of_both_ways_are_those_of_the_needs() {
 #[test]
 fn each_refusal_by_its_cause() {
     let random = &mut Random::new(4);
-    let mut often = [0; 46];
+    let mut often = [0; 45];
     for (family, count) in FAMILIES {
         for (_, routine) in passing(family, count) {
             let limits = starts(random, routine.registers as usize);
             let number = ends(&routine, &limits).err().map_or(0, |refusal| refusal.number);
             often[number as usize] += 1;
-            let expected = if without_recursion(&routine).is_err() {
-                45
-            } else if limits.iter().any(|range| range.lowest > range.highest) {
+            let expected = if limits.iter().any(|range| range.lowest > range.highest) {
                 42
             } else if has_loop(&routine) {
                 43
@@ -186,18 +184,9 @@ fn each_refusal_by_its_cause() {
             assert!(number == expected || (expected == 0 && number == 44), "{number}, {expected}");
         }
     }
-    for (number, least) in [
-        (0, 600),
-        (33, 3),
-        (34, 3),
-        (35, 3),
-        (36, 3),
-        (40, 3),
-        (42, 60),
-        (43, 60),
-        (44, 50),
-        (45, 20),
-    ] {
+    for (number, least) in
+        [(0, 600), (33, 3), (34, 3), (35, 3), (36, 3), (40, 3), (42, 60), (43, 60), (44, 50)]
+    {
         assert!(often[number] >= least, "{number}: {}", often[number]);
     }
 }

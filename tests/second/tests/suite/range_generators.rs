@@ -67,7 +67,7 @@ fn they_have_everything() {
                 count_if(true, "unsafe");
                 let path = around(&routine, refusal.place);
                 let within = |test: fn(&Node) -> bool| path.iter().any(test);
-                count_if(within(|node| matches!(node, Node::Abs(..))), "unsafe in a function");
+                count_if(within(|node| matches!(node, Node::Abs(_))), "unsafe in a function");
                 count_if(within(|node| matches!(node, Node::Call(_))), "unsafe in an actual");
                 count_if(within(|node| matches!(node, Node::Bind(_))), "unsafe in a declaration");
                 count_if(within(|node| matches!(node, Node::Ref(_))), "unsafe in a Ref");

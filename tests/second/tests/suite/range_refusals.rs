@@ -1,4 +1,4 @@
-//! Ranges refused: 22, the image, 45, 20, 42, 43, 40, the lowest of 33 to 36, 44, in this order;
+//! Ranges refused: 22, the image, 20, 42, 43, 40, the lowest of 33 to 36, 44, in this order;
 //! and both lists are kept by every one.
 
 use crate::helpers::*;
@@ -73,35 +73,6 @@ fn in_their_order() {
         );
         assert_eq!(with(unsafe_quotient(), &fit, work_length), ends_refused(44, 1));
         assert_eq!(with(assign(0, id(0)), &fit, work_length), Ok(vec![(0, 9)]));
-    }
-}
-
-/// With an Rbnd anywhere in the tree 45, whatever the lists are and whatever else is wrong; it
-/// comes behind the image and before 20.
-#[test]
-fn with_an_rbnd_45() {
-    let set = || assign(0, num(1));
-    let own = || rbnd(50, &[], block(bind(63, num(0)), call(50, vec![])));
-    let roots = [
-        blk(own(), set()),
-        blk(own(), call(50, vec![])),
-        blk(dseq(own(), bind(49, num(0))), unsafe_quotient()),
-        cseq(idle_loop(doubling()), blk(own(), set())),
-        cseq(cells(300), blk(bind_abs(48, &[], block(own(), set())), set())),
-        cond(boo(false), blk(own(), set()), set()),
-    ];
-    for root in roots {
-        let image = image(1, root);
-        for starts in [&[][..], &[(0, 9)], &[(9, 0)], &[(9, 0), (9, 0)]] {
-            assert_eq!(ends_with(&image, starts, WORK_WORDS), ends_refused(45, 0));
-            assert_eq!(ends_with(&image, starts, FEW), ends_refused(22, 0));
-            let mut no_tree = image.clone();
-            no_tree[2] = 99;
-            assert_eq!(ends_with(&no_tree, starts, WORK_WORDS), ends_refused(3, 0));
-        }
-        let unbound = cseq(blk(own(), set()), assign(0, id(62)));
-        let unbound = second::build::image(1, unbound);
-        assert_eq!(ends_with(&unbound, &[], WORK_WORDS), ends_refused(10, unbound[0] - 1));
     }
 }
 

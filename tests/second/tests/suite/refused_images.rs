@@ -25,8 +25,5 @@ pub fn refused_images() -> Vec<(u32, Place, Vec<u32>)> {
         (12, 4, image(1, blk(bind_abs(1, &[(2, 0), (2, 0)], unnamed()), set()))),
         (13, 3, image(1, blk(bind(1, num(0)), assign(1, num(0))))),
         (14, 3, image(1, blk(bind(1, num(0)), call(1, vec![])))),
-        (14, 6, image(1, blk(rbnd(1, &[], block(bind(2, num(0)), call(1, vec![num(0)]))), set()))),
-        (5, 2, vec![4, 1, 23, 32, 20, 1, 0, 1, 0, 1]),
-        (4, 1, vec![4, 1, 23, 32, 20, 1, 0, 64, 0, 1]),
     ]
 }

@@ -49,18 +49,13 @@ fn uses(node: Node, names: &Names, in_a_function: bool, found: &mut Vec<Use>) ->
             let seen = with(first.clone(), true);
             [first, uses((&dseq.second).into(), &seen, in_a_function, found)].concat()
         }
-        Node::Abs(abs, own) => {
-            let formals = abs.formals.iter().map(|formal| formal.name);
-            let inside = with(own.into_iter().chain(formals).collect(), false);
-            uses(Node::Blk(&abs.body), &inside, true, found)
+        Node::Abs(abs) => {
+            let formals = abs.formals.iter().map(|formal| formal.name).collect();
+            uses(Node::Blk(&abs.body), &with(formals, false), true, found)
         }
         Node::Bind(bind) => {
             uses((&bind.bound).into(), names, in_a_function, found);
             vec![bind.name]
-        }
-        Node::Rbnd(rbnd) => {
-            uses(rbnd.function(), names, in_a_function, found);
-            vec![rbnd.name]
         }
         _ => {
             for child in node.children() {
@@ -210,7 +205,6 @@ fn declared_later(routine: &Routine, used: Node) -> bool {
 fn binds(declaration: &Declaration) -> Vec<Name> {
     match declaration {
         Declaration::Bind(bind) => vec![bind.name],
-        Declaration::Rbnd(rbnd) => vec![rbnd.name],
         Declaration::DSeq(dseq) => [binds(&dseq.first), binds(&dseq.second)].concat(),
     }
 }

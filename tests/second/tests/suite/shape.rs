@@ -33,7 +33,6 @@ const BLK: (u32, u32) = (23, 0);
 const COND: (u32, u32) = (25, 0);
 const BIND: (u32, u32) = (30, 0);
 const DSEQ: (u32, u32) = (31, 0);
-const RBND: (u32, u32) = (32, 0);
 const REF: (u32, u32) = (40, 0);
 const FORMAL: (u32, u32) = (42, 0);
 const NO_KIND: (u32, u32) = (18, 0);
@@ -124,7 +123,7 @@ fn depth_counts_nodes_of_every_sort() {
 
 #[test]
 fn kinds_out_of_the_table_are_3() {
-    for kind in [0, 18, 19, 26, 29, 33, 34, 39, 43, 44, 100, 1 << 16, u32::MAX] {
+    for kind in [0, 18, 19, 26, 29, 32, 33, 39, 43, 44, 100, 1 << 16, u32::MAX] {
         assert_eq!(shape(&nodes(&[(kind, 0)])), Some((3, 0)), "kind {kind}");
         assert_eq!(shape(&nodes(&[SUM, NUM, (kind, 0)])), Some((3, 2)), "kind {kind}");
     }
@@ -133,14 +132,14 @@ fn kinds_out_of_the_table_are_3() {
 #[test]
 fn the_table_has_the_papers_kinds() {
     let expressions = (1..=17).collect::<Vec<u32>>();
-    let others = [20, 21, 22, 23, 24, 25, 30, 31, 32, 40, 41, 42];
+    let others = [20, 21, 22, 23, 24, 25, 30, 31, 40, 41, 42];
     let listed: Vec<u32> = TABLE.iter().map(|row| row.number).collect();
     assert_eq!(listed, [expressions, others.to_vec()].concat());
 }
 
 #[test]
 fn the_root_is_an_expression_or_a_command() {
-    for root in [BIND, DSEQ, RBND, REF, abs(0), FORMAL] {
+    for root in [BIND, DSEQ, REF, abs(0), FORMAL] {
         assert_eq!(shape(&nodes(&[root])), Some((5, 0)));
     }
     assert_eq!(shape(&nodes(&[NUM])), None);
@@ -153,7 +152,7 @@ fn children_of_the_wrong_sort_are_5_at_the_child() {
     let expression: Vec<u32> = (1..=17).collect();
     let command: Vec<u32> = (20..=25).collect();
     let bound: Vec<u32> = (1..=17).chain([40, 41]).collect();
-    let declaration = vec![30, 31, 32];
+    let declaration = vec![30, 31];
     // What stands before the child, and what may stand at it.
     let slots = vec![
         (vec![SUM], &expression),
@@ -176,14 +175,9 @@ fn children_of_the_wrong_sort_are_5_at_the_child() {
         (vec![BLK, DSEQ, BIND, NUM], &declaration),
         (vec![BLK, BIND], &bound),
     ];
-    let abs_alone = vec![41];
     let blk_alone = vec![23];
     let formal_alone = vec![42];
     let function_slots = vec![
-        (vec![BLK, RBND], &abs_alone),
-        (vec![BLK, DSEQ, BIND, NUM, RBND], &abs_alone),
-        (vec![BLK, RBND, abs(0)], &blk_alone),
-        (vec![BLK, RBND, abs(2), FORMAL], &formal_alone),
         (vec![BLK, BIND, abs(0)], &blk_alone),
         (vec![BLK, BIND, abs(1)], &formal_alone),
         (vec![BLK, BIND, abs(1), FORMAL], &blk_alone),
@@ -218,8 +212,6 @@ fn a_missing_node_has_place_n() {
     assert_eq!(shape(&nodes(&[COND, BOO, ASSIGN, NUM])), Some((5, 4)));
     assert_eq!(shape(&nodes(&[call(3), NUM, NUM])), Some((5, 3)));
     assert_eq!(shape(&nodes(&[BLK, BIND, abs(2), FORMAL])), Some((5, 4)));
-    assert_eq!(shape(&nodes(&[BLK, RBND])), Some((5, 2)));
-    assert_eq!(shape(&nodes(&[BLK, RBND, abs(0)])), Some((5, 3)));
 }
 
 /// A node that is missing has no depth to judge.
@@ -247,15 +239,14 @@ fn the_greatest_operand_of_each_kind_passes_and_one_more_is_4() {
     let greatest = |kind| match kind {
         Kind::Num => u32::MAX,
         Kind::Boo => 1,
-        Kind::Id | Kind::DeRef | Kind::ValRef | Kind::Assign => 63,
-        Kind::Bind | Kind::Rbnd => 63,
+        Kind::Id | Kind::DeRef | Kind::ValRef | Kind::Assign | Kind::Bind => 63,
         Kind::Call => 63 + 64 * 8,
         Kind::Abs => 8,
         Kind::Formal => 63 + 64 * 7,
         _ => 0,
     };
     let before = |kind| match kind {
-        Kind::Bind | Kind::DSeq | Kind::Rbnd => vec![BLK],
+        Kind::Bind | Kind::DSeq => vec![BLK],
         Kind::Ref | Kind::Abs => vec![BLK, BIND],
         Kind::Formal => vec![BLK, BIND, abs(8)],
         _ => vec![],

@@ -8,7 +8,7 @@ use Rattle.calls.proofs.limits.limit_image.Statement.{statement}
 use Rattle.calls.proofs.limits.limit_image.Tie as tie
 use Rattle.calls.proofs.limits.limit_image.Reads as reads
 use Rattle.calls.proofs.limits.limit_image.Lts as lts
-use Rattle.calls.proofs.limits.answer_tree.Reads as answer-tree-reads
+use Rattle.calls.proofs.limits.limit_tree.Reads as limit-tree-reads
 use Rattle.loader.proofs.load.Reads as load-reads
 
 load-requires : tie.Need-load-requires
@@ -17,8 +17,8 @@ load-requires c κs = search rules
 enum-known-loaded : tie.Need-enum-known-loaded
 enum-known-loaded c = search rules
 
-answer-tree-requires : tie.Need-answer-tree-requires
-answer-tree-requires c κs =
+limit-tree-requires : tie.Need-limit-tree-requires
+limit-tree-requires c κs =
     let loaded = c.before.before.before.before.before.before.before.before.load.ensures in
     (omega (arith, c.before.before.before.before.before.before.before.before.before.before.before.before.before.before.requires, (loaded_beyond _ _ _ _ loaded).same_length), tree_loaded _ _ _ _ loaded _ _ _ c.before.before.before.before.loaded.given.1)
 
@@ -40,7 +40,7 @@ returns c =
     let low = c.before.before.before.before.before.before.before.before.before.before.before.before.before.before.before.before.before.before.before.slice-known.given in
     let high = c.before.before.before.before.before.before.before.before.before.before.before.before.before.before.before.before.before.before.slice-known2.given in
     let loaded = c.before.before.before.before.before.before.before.before.before.before.before.before.before.before.before.load.ensures in
-    let done = c.before.before.before.before.before.before.answer-tree.ensures in
+    let done = c.before.before.before.before.before.before.limit-tree.ensures in
     (passed_ranged start.args.lowest.now start.args.highest.now (λ i h. (low i).fits) (λ i h. (high i).fits) _ _ _ _ loaded _ _ _ c.before.before.before.before.before.before.before.before.before.before.before.loaded.given.1 _ _ _ done.0, beyond_then (loaded_beyond _ _ _ _ loaded) done.1)
 
 same-length-4 : tie.Need-same-length-4
@@ -60,7 +60,7 @@ limit-image-spec =
     (tie.spec
     load-requires
     enum-known-loaded
-    answer-tree-requires
+    limit-tree-requires
     enum-known-loaded-2
     same_length
     same-length-2

@@ -1,5 +1,5 @@
--- The proof of `declaration`, which calls itself: a DSeq carries its second on what its first leaves, and anything else that is fit is a Bind.
--- The measure is the size of the tree that stands there.
+-- The proof of `declaration`, which calls itself: a DSeq carries its second on what its first leaves, and anything else is a Bind. The measure is the
+-- size of the tree that stands there.
 use native.Mathlib.Omega.{arith}
 use borrow.Author.Rules.{rules}
 use Rattle.reader.specs.StandingLaws.{declaration_low}

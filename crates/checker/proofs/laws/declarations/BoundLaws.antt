@@ -1,4 +1,4 @@
--- What the child of a Bind or an Rbnd means, by the kind of its node: an expression's code, a location's, or a function with its Formals and its block;
+-- What a Bind's child means, by the kind of its node: an expression's code, a location's, or a function with its Formals and its block;
 -- and that a meaning that was found fits into a row.
 use Prim.Native.Nat.{ℕ, zero, suc, ◌+◌, ◌<◌, ◌≤◌}
 use mathlib.Core.Path.{◌≡◌, refl, sym, ◌∙◌, subst}

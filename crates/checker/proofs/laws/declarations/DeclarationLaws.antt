@@ -1,6 +1,5 @@
 -- Declarations by the kind of their node: a Bind gives one row, for what its child means; a DSeq gives the rows of its first
--- declaration and then those of its second, judged in the scope with the first's names, unless a name comes in both. What an Rbnd gives is
--- in RecursiveLaws.antt.
+-- declaration and then those of its second, judged in the scope with the first's names, unless a name comes in both.
 use Prim.Native.Nat.{ℕ, suc, ◌+◌, ◌<◌, ◌≤◌}
 use mathlib.Core.Path.{◌≡◌, refl, sym, ap, ◌∙◌, subst}
 use mathlib.Core.Bool.{Bool, true, false, cond}
@@ -9,14 +8,14 @@ use native.Mathlib.Omega.{arith}
 use lib.ListN.{length, get_or, set}
 use Rattle.rules.specs.paper.Limits.{most_nodes, names}
 use Rattle.rules.specs.paper.Refusals.{Repeated, refusal_number}
-use Rattle.rules.specs.paper.Tree.{Formal, Block, Declaration, Bind, DSeq, Rbnd, Bound}
+use Rattle.rules.specs.paper.Tree.{Declaration, Bind, DSeq, Bound}
 use Rattle.rules.specs.paper.Checker.{Meaning, Scope, Judged, fault, fine, ◌>>=◌, shares_name, declaration_gives, bound_means}
 use Rattle.reader.specs.Pack.{packed_kind, packed_end, packed_operand}
-use Rattle.reader.specs.Stored.{HasWord, kind_is, operand_is, StoredDeclaration, bind, dseq, rbnd, StoredBound}
+use Rattle.reader.specs.Stored.{HasWord, kind_is, operand_is, StoredDeclaration, bind, dseq, StoredBound}
 use Rattle.reader.specs.StandingLaws.{declaration_on, bound_on, after_node}
 use Rattle.typing.specs.Rows.{meaning_numbers, rows_from, rows_end, row_word, meaning_number, MeaningAt, HasRow, Rows, no_rows, one_row, ScopeAt}
 use Rattle.typing.specs.Answers.{meaning_answer}
-use Rattle.checker.specs.Commands.{WritesRowsFrom, BoundAt, DeclarationAt, NamesFrom, names_from, names_fault, DeclarationJudgedAt, RecursiveJudgedAt, BoundJudgedAt}
+use Rattle.checker.specs.Commands.{WritesRowsFrom, BoundAt, DeclarationAt, NamesFrom, names_from, names_fault, DeclarationJudgedAt, BoundJudgedAt}
 use Rattle.typing.specs.declared.codes.Answer.{Answer}
 use Rattle.typing.specs.declared.codes.Answer.TheVariants.{Is, Fault}
 use Rattle.typing.proofs.laws.codes.AnswerLaws.{two_answers, same_is}
@@ -55,7 +54,6 @@ pub record BindAt (words : List ℕ) (node next : ℕ) (d : Declaration) : Type 
 data SeenDeclaration (words : List ℕ) (node next : ℕ) : (which : ℕ) → Declaration → Type 0 where
   seen_bind : {d : Declaration} → BindAt words node next d → SeenDeclaration words node next 30 d
   seen_sequence : {d : Declaration} → SequenceAt words node next d → SeenDeclaration words node next 31 d
-  seen_recursive : {x : ℕ} {fs : List Formal} {b : Block} → DeclarationAt words node next (Rbnd node x (suc node) fs b) → SeenDeclaration words node next 32 (Rbnd node x (suc node) fs b)
 
 seen_declaration : (words : List ℕ) (node which next : ℕ) (d : Declaration) → which ≡ packed_kind (get_or words node 0) → DeclarationAt words node next d → SeenDeclaration words node next which d
 seen_declaration words node which next d known at = by at.stored
@@ -88,7 +86,6 @@ seen_declaration words node which next d known at = by at.stored
           second_at = record { depth = t; stored = b };
           on = omega (arith, declaration_on a);
         })
-    by {t = suc (suc t)} (rbnd l w g v f h) = of_kind (kind_is w (omega arith)) (seen_recursive (record { depth = suc (suc t); stored = rbnd l w g v f h }))
 
 -- ---- Names that were given, or a fault.
 
@@ -117,7 +114,6 @@ module _ (words : List ℕ) (registers scope node which : ℕ) (known : which �
       by : {w : ℕ} {d : Declaration} → SeenDeclaration words node next w d → w ≡ 31 → SequenceAt words node next d
       by (seen_bind a) q = absurd (omega (arith, q))
       by (seen_sequence a) q = a
-      by (seen_recursive a) q = absurd (omega (arith, q))
 
   pub first_declaration : ((d : Declaration) × (next : ℕ) × DeclarationAt words node next d) → (d : Declaration) × (next : ℕ) × DeclarationAt words (node + 1) next d
   first_declaration d =
@@ -236,41 +232,19 @@ module _ (words : List ℕ) (registers scope node which : ℕ) (known : which �
                   joined_fine : (Δ₁ Δ₂ : Scope) → shares_name Δ₁ Δ₂ ≡ false → joined node Δ₁ Δ₂ ≡ fine (Δ₂ ++ Δ₁)
                   joined_fine Δ₁ Δ₂ e = unfold joined in rw e
 
--- ---- Rbnd.
-
-module _ (words : List ℕ) (registers scope node which : ℕ) (known : which ≡ packed_kind (get_or words node 0)) (is_recursive : which ≡ 32) where
-  pub recursive_there : ((d : Declaration) × (next : ℕ) × DeclarationAt words node next d) →
-      (x : ℕ) × (fs : List Formal) × (b : Block) × (next : ℕ) × DeclarationAt words node next (Rbnd node x (suc node) fs b)
-  recursive_there d = by (seen_declaration words node which d.1 d.0 known d.2) is_recursive
-    where
-      by : {w : ℕ} {e : Declaration} → SeenDeclaration words node d.1 w e → w ≡ 32 →
-          (x : ℕ) × (fs : List Formal) × (b : Block) × (next : ℕ) × DeclarationAt words node next (Rbnd node x (suc node) fs b)
-      by (seen_bind a) q = absurd (omega (arith, q))
-      by (seen_sequence a) q = absurd (omega (arith, q))
-      by (seen_recursive {x = x} {fs = fs} {b = b} a) q = (x, fs, b, d.1, a)
-
-  pub recursive_judged : (words' : List ℕ) (r : Answer) → RecursiveJudgedAt words words' registers scope node r → DeclarationJudgedAt words words' registers scope node r
-  recursive_judged words' r judged d next Γ at s = by (seen_declaration words node which next d known at) is_recursive
-    where
-      by : {w : ℕ} {e : Declaration} → SeenDeclaration words node next w e → w ≡ 32 → NamesFrom words' scope next (declaration_gives Γ e) r
-      by (seen_bind a) q = absurd (omega (arith, q))
-      by (seen_sequence a) q = absurd (omega (arith, q))
-      by (seen_recursive {x = x} {fs = fs} {b = b} a) q = judged x fs b next Γ a s
-
 -- ---- Bind.
 
 means_inverse : (r : Answer) (n : ℕ) (j : Judged Meaning) → r ≡ meaning_answer j → r ≡ Is n → (m : Meaning) × (j ≡ fine m) × (meaning_number m ≡ n)
 means_inverse r n (fault y p) g h = absurd (two_answers r n (refusal_number y) p h g)
 means_inverse r n (fine m) g h = (m, refl, same_is r (meaning_number m) n g h)
 
-module _ (words : List ℕ) (registers scope node which : ℕ) (known : which ≡ packed_kind (get_or words node 0)) (not_sequence : which ≡ 31 → ⊥) (not_recursive : which ≡ 32 → ⊥) where
+module _ (words : List ℕ) (registers scope node which : ℕ) (known : which ≡ packed_kind (get_or words node 0)) (not_sequence : which ≡ 31 → ⊥) where
   bind_there : (d : Declaration) (next : ℕ) → DeclarationAt words node next d → BindAt words node next d
-  bind_there d next at = by (seen_declaration words node which next d known at) not_sequence not_recursive
+  bind_there d next at = by (seen_declaration words node which next d known at) not_sequence
     where
-      by : {w : ℕ} {d : Declaration} → SeenDeclaration words node next w d → (w ≡ 31 → ⊥) → (w ≡ 32 → ⊥) → BindAt words node next d
-      by (seen_bind a) f g = a
-      by (seen_sequence a) f g = absurd (f refl)
-      by (seen_recursive a) f g = absurd (g refl)
+      by : {w : ℕ} {d : Declaration} → SeenDeclaration words node next w d → (w ≡ 31 → ⊥) → BindAt words node next d
+      by (seen_bind a) f = a
+      by (seen_sequence a) f = absurd (f refl)
 
   pub bind_child : ((d : Declaration) × (next : ℕ) × DeclarationAt words node next d) → (b : Bound) × BoundAt words (node + 1) b
   bind_child d =

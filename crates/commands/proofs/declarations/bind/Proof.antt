@@ -10,10 +10,10 @@ use Rattle.machine.proofs.stacks.enter.Reads as enter-reads
 use Rattle.reader.proofs.operand.Reads as operand-reads
 
 operand-requires : tie.Need-operand-requires
-operand-requires c κs = let start = c.before.before in omega (arith, declaration_low _ _ _ _ start.requires.1.1, start.requires.1.1.ready.fits.room)
+operand-requires c κs = let start = c.before.before in omega (arith, declaration_low _ _ _ _ start.requires.2, start.requires.2.ready.fits.room)
 
 add-enter : tie.Need-overflow-add-enter
-add-enter c = let start = c.before.before.before.before in record { fits = omega (arith, declaration_low _ _ _ _ start.requires.1.1) }
+add-enter c = let start = c.before.before.before.before in record { fits = omega (arith, declaration_low _ _ _ _ start.requires.2) }
 
 enter-requires : tie.Need-enter-requires
 enter-requires c κs = search rules
@@ -22,8 +22,7 @@ same_length : tie.Need-same-length
 same_length c = search rules
 
 returns : tie.Need-returns
-returns c =
-    bind_steps _ _ _ _ _ _ c.before.before.before.before.operand.ensures c.before.before.enter.ensures c.before.before.before.before.before.before.before.requires.0
+returns c = bind_steps _ _ _ _ _ _ c.before.before.before.before.operand.ensures c.before.before.enter.ensures
 
 pub bind-spec : {M : Type 1} → statement M
 bind-spec = tie.close (tie.spec operand-requires add-enter enter-requires same_length returns)

@@ -9,10 +9,10 @@ use Rattle.commands.proofs.declarations.close.Lts as lts
 use Rattle.machine.proofs.stacks.push.Reads as push-reads
 
 mul-push : tie.Need-overflow-mul-push
-mul-push c = let a = c.before.before.requires.4 in record { fits = omega (arith, environment_low _ _ _ _ _ _ _ a) }
+mul-push c = let a = c.before.before.requires.3 in record { fits = omega (arith, environment_low _ _ _ _ _ _ a) }
 
 add_push : tie.Need-overflow-add-push
-add_push c = let a = c.before.before.requires.4 in record { fits = omega (arith, environment_low _ _ _ _ _ _ _ a, abstraction_low _ _ _ _ _ _ _ a) }
+add_push c = let a = c.before.before.requires.3 in record { fits = omega (arith, environment_low _ _ _ _ _ _ a, abstraction_low _ _ _ _ _ _ a) }
 
 push-requires : tie.Need-push-requires
 push-requires c κs = search rules

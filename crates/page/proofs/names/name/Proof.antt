@@ -1,7 +1,7 @@
 -- `names::name` answers the name of each kind at its number.
 use mathlib.Core.Path.{refl}
 use Rattle.rules.specs.paper.Tree.{arithmetic, Eq, order, logic, Sum, Sub, Mul, Div, Lt, Le, Gt, Ge, And, Or}
-use Rattle.rules.specs.paper.Kinds.{num, boo, id, deref, valref, binary, negation, assign, loop, cseq, blk, call, conditional, bind, dseq, rbnd, expression_kind, command_kind, declaration_kind, ref, abs, formal, every_kind}
+use Rattle.rules.specs.paper.Kinds.{num, boo, id, deref, valref, binary, negation, assign, loop, cseq, blk, call, conditional, bind, dseq, expression_kind, command_kind, declaration_kind, ref, abs, formal, every_kind}
 use Rattle.page.proofs.NameLaws.{name_known, name_unknown}
 use Rattle.page.proofs.names.name.Statement.{statement}
 use Rattle.page.proofs.names.name.Tie as tie
@@ -84,20 +84,17 @@ returns-25 : tie.Need-returns-25
 returns-25 c = name_known (declaration_kind dseq) _ _ c.before.before.match.keys25 refl
 
 returns-26 : tie.Need-returns-26
-returns-26 c = name_known (declaration_kind rbnd) _ _ c.before.before.match.keys26 refl
+returns-26 c = name_known ref _ _ c.before.before.match.keys26 refl
 
 returns-27 : tie.Need-returns-27
-returns-27 c = name_known ref _ _ c.before.before.match.keys27 refl
+returns-27 c = name_known abs _ _ c.before.before.match.keys27 refl
 
 returns-28 : tie.Need-returns-28
-returns-28 c = name_known abs _ _ c.before.before.match.keys28 refl
+returns-28 c = name_known formal _ _ c.before.before.match.keys28 refl
 
 returns-29 : tie.Need-returns-29
-returns-29 c = name_known formal _ _ c.before.before.match.keys29 refl
-
-returns-30 : tie.Need-returns-30
 unfolding every_kind
-returns-30 c = name_unknown _ _ c.before.before.match.rest
+returns-29 c = name_unknown _ _ c.before.before.match.rest
 
 pub name-spec : {M : Type 1} → statement M
 name-spec =
@@ -131,5 +128,4 @@ name-spec =
     returns-26
     returns-27
     returns-28
-    returns-29
-    returns-30)
+    returns-29)

@@ -1,7 +1,7 @@
 -- `tables::row` answers the row of each kind at its number, and 0 elsewhere.
 use mathlib.Core.Path.{refl}
 use Rattle.rules.specs.paper.Tree.{arithmetic, Eq, order, logic, Sum, Sub, Mul, Div, Lt, Le, Gt, Ge, And, Or}
-use Rattle.rules.specs.paper.Kinds.{num, boo, id, deref, valref, binary, negation, assign, loop, cseq, blk, call, conditional, bind, dseq, rbnd, expression_kind, command_kind, declaration_kind, ref, abs, formal, every_kind}
+use Rattle.rules.specs.paper.Kinds.{num, boo, id, deref, valref, binary, negation, assign, loop, cseq, blk, call, conditional, bind, dseq, expression_kind, command_kind, declaration_kind, ref, abs, formal, every_kind}
 use Rattle.reader.specs.Tables.{row_word}
 use Rattle.reader.proofs.TableRows.{row_known, row_unknown}
 use Rattle.reader.proofs.tables.row.Statement.{statement}
@@ -111,23 +111,19 @@ returns-25 c = row_known (declaration_kind dseq) _ _ c.match.keys25 refl
 
 returns-26 : tie.Need-returns-26
 unfolding row_word
-returns-26 c = row_known (declaration_kind rbnd) _ _ c.match.keys26 refl
+returns-26 c = row_known ref _ _ c.match.keys26 refl
 
 returns-27 : tie.Need-returns-27
 unfolding row_word
-returns-27 c = row_known ref _ _ c.match.keys27 refl
+returns-27 c = row_known abs _ _ c.match.keys27 refl
 
 returns-28 : tie.Need-returns-28
 unfolding row_word
-returns-28 c = row_known abs _ _ c.match.keys28 refl
+returns-28 c = row_known formal _ _ c.match.keys28 refl
 
 returns-29 : tie.Need-returns-29
-unfolding row_word
-returns-29 c = row_known formal _ _ c.match.keys29 refl
-
-returns-30 : tie.Need-returns-30
 unfolding every_kind
-returns-30 c = row_unknown _ c.match.rest
+returns-29 c = row_unknown _ c.match.rest
 
 pub row-spec : {M : Type 1} → statement M
 row-spec =
@@ -161,5 +157,4 @@ row-spec =
     returns-26
     returns-27
     returns-28
-    returns-29
-    returns-30)
+    returns-29)

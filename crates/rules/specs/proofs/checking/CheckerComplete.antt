@@ -115,7 +115,6 @@ mutual
   declaration_fine (Typing.dseq {Δ₁ = Δ₁} {Δ₂ = Δ₂} h k apart q) =
       rw (declaration_fine h, declaration_fine k, false_test (shares_name Δ₁ Δ₂) (λ t. let s = tests_shared Δ₁ Δ₂ t in apart s.0 s.1 s.2))
       (ap {B = Judged Scope} fine (sym q))
-  declaration_fine (Typing.rbnd {fs = fs} h k q) = rw (distinct_fine [] fs h, block_fine k) (ap {B = Judged Scope} fine (sym q))
 
   pub bound_fine : {Γ : Scope} {b : Bound} {m : Meaning} → Means Γ b m → bound_means Γ b ≡ fine m
   bound_fine (Typing.plain_of {Γ = Γ} {e = e} {c = c} h) = rw (expression_fine Γ e c h)

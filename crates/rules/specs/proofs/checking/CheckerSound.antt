@@ -4,9 +4,9 @@ use Rattle.std.proofs.Common.{sym, ap, ◌∙◌, subst, arith, eqb→eq, ltb→
 use Rattle.std.proofs.Math.Option.{Option, none, some}
 use Rattle.std.proofs.Math.Dec.{eqb_refl}
 use Rattle.rules.specs.proofs.Basics.{failed_test, or_left, or_right, passed_test}
-use Rattle.rules.specs.paper.Tree.{Operator, arithmetic, Eq, order, logic, Expression, Num, Boo, Id, DeRef, ValRef, Binary, Not, Formal, Command, Assign, Loop, CSeq, block, Call, Cond, Block, Blk, Declaration, Bind, DSeq, Rbnd, Bound, plain, Ref, Abs}
+use Rattle.rules.specs.paper.Tree.{Operator, arithmetic, Eq, order, logic, Expression, Num, Boo, Id, DeRef, ValRef, Binary, Not, Formal, Command, Assign, Loop, CSeq, block, Call, Cond, Block, Blk, Declaration, Bind, DSeq, Bound, plain, Ref, Abs}
 use Rattle.rules.specs.paper.Limits.{plain_codes}
-use Rattle.rules.specs.paper.Checker.{Meaning, code, function, Named, Scope, meaning_of, Judged, fault, fine, ◌>>=◌, bound_name, id_code, deref_code, valref_code, operator_code, truth_only, expression_code, assignable, Fine, ok, same_code, expression_codes, called, same_count, same_codes, has_name, shares_name, distinct, own_name, with_formals, ref_code, command_ok, block_ok, declaration_gives, bound_means}
+use Rattle.rules.specs.paper.Checker.{Meaning, code, function, Named, Scope, meaning_of, Judged, fault, fine, ◌>>=◌, bound_name, id_code, deref_code, valref_code, operator_code, truth_only, expression_code, assignable, Fine, ok, same_code, expression_codes, called, same_count, same_codes, has_name, shares_name, distinct, with_formals, ref_code, command_ok, block_ok, declaration_gives, bound_means}
 use Rattle.rules.specs.claims.Typing.{HasCode, ActualsFit, no_actuals, actual, Declares, here, there, Distinct, CommandOk, BlockOk, Gives, Means}
 use Rattle.rules.specs.claims.Typing as Typing
 
@@ -233,11 +233,6 @@ mutual
       bind_satisfies (Gives (Δ₁ ++ Γ) d₂) _ (declaration_gives (Δ₁ ++ Γ) d₂) _ (declaration_satisfies d₂ (Δ₁ ++ Γ)) (λ Δ₂ k.
       cond_satisfies (Gives Γ (DSeq p d₁ d₂)) (shares_name Δ₁ Δ₂) _ _ (λ q. tt) (λ q.
       Typing.dseq h k (λ x d e. failed_test q (shared_tests x Δ₁ Δ₂ d e)) refl)))
-  declaration_satisfies (Rbnd p x q fs b) Γ =
-      bind_satisfies (λ done. Distinct [] fs) _ (distinct [] fs) _ (distinct_satisfies [] fs) (λ done h.
-      bind_satisfies (λ done. BlockOk (with_formals fs (own_name x fs ∷ Γ)) b) _ (block_ok (with_formals fs (own_name x fs ∷ Γ)) b) _
-      (block_satisfies b (with_formals fs (own_name x fs ∷ Γ))) (λ done k.
-      Typing.rbnd h k refl))
 
   pub bound_means_satisfies : (b : Bound) (Γ : Scope) → Satisfies (Means Γ b) (bound_means Γ b)
   bound_means_satisfies (plain e) Γ =

@@ -1,14 +1,13 @@
 -- The figures are the most over all free runs: nothing exceeds them (1), and each is reached (2).
-use Rattle.std.specs.Prelude.{ℕ, zero, suc, ◌+◌, ◌≤◌, ◌<◌, ◌≡◌, Bool, false, List, [], ◌∷◌, ◌⊎◌, ℤ}
+use Rattle.std.specs.Prelude.{ℕ, zero, suc, ◌+◌, ◌≤◌, ◌<◌, ◌≡◌, Bool, List, [], ◌∷◌, ◌⊎◌, ℤ}
 use Rattle.std.proofs.Math.Path.{refl, ap, subst}
 use Rattle.std.proofs.Common.{sym, ◌∙◌, ⊎_elim, arith}
 use Rattle.std.proofs.Math.Logic.{inl, inr}
-use Rattle.rules.specs.paper.Tree.{Root}
-use Rattle.rules.specs.paper.Kinds.{Kind}
+use Rattle.rules.specs.paper.Tree.{Command, Root}
 use Rattle.rules.specs.paper.Tree as Tree
 use Rattle.rules.specs.paper.Checker.{Passed}
 use Rattle.rules.specs.paper.States.{State, state, control_of}
-use Rattle.rules.specs.paper.Needs.{Figure, control, sizes, Need, nothing, over, expression_need, command_need, Needs, register_needs, root_need, routine_need, is_loop, is_recursion, has_loop, has_recursion}
+use Rattle.rules.specs.paper.Needs.{Figure, control, sizes, Need, nothing, over, expression_need, command_need, Needs, register_needs, root_need, routine_need, is_loop, has_loop}
 use Rattle.rules.specs.paper.Engine.{check_image, passed, root_control, register_environment, register_store, start}
 use Rattle.rules.specs.claims.Claim.{AllInRange}
 use Rattle.rules.specs.claims.History.{first_history}
@@ -38,16 +37,10 @@ root_ordered (Tree.expression e) n = other refl none_left
 root_ordered (Tree.command c) n = other refl none_left
 root_ordered Tree.absent n = none_left
 
-pub start_free : (image : List ℕ) (r : ℕ) (t : Root) (a : Passed) → check_image image ≡ passed r t a → has_recursion t ≡ false → (zs : List ℤ) → AllInRange zs →
-    FreeInvariant a r (start r t zs)
-unfolding start has_recursion
-start_free image r t a passes no_recursion zs ranged =
-    record {
-      history = first_history r;
-      typed = start_invariant image r t a ((check_exact image r t a).0 passes) zs ranged;
-      ordered = root_ordered t r;
-      without_recursion = start_without is_recursion r t zs no_recursion;
-    }
+pub start_free : (image : List ℕ) (r : ℕ) (t : Root) (a : Passed) → check_image image ≡ passed r t a → (zs : List ℤ) → AllInRange zs → FreeInvariant a r (start r t zs)
+unfolding start
+start_free image r t a passes zs ranged =
+    record { history = first_history r; typed = start_invariant image r t a ((check_exact image r t a).0 passes) zs ranged; ordered = root_ordered t r }
 
 -- What is ahead of the start: the root's need over the registers.
 pub record Beginning (r : ℕ) (zs : List ℤ) (t : Root) (n : Need) : Type 0 where
@@ -110,7 +103,7 @@ pub reach_free : {a : Passed} {r : ℕ} {first σ : State} {k : ℕ} → FreeInv
 reach_free inv at_start = inv
 reach_free inv (one_more reached s) = free_invariant (reach_free inv reached) s
 
-pub reach_without : (t : Kind → Bool) {first σ : State} {k : ℕ} → Without t first → FreeReach first k σ → Without t σ
+pub reach_without : (t : Command → Bool) {first σ : State} {k : ℕ} → Without t first → FreeReach first k σ → Without t σ
 reach_without t w at_start = w
 reach_without t w (one_more reached s) = step_without t (reach_without t w reached) s
 
@@ -120,9 +113,9 @@ steps_under inv w (one_more reached s) = omega (arith, steps_under inv w reached
 
 pub nothing_exceeds : NothingExceeds
 unfolding has_loop
-nothing_exceeds image r t a passes no_recursion zs count ranged k σ reached =
+nothing_exceeds image r t a passes zs count ranged k σ reached =
     let b = beginning r zs t in
-    let inv = start_free image r t a passes no_recursion zs ranged in
+    let inv = start_free image r t a passes zs ranged in
     let u = under_all {n = routine_need r t} (record { invariant = inv; size_under = b.size_within; ahead_under = b.ahead_within }) reached in (
       λ f. subst (λ m. m ≤ (routine_need r t).most f) (shown_size σ f) (u.size_under f),
       λ q. omega (arith, steps_under inv (start_without is_loop r t zs q) reached, b.counted),
@@ -202,9 +195,9 @@ steps_reached {a} {r} {first} (suc left) j σ inv w reached q =
 
 pub each_reached : EachReached
 unfolding has_loop
-each_reached image r t a passes no_recursion zs count ranged =
+each_reached image r t a passes zs count ranged =
     let b = beginning r zs t in
-    let inv = start_free image r t a passes no_recursion zs ranged in (
+    let inv = start_free image r t a passes zs ranged in (
       λ f.
           ⊎_elim (λ q. arrived at_start q) (λ h. size_reached (routine_need r t).steps f ((routine_need r t).most f) (routine_need r t).steps 0 (start r t zs) inv at_start h (omega arith)) (b.first f),
       λ q.

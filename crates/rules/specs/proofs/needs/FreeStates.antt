@@ -1,14 +1,12 @@
 -- The states of free runs of a passed image: the invariant of the whole run holds in them, and every step is of one of the three kinds.
 use Rattle.std.specs.Prelude.{ℕ, ◌+◌, ◌-◌, ◌≡◌, refl, Bool, true, false, List, [], ◌∷◌, T, ℤ, length}
 use Rattle.std.proofs.Common.{subst, arith}
-use Rattle.std.proofs.Math.Option.{Option, none, some}
-use Rattle.rules.specs.paper.Tree.{Arithmetic, arithmetic, Expression, Formal, Command, Loop, Cond, Block}
+use Rattle.rules.specs.paper.Tree.{Arithmetic, arithmetic, Expression, Command, Loop, Cond}
 use Rattle.rules.specs.paper.Integers.{in_range, number}
 use Rattle.rules.specs.paper.Checker.{Scope, Passed}
-use Rattle.rules.specs.paper.States.{integer, truth, closure, Environment, lookup, Store, remove, Entry, val, node, Item, mark, operator_mark, loop_mark, conditional_mark, leave_mark, State, state, control_of, bindings_of}
+use Rattle.rules.specs.paper.States.{integer, truth, Environment, Store, remove, Entry, val, node, Item, mark, operator_mark, loop_mark, conditional_mark, leave_mark, State, state, control_of, bindings_of}
 use Rattle.rules.specs.paper.Rules.{goes, Applies}
 use Rattle.rules.specs.paper.Rules as Rules
-use Rattle.rules.specs.paper.Needs.{is_recursion}
 use Rattle.rules.specs.paper.Fire.{after_test, chosen}
 use Rattle.rules.specs.claims.History.{History}
 use Rattle.rules.specs.claims.FreeRun.{FreeStep, by_rule, any_integer, either_turn, either_command}
@@ -17,8 +15,7 @@ use Rattle.rules.specs.proofs.running.Stores.{StoreTyped, store_length, Grown, s
 use Rattle.rules.specs.proofs.running.Continuation.{StackShape, ControlTyped, operator_mark_typed, loop_mark_typed, conditional_mark_typed, leave_mark_typed, arithmetic_typed, ValuesTyped, value_on, frame_on, open_states, Invariant}
 use Rattle.rules.specs.proofs.running.MarkSteps.{arithmetic_next}
 use Rattle.rules.specs.proofs.running.WholeRun.{step_invariant}
-use Rattle.rules.specs.proofs.needs.StepKinds.{Ordered, Classified, LeavesCells, NoneRecursive, classified, integer_classified, turn_classified, choice_classified}
-use Rattle.rules.specs.proofs.needs.Without.{some_in_function, WithoutEnvironment, Without, lookup_without, step_without}
+use Rattle.rules.specs.proofs.needs.StepKinds.{Ordered, Classified, LeavesCells, classified, integer_classified, turn_classified, choice_classified}
 
 -- ---- A leaving finds as many live cells in its location set as there are more than at its entering.
 
@@ -41,27 +38,13 @@ pub record FreeInvariant (a : Passed) (r : ℕ) (σ : State) : Type 0 where
   pub history : History
   pub typed : Invariant a r σ history
   pub ordered : Ordered (control_of σ) (bindings_of σ)
-  pub without_recursion : Without is_recursion σ
-
--- No function in scope knows its name.
-none_recursive : (E : Environment) → WithoutEnvironment is_recursion E → NoneRecursive E
-none_recursive E w x own fs b F q = by own (lookup_without is_recursion x E (closure own fs b F) q w).0
-  where
-    by : (own : Option ℕ) → some_in_function is_recursion own b ≡ false → own ≡ none
-    by none h = refl
-    by (some y) h = absurd (subst IsTrue h tt)
-      where
-        IsTrue : Bool → Type 0
-        IsTrue true = Unit {0}
-        IsTrue false = ⊥
 
 pub free_classified : {a : Passed} {r : ℕ} {σ τ : State} → FreeInvariant a r σ → FreeStep σ τ → Classified σ τ
 free_classified {a} {r} inv (by_rule {σ = σ} {τ = τ} x line) = at σ inv line
   where
     at : (σ : State) → FreeInvariant a r σ → Applies x σ (goes τ) → Classified σ τ
     at (state [] X E S L n) i l = absurd l
-    at (state (j ∷ C) X E S L n) i l = classified C E S L n x j X (goes τ) l (leaves_cells a r j C X E S L n i.history i.typed)
-        (none_recursive E i.without_recursion.in_names) i.ordered
+    at (state (j ∷ C) X E S L n) i l = classified C E S L n x j X (goes τ) l (leaves_cells a r j C X E S L n i.history i.typed) i.ordered
 free_classified inv (any_integer {o = o} {y = y} {z = z} {C = C} {X = X} {E = E} {S = S} {L = L} {n = n} q v h) = integer_classified C E S L n (arithmetic o) y z v X inv.ordered
 free_classified inv (either_turn {C = C} {X = X} {E = E} {S = S} {L = L} {n = n} t) = turn_classified C E S L n X t inv.ordered
 free_classified inv (either_command {C = C} {X = X} {E = E} {S = S} {L = L} {n = n} t) = choice_classified C E S L n X t inv.ordered
@@ -126,4 +109,4 @@ free_typed a r h inv (either_command {p = p} {e = e} {c₁ = c₁} {c₂ = c₂}
 pub free_invariant : {a : Passed} {r : ℕ} {σ τ : State} → FreeInvariant a r σ → FreeStep σ τ → FreeInvariant a r τ
 free_invariant {a} {r} inv step =
     let o = free_typed a r inv.history inv.typed step in
-    record { history = o.history; typed = o.typed; ordered = (free_classified inv step).ordered; without_recursion = step_without is_recursion inv.without_recursion step }
+    record { history = o.history; typed = o.typed; ordered = (free_classified inv step).ordered }

@@ -13,9 +13,9 @@ use Rattle.rules.specs.paper.States.{Environment, Store, Entry, Item, State, sta
 use Rattle.rules.specs.paper.Rules.{Rule, Effect, goes, fails, Applies}
 use Rattle.rules.specs.paper.Fire.{Firing, stuck, fires, fire}
 use Rattle.rules.specs.paper.Run.{priority, holds, first_holding, Verdict, made, withheld, settle, judge, Ending, ended, stopped, lost, run}
-use Rattle.rules.specs.paper.Needs.{Figure, control, values, cells, bindings, Sizes, sizes, Need, routine_need, has_loop, has_recursion}
+use Rattle.rules.specs.paper.Needs.{Figure, control, values, cells, bindings, Sizes, sizes, Need, routine_need, has_loop}
 use Rattle.rules.specs.paper.HighMarks.{size, larger, no_high_marks, raised_by_verdict, raised_by_firing, high_marks}
-use Rattle.rules.specs.paper.Engine.{Checked, turned_back, passed, check_image, start, cleared, Called, refusing, finish, run_checked, engine, MostSteps, given, left_open, NeedsAnswer, figures, no_figures, room_figures, figures_of, tree_needs, needs_answer, NeedsCalled, needs}
+use Rattle.rules.specs.paper.Engine.{Checked, turned_back, passed, check_image, start, cleared, Called, refusing, finish, run_checked, engine, MostSteps, given, left_open, NeedsAnswer, figures, no_figures, room_figures, figures_of, needs_answer, NeedsCalled, needs}
 use Rattle.rules.specs.claims.History.{History, note, Reach, at_start, step_made, first_history}
 use Rattle.rules.specs.claims.Claim.{AllInRange}
 use Rattle.rules.specs.claims.FreeRun.{SizeMet}
@@ -120,16 +120,16 @@ high_marks_are_most budget first r =
 -- ---- The needs.
 
 pub high_marks_within_needs : HighMarksWithinNeeds
-high_marks_within_needs image r t a passes no_recursion zs count ranged budget f =
+high_marks_within_needs image r t a passes zs count ranged budget f =
     let m = (high_marks_are_most budget (start r t zs) r).is_reached f in
     subst (λ k. k ≤ (routine_need r t).most f) m.equal
-    ((run_exceeds_nothing image r t a passes no_recursion zs count ranged budget m.steps m.there m.history m.reached).0 f)
+    ((run_exceeds_nothing image r t a passes zs count ranged budget m.steps m.there m.history m.reached).0 f)
 
 pub high_marks_are_needs : HighMarksAreNeeds
-high_marks_are_needs image r t a passes no_recursion zs count ranged no_loops no_conditionals budget k τ q f =
-    let m = (reaches_exactly image r t a passes no_recursion zs count ranged no_loops no_conditionals budget k τ q).1 f in
+high_marks_are_needs image r t a passes zs count ranged no_loops no_conditionals budget k τ q f =
+    let m = (reaches_exactly image r t a passes zs count ranged no_loops no_conditionals budget k τ q).1 f in
     let above = (high_marks_are_most budget (start r t zs) r).none_above m.steps m.there m.history m.reached f in
-    omega (arith, m.equal, above, high_marks_within_needs image r t a passes no_recursion zs count ranged budget f)
+    omega (arith, m.equal, above, high_marks_within_needs image r t a passes zs count ranged budget f)
 
 -- A refusal before the run has marks of 0.
 nothing_within : (n : ℕ) (f : Figure) → no_high_marks f ≤ n
@@ -144,7 +144,6 @@ record Figured (image : List ℕ) (most : Sizes) : Type 0 where
   tree : Root
   root : Passed
   passes : check_image image ≡ passed registers tree root
-  no_recursion : has_recursion tree ≡ false
   is : (f : Figure) → (routine_need registers tree).most f ≡ most f
 
 -- The room that an answer of the needs gives.
@@ -162,7 +161,7 @@ abbrev HasFigures : NeedsAnswer → Type 0
 HasFigures (figures k v c b s) = Unit {0}
 HasFigures (no_figures x p) = ⊥
 
--- Where an answer has figures, they are the tree's, and no Rbnd is in it.
+-- Where an answer has figures, they are the tree's.
 figures_are : (r : ℕ) (t : Root) → HasFigures (figures_of r t) → (f : Figure) → (routine_need r t).most f ≡ room_of (figures_of r t) f
 unfolding figures_of
 figures_are r t given_there f = by (has_loop t) (ltb most_steps (routine_need r t).steps) given_there
@@ -176,18 +175,9 @@ figures_are r t given_there f = by (has_loop t) (ltb most_steps (routine_need r 
     by false true h = absurd h
     by false false h = room_is (routine_need r t) (given (routine_need r t).steps) f
 
-needs_are : (r : ℕ) (t : Root) → HasFigures (tree_needs r t) → (has_recursion t ≡ false) × ((f : Figure) → (routine_need r t).most f ≡ room_of (tree_needs r t) f)
-unfolding tree_needs
-needs_are r t given_there = by (has_recursion t) given_there
-  where
-    by : (recursive : Bool) → HasFigures (cond recursive (no_figures Refusals.HasRecursion 0) (figures_of r t)) →
-        (recursive ≡ false) × ((f : Figure) → (routine_need r t).most f ≡ room_of (cond recursive (no_figures Refusals.HasRecursion 0) (figures_of r t)) f)
-    by true h = absurd h
-    by false h = (refl, figures_are r t h)
-
 of_checked : (image : List ℕ) (c : Checked) → check_image image ≡ c → HasFigures (needs_answer c) → Figured image (room_of (needs_answer c))
 of_checked image (turned_back x p) q h = absurd h
-of_checked image (passed r t a) q h = record { registers = r; tree = t; root = a; passes = q; no_recursion = (needs_are r t h).0; is = (needs_are r t h).1 }
+of_checked image (passed r t a) q h = record { registers = r; tree = t; root = a; passes = q; is = figures_are r t h }
 
 figured : (image lent : List ℕ) → HasFigures (needs image lent).answer → Figured image (room_of (needs image lent).answer)
 unfolding needs
@@ -216,7 +206,7 @@ module _ (image : List ℕ) (most : Sizes) (g : Figured image most) (zs : List �
       by true e =
           subst (λ n. Ran.reply.most f ≤ n) (g.is f)
           (subst (λ m. m f ≤ (routine_need g.registers g.tree).most f) (sym (finish_most g.registers ws (high_marks budget (start g.registers g.tree zs)) (run budget 0 (start g.registers g.tree zs))))
-          (high_marks_within_needs image g.registers g.tree g.root g.passes g.no_recursion zs (eqb-true (length zs) g.registers e) ranged budget f))
+          (high_marks_within_needs image g.registers g.tree g.root g.passes zs (eqb-true (length zs) g.registers e) ranged budget f))
       by false e = nothing_within (most f) f
 
   engine_within : (ws : List ℕ) → (engine image zs budget ws).reply.most f ≤ most f

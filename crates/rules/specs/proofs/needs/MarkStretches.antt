@@ -3,7 +3,7 @@
 use Rattle.std.specs.Prelude.{ℕ, zero, suc, ◌+◌, ◌-◌, ◌≤◌, ◌≡◌, Bool, true, false, cond, List, [], ◌∷◌, ◌++◌, eqb, length, drop}
 use Rattle.std.proofs.Math.Path.{refl, ap}
 use Rattle.std.proofs.Common.{sym, ◌∙◌, arith}
-use Rattle.std.proofs.Math.Option.{none, Option, some, some-injective}
+use Rattle.std.proofs.Math.Option.{Option, some, some-injective}
 use Rattle.rules.specs.proofs.Basics.{missing}
 use Rattle.rules.specs.paper.Tree.{Operator, Formal, Block, block}
 use Rattle.rules.specs.paper.States.{Value, Bindable, value, closure, Environment, empty, bound, lookup, join, Cell, Store, store_at, remove, Entry, bindable, name, node, environment, locations, val, Item, command, mark, operator_mark, not_mark, assign_mark, ref_mark, bind_mark, dseq_extend_mark, dseq_join_mark, extend_mark, leave_mark, call_mark, state}
@@ -52,7 +52,7 @@ match_needs (suc k) (f ∷ fs) [] F m q = missing q
 match_needs (suc k) (f ∷ fs) (bindable (value v) ∷ X) F m q =
     let o = match_needs k fs X (bound f.name (value v) F) m q in
     record { names_then = o.names_then; values_then = o.values_then; counted = omega (arith, o.counted) }
-match_needs (suc k) (f ∷ fs) (bindable (closure own gs b E) ∷ X) F m q = missing q
+match_needs (suc k) (f ∷ fs) (bindable (closure gs b E) ∷ X) F m q = missing q
 match_needs (suc k) (f ∷ fs) (name x ∷ X) F m q = missing q
 match_needs (suc k) (f ∷ fs) (node c ∷ X) F m q = missing q
 match_needs (suc k) (f ∷ fs) (environment E ∷ X) F m q = missing q
@@ -123,9 +123,9 @@ module _ (C : List Item) (X : List Entry) (E : Environment) (S : Store) (L : Lis
       (ap (λ c. ahead C (knowing (sketches X) (environment_needs F) c (length K) m)) fewer) (λ f. refl) (λ f. refl)
       (shrinks (omega arith)) (shrinks (omega (arith, fewer))) (shrinks l)
 
-  -- ---- A call's mark, of a function that does not know its name.
+  -- ---- A call's mark.
 
-  pub call_mark_replaced : (p x k : ℕ) (fs : List Formal) (b : Block) (F : Environment) (m : Matched) → lookup x E ≡ some (closure none fs b F) → match_formals k fs X F ≡ some m →
+  pub call_mark_replaced : (p x k : ℕ) (fs : List Formal) (b : Block) (F : Environment) (m : Matched) → lookup x E ≡ some (closure fs b F) → match_formals k fs X F ≡ some m →
       Replaced (state (mark (call_mark p x k) ∷ C) X E S L n)
       (state (command (block b) ∷ mark (leave_mark p n) ∷ C) (environment E ∷ locations L ∷ m.rest) m.environment_with S [] (n + k))
   unfolding ahead sketches function_need command_need stretches_of bindable_need
@@ -133,7 +133,7 @@ module _ (C : List Item) (X : List Entry) (E : Environment) (S : Store) (L : Lis
       unfolds_into (sizes 1 k 0 0) (over (sizes 1 2 0 k) (block_need (environment_needs m.environment_with) b) ∷ step (sizes 1 2 0 k) ∷ [])
       (over (lies (suc height) inside) (block_need (environment_needs m.environment_with) b))
       (stretches_of height (mark (leave_mark p n) ∷ []) inside) (ahead C outside)
-      (ap (λ N. once (over (lies height outside) (function_need k N)) ∷ ahead C outside) (lookup_need x E (closure none fs b F) found ∙ ap (λ N. block_need N b) (sym o.names_then)))
+      (ap (λ N. once (over (lies height outside) (function_need k N)) ∷ ahead C outside) (lookup_need x E (closure fs b F) found ∙ ap (λ N. block_need N b) (sym o.names_then)))
       (ap (λ u. once (over (lies (suc height) inside) (block_need (environment_needs m.environment_with) b)) ∷ stretches_of height (mark (leave_mark p n) ∷ []) inside ++ ahead C u) left)
       (by_figure _ (omega (arith, o.counted, kept)))
       (covers (suc height) inside (block_need (environment_needs m.environment_with) b) (block_least (environment_needs m.environment_with) b))

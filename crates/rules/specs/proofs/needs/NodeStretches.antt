@@ -1,14 +1,12 @@
 -- The steps at nodes: each puts the stretches of what it puts on control in the place of its node's.
-use Rattle.std.specs.Prelude.{ℕ, suc, ◌+◌, ◌-◌, ◌≤◌, ◌≡◌}
-use Rattle.std.proofs.Math.Path.{refl, ap}
-use Rattle.std.proofs.Common.{sym, ◌∙◌}
+use Rattle.std.specs.Prelude.{ℕ, suc, ◌+◌, ◌-◌, ◌≤◌, ◌≡◌, length}
+use Rattle.std.proofs.Math.Path.{refl}
+use Rattle.std.proofs.Common.{ap, ◌∙◌}
 use mathlib.Core.List.{List, [], ◌∷◌, ◌++◌}
-use Rattle.std.proofs.Math.Option.{Option, none, some}
 use native.Mathlib.Omega.{arith}
-use Rattle.std.proofs.Math.ListN.{length}
-use Rattle.rules.specs.paper.Tree.{Operator, Expression, Num, Boo, Id, DeRef, ValRef, Binary, Not, Formal, Command, Assign, Loop, CSeq, block, Call, Cond, Block, Blk, Declaration, Bind, DSeq, Rbnd, Bound, plain, Ref, Abs}
+use Rattle.rules.specs.paper.Tree.{Operator, Expression, Num, Boo, Id, DeRef, ValRef, Binary, Not, Command, Assign, Loop, CSeq, block, Call, Cond, Block, Blk, Declaration, Bind, DSeq, Bound, plain, Ref, Abs}
 use Rattle.rules.specs.paper.States.{Environment, Store, Entry, name, node, locations, Item, expression, command, declaration, reference, abstraction, mark, operator_mark, not_mark, assign_mark, loop_mark, conditional_mark, ref_mark, bind_mark, dseq_extend_mark, dseq_join_mark, extend_mark, leave_mark, bound_item, state}
-use Rattle.rules.specs.paper.Needs.{Figure, control, sizes, Need, step, over, in_turn, either, node_step, push_step, expression_need, Needs, over_formals, cells_left, bindings_left, bound_need, tested_need, command_need, block_need, declaration_need, names_given, bound_function}
+use Rattle.rules.specs.paper.Needs.{Figure, control, sizes, Need, step, over, in_turn, either, push_step, expression_need, Needs, cells_left, bindings_left, bound_need, tested_need, command_need, block_need, declaration_need, names_given, bound_function}
 use Rattle.rules.specs.proofs.needs.Outlook.{environment_needs, Sketch, an_environment, sketches, Outlook, knowing, outlook, once, lies, after, ahead, ahead_of, stretches_of}
 use Rattle.rules.specs.proofs.needs.StretchLaws.{by_figure, spread_next, spread_end, Replaced, unfolds_into, unfolds_again, grows, shrinks, settles}
 
@@ -51,7 +49,6 @@ pub declaration_least : (N : Needs) (d : Declaration) → 1 ≤ (declaration_nee
 unfolding declaration_need in_turn
 declaration_least N (Bind p x b) = omega arith
 declaration_least N (DSeq p d₁ d₂) = omega arith
-declaration_least N (Rbnd p x q fs b) = omega arith
 
 -- What the walk knows is the same where its numbers are.
 pub same_outlook : (Y : List Sketch) (N : Needs) {c c' l l' b b' : ℕ} → c ≡ c' → l ≡ l' → b ≡ b' → knowing Y N c l b ≡ knowing Y N c' l' b'
@@ -161,22 +158,6 @@ module _ (C : List Item) (X : List Entry) (E : Environment) (S : Store) (L : Lis
       (spread_next (over (sizes 1 2 (cells_left d₁) (bindings_left d₁)) (declaration_need (names_given names d₁ ++ names) d₂)) _ (by_figure _ (omega arith)) refl
       (spread_end (step (sizes 1 3 (cells_left d₂ + cells_left d₁) (bindings_left d₂ + bindings_left d₁))) (by_figure _ (omega arith)) refl))))
 
-  -- A Bind or Rbnd of a function, whatever name the function knows itself by.
-  function_bound : (d : Declaration) (x q : ℕ) (own : Option ℕ) (fs : List Formal) (b : Block) →
-      declaration_need names d ≡ in_turn (node_step ∷ over (sizes 1 1 0 0) push_step ∷ step (sizes 1 2 0 1) ∷ []) →
-      names_given names d ≡ record { name = x; need = block_need (over_formals fs names) b } ∷ [] → cells_left d ≡ 0 → bindings_left d ≡ 1 →
-      Replaced (state (declaration d ∷ C) X E S L n) (state (abstraction q own fs b ∷ mark bind_mark ∷ C) (name x ∷ X) E S L n)
-  unfolding ahead sketches stretches_of
-  function_bound d x q own fs b needed given cells bindings =
-      unfolds_into (sizes 1 0 0 0) _ _ (stretches_of height (mark bind_mark ∷ []) (after (abstraction q own fs b) (outlook (state C (name x ∷ X) E S L n)))) (ahead C (after (declaration d) here))
-      (ap (λ m. once (over (lies height here) m) ∷ ahead C (after (declaration d) here)) needed)
-      (ap (λ o. stretches_of height (abstraction q own fs b ∷ mark bind_mark ∷ []) (outlook (state C (name x ∷ X) E S L n)) ++ ahead C o)
-      (same_outlook (an_environment (record { name = x; need = block_need (over_formals fs names) b } ∷ []) ∷ sketches X) names (omega (arith, cells)) (omega (arith, cells)) (omega (arith, bindings))
-      ∙ ap (λ N. knowing (an_environment N ∷ sketches X) names (cells_left d + length S) (cells_left d + length L) (bindings_left d + n)) (sym given)))
-      (own_node height here) (covers (suc height) (outlook (state C (name x ∷ X) E S L n)) push_step (omega arith))
-      (spread_next (over (sizes 1 1 0 0) push_step) _ (by_figure _ (omega arith)) refl
-      (spread_end (step (sizes 1 2 0 1)) (by_figure _ (omega arith)) refl))
-
   pub bind_replaced : (p x : ℕ) (b : Bound) → Replaced (state (declaration (Bind p x b) ∷ C) X E S L n) (state (bound_item b ∷ mark bind_mark ∷ C) (name x ∷ X) E S L n)
   unfolding ahead declaration_need names_given bound_function bound_need cells_left bindings_left sketches stretches_of
   bind_replaced p x (plain e) =
@@ -195,12 +176,14 @@ module _ (C : List Item) (X : List Entry) (E : Environment) (S : Store) (L : Lis
       (own_node height here) (covers (suc height) (outlook (state C (name x ∷ X) E S L n)) (bound_need (Ref q e)) (reference_least q e))
       (spread_next (over (sizes 1 1 0 0) (bound_need (Ref q e))) _ (by_figure _ (omega arith)) refl
       (spread_end (step (sizes 1 2 1 1)) (by_figure _ (omega arith)) refl))
-  bind_replaced p x (Abs q fs b) = function_bound (Bind p x (Abs q fs b)) x q none fs b refl refl refl refl
-
-  pub recursion_replaced : (p x q : ℕ) (fs : List Formal) (b : Block) →
-      Replaced (state (declaration (Rbnd p x q fs b) ∷ C) X E S L n) (state (abstraction q (some x) fs b ∷ mark bind_mark ∷ C) (name x ∷ X) E S L n)
-  unfolding declaration_need names_given cells_left bindings_left
-  recursion_replaced p x q fs b = function_bound (Rbnd p x q fs b) x q (some x) fs b refl refl refl refl
+  bind_replaced p x (Abs q fs b) =
+      unfolds_into (sizes 1 0 0 0) _ _ (stretches_of height (mark bind_mark ∷ []) (after (abstraction q fs b) (outlook (state C (name x ∷ X) E S L n)))) (ahead C (after (declaration (Bind p x (Abs q fs b))) here))
+      refl
+      (ap (λ o. stretches_of height (abstraction q fs b ∷ mark bind_mark ∷ []) (outlook (state C (name x ∷ X) E S L n)) ++ ahead C o)
+      (same_outlook (an_environment (names_given names (Bind p x (Abs q fs b))) ∷ sketches X) names (omega arith) (omega arith) (omega arith)))
+      (own_node height here) (covers (suc height) (outlook (state C (name x ∷ X) E S L n)) push_step (omega arith))
+      (spread_next (over (sizes 1 1 0 0) push_step) _ (by_figure _ (omega arith)) refl
+      (spread_end (step (sizes 1 2 0 1)) (by_figure _ (omega arith)) refl))
 
   pub reference_replaced : (p : ℕ) (e : Expression) → Replaced (state (reference p e ∷ C) X E S L n) (state (expression e ∷ mark ref_mark ∷ C) X E S L n)
   unfolding ahead bound_need sketches stretches_of

@@ -13,7 +13,7 @@ use Rattle.rules.specs.paper.Tree as Tree
 unfoldable mutual
   pub bindable_need : Bindable → Need
   bindable_need (value v) = nothing
-  bindable_need (closure own fs b F) = block_need (over_formals fs (environment_needs F)) b
+  bindable_need (closure fs b F) = block_need (over_formals fs (environment_needs F)) b
 
   pub environment_needs : Environment → Needs
   environment_needs empty = []
@@ -154,7 +154,7 @@ after (declaration d) o =
       bindings_ahead = bindings_left d + o.bindings_ahead;
     }
 after (reference p e) o = with_cell o.values_ahead o
-after (abstraction p own fs b) o = with_values (a_bindable (block_need (over_formals fs o.names_ahead) b) ∷ o.values_ahead) o
+after (abstraction p fs b) o = with_values (a_bindable (block_need (over_formals fs o.names_ahead) b) ∷ o.values_ahead) o
 after (mark m) o = after_mark m o
 
 -- ---- The stretches of the run ahead.
@@ -234,7 +234,7 @@ stretches h (expression e) o = once (over (lies h o) (expression_need e)) ∷ []
 stretches h (command c) o = once (over (lies h o) (command_need o.names_ahead c)) ∷ []
 stretches h (declaration d) o = once (over (lies h o) (declaration_need o.names_ahead d)) ∷ []
 stretches h (reference p e) o = once (over (lies h o) (bound_need (Tree.Ref p e))) ∷ []
-stretches h (abstraction p own fs b) o = once (over (lies h o) push_step) ∷ []
+stretches h (abstraction p fs b) o = once (over (lies h o) push_step) ∷ []
 stretches h (mark m) o = mark_stretches h m o
 
 -- The walk.

@@ -1,8 +1,8 @@
 -- The four room figures of a passed image are small: at most four for each node, and the registers. No function calls itself, so a call's
 -- need is that of nodes before it.
-use Rattle.std.specs.Prelude.{ℕ, zero, suc, ◌+◌, ◌*◌, ◌-◌, ◌≤◌, ◌≡◌, refl, Bool, true, false, cond, List, [], ◌∷◌, ◌++◌, eqb, length}
+use Rattle.std.specs.Prelude.{ℕ, zero, suc, ◌+◌, ◌*◌, ◌-◌, ◌≤◌, Bool, true, false, cond, List, [], ◌∷◌, ◌++◌, eqb, length}
 use Rattle.std.proofs.Common.{sym, subst, arith}
-use Rattle.rules.specs.paper.Tree.{Expression, Formal, Command, Block, Declaration, Bind, Rbnd, Bound, Abs, Root}
+use Rattle.rules.specs.paper.Tree.{Expression, Formal, Command, Block, Declaration, Bind, Bound, Root}
 use Rattle.rules.specs.proofs.Basics.{append_assoc}
 use Rattle.rules.specs.paper.Needs.{Figure, control, values, cells, bindings, Need, nothing, in_turn, expression_need, actuals_need, Needs, need_of, over_formals, register_needs, cells_of_bound, cells_left, bindings_left, bound_need, function_need, tested_need, command_need, block_need, declaration_need, names_given, bound_function, root_need, routine_need}
 use Rattle.rules.specs.claims.Shape.{ShapedExpression, ShapedFormal, Many, none_left, one_more, ShapedCommand, ShapedBlock, ShapedDeclaration, ShapedBound, ShapedRoot}
@@ -73,7 +73,6 @@ mutual
   declaration_later : {d i j : ℕ} {c : Declaration} → ShapedDeclaration d i j c → suc i ≤ j
   declaration_later (Shape.bind l a) = omega (arith, bound_later a)
   declaration_later (Shape.dseq a b) = omega (arith, declaration_later a, declaration_later b)
-  declaration_later (Shape.rbnd low l m b) = omega (arith, formals_later m, block_later b)
 
   bound_later : {d i j : ℕ} {b : Bound} → ShapedBound d i j b → suc i ≤ j
   bound_later (Shape.plain_of a) = expression_later a
@@ -98,7 +97,6 @@ left_few : {d i j : ℕ} {c : Declaration} → ShapedDeclaration d i j c → (ce
 unfolding cells_left bindings_left
 left_few (Shape.bind l a) = (omega (arith, cells_few a, bound_later a), omega (arith, bound_later a))
 left_few (Shape.dseq a b) = let f = left_few a in let g = left_few b in (omega (arith, f.0, g.0), omega (arith, f.1, g.1))
-left_few (Shape.rbnd low l m b) = (omega (arith, formals_later m, block_later b), omega (arith, formals_later m, block_later b))
 
 declaration_bound : (N : Needs) {d i j : ℕ} {c : Declaration} → ShapedDeclaration d i j c → (f : Figure) → (declaration_need N c).most f + 4 * i ≤ 4 * j
 unfolding declaration_need in_turn
@@ -120,7 +118,6 @@ declaration_bound N (Shape.dseq {d₁ = d₁} a b) =
       omega (arith, first cells, second cells, declaration_later a, declaration_later b, few.0, few_later.0),
       omega (arith, first bindings, second bindings, declaration_later a, declaration_later b, few.1, few_later.1),
     )
-declaration_bound N (Shape.rbnd low l m b) = by_figure _ (omega (arith, formals_later m, block_later b))
 
 -- ---- Commands: with a bound on the needs of the names in scope.
 
@@ -154,22 +151,6 @@ record Given (m i j : ℕ) (N : Needs) (c : Declaration) : Type 0 where
   cells_then : cells_left c + bound_then + 4 * i ≤ m + 4 * j
   bindings_then : bindings_left c + bound_then + 4 * i ≤ m + 4 * j
   greater : m ≤ bound_then
-
--- A Bind or Rbnd of a function.
-function_given : (m : ℕ) (N : Needs) → Below m N → {k j : ℕ} (e : Declaration) (x i : ℕ) (fs : List Formal) (b : Block) → suc i ≤ k → k ≤ j →
-    ((f : Figure) → (block_need (over_formals fs N) b).most f + 4 * k ≤ m + 4 * j) →
-    names_given N e ≡ record { name = x; need = block_need (over_formals fs N) b } ∷ [] → cells_left e ≡ 0 → bindings_left e ≡ 1 → Given m i j N e
-function_given m N h {k} {j} e x i fs b low later inside given cells_are bindings_are =
-    record {
-      bound_then = m + 4 * (j - k);
-      below_then =
-          subst (λ M. Below (m + 4 * (j - k)) (M ++ N)) (sym given)
-          (below_name x (block_need (over_formals fs N) b) (by_figure _ (omega (arith, inside control, later), omega (arith, inside values, later), omega (arith, inside cells, later), omega (arith, inside bindings, later)))
-          (below_more (omega arith) h));
-      cells_then = omega (arith, later, low, cells_are);
-      bindings_then = omega (arith, later, low, bindings_are);
-      greater = omega arith;
-    }
 
 mutual
   unfolding command_need block_need function_need tested_need names_given bound_function cells_left bindings_left in_turn
@@ -247,9 +228,6 @@ mutual
         bindings_then = omega (arith, first.bindings_then, second.bindings_then);
         greater = omega (arith, first.greater, second.greater);
       }
-  names_bound m N h (Shape.rbnd {i = i} {x = x} {fs = fs} {b = b} low l f c) =
-      function_given m N h (Rbnd i x (suc i) fs b) x i fs b (omega (arith, formals_later f)) (omega (arith, block_later c))
-      (block_bound m (over_formals fs N) (below_formals m fs N h) c) refl refl refl
 
   bind_given : (m : ℕ) (N : Needs) → Below m N → {d h j p : ℕ} (x i : ℕ) {b : Bound} → ShapedBound d h j b → suc i ≤ h → Given m i j N (Bind p x b)
   bind_given m N h x i (Shape.plain_of a) low =
@@ -268,9 +246,17 @@ mutual
         bindings_then = omega (arith, expression_later a, low);
         greater = omega arith;
       }
-  bind_given m N h {j = j} {p = p} x i (Shape.abs {i = q} {j = k} {fs = fs} {b = b} l f c) low =
-      function_given m N h (Bind p x (Abs q fs b)) x i fs b (omega (arith, formals_later f, low)) (omega (arith, block_later c))
-      (block_bound m (over_formals fs N) (below_formals m fs N h) c) refl refl refl
+  bind_given m N h {j = j} x i (Shape.abs {j = k} {fs = fs} {b = b} l f c) low =
+      let inside = block_bound m (over_formals fs N) (below_formals m fs N h) c in
+      record {
+        bound_then = m + 4 * (j - k);
+        below_then =
+            below_name x (block_need (over_formals fs N) b) (by_figure _ (omega (arith, inside control), omega (arith, inside values), omega (arith, inside cells), omega (arith, inside bindings)))
+            (below_more (omega arith) h);
+        cells_then = omega (arith, formals_later f, block_later c, low);
+        bindings_then = omega (arith, formals_later f, block_later c, low);
+        greater = omega arith;
+      }
 
 registers_below : (r : ℕ) → Below 0 (register_needs r)
 unfolding register_needs need_of

@@ -32,18 +32,18 @@ run_is_free budget r steps first σ h at_start = FreeRun.at_start
 run_is_free budget r steps first σ h (step_made {n = n} {σ = ρ} {h = g} x τ reached line made) = one_more (run_is_free budget r n first ρ g reached) (by_rule {σ = ρ} x line)
 
 pub run_exceeds_nothing : RunExceedsNothing
-run_exceeds_nothing image r t a passes no_recursion zs count ranged budget steps σ h reached =
-    nothing_exceeds image r t a passes no_recursion zs count ranged steps σ (run_is_free budget r steps (start r t zs) σ h reached)
+run_exceeds_nothing image r t a passes zs count ranged budget steps σ h reached =
+    nothing_exceeds image r t a passes zs count ranged steps σ (run_is_free budget r steps (start r t zs) σ h reached)
 
 pub room_suffices : RoomSuffices
-room_suffices image r t a passes no_recursion zs count ranged fits budget steps σ h reached x e applies f holds = by_reason f holds
+room_suffices image r t a passes zs count ranged fits budget steps σ h reached x e applies f holds = by_reason f holds
   where
     next_fits : (τ : State) → e ≡ goes τ → (f : Figure) → size τ f ≤ limits f
     next_fits τ q f =
         let free = run_is_free budget r steps (start r t zs) σ h reached in
         omega (
           arith,
-          (nothing_exceeds image r t a passes no_recursion zs count ranged (suc steps) τ (one_more free (by_rule {σ = σ} x (subst (Applies x σ) q applies)))).0 f,
+          (nothing_exceeds image r t a passes zs count ranged (suc steps) τ (one_more free (by_rule {σ = σ} x (subst (Applies x σ) q applies)))).0 f,
           fits f,
         )
 
@@ -54,10 +54,10 @@ room_suffices image r t a passes no_recursion zs count ranged fits budget steps 
     by_reason bindings (bindings_full τ q l) = omega (arith, next_fits τ q bindings, l)
 
 pub budget_suffices : BudgetSuffices
-budget_suffices image r t a passes no_recursion zs count ranged no_loops budget steps enough σ h reached x e applies (budget_used q) =
+budget_suffices image r t a passes zs count ranged no_loops budget steps enough σ h reached x e applies (budget_used q) =
     let free = run_is_free budget r steps (start r t zs) σ h reached in
-    let step = goes_on σ (reach_free (start_free image r t a passes no_recursion zs ranged) free) (rule_left x σ e applies) in
-    omega (arith, (nothing_exceeds image r t a passes no_recursion zs count ranged (suc steps) step.after (one_more free step.free)).1 no_loops, enough, q)
+    let step = goes_on σ (reach_free (start_free image r t a passes zs ranged) free) (rule_left x σ e applies) in
+    omega (arith, (nothing_exceeds image r t a passes zs count ranged (suc steps) step.after (one_more free step.free)).1 no_loops, enough, q)
 
 -- ---- 4. Without Loop and Cond.
 
@@ -95,7 +95,7 @@ along {a} {r} {budget} {first} {n} inv v w begin (step_made {n = k} {σ = ρ} {h
 
 pub reaches_exactly : ReachesExactly
 unfolding has_loop has_conditional
-reaches_exactly image r t a passes no_recursion zs count ranged no_loops no_conditionals budget k τ q =
+reaches_exactly image r t a passes zs count ranged no_loops no_conditionals budget k τ q =
     at_the_end (subst (EndsWell budget (start r t zs) r a) q (run_ends image r t a passes zs count ranged budget))
   where
     first_of : Along budget (start r t zs) r (routine_need r t) 0 (start r t zs)
@@ -111,5 +111,5 @@ reaches_exactly image r t a passes no_recursion zs count ranged no_loops no_cond
     at_the_end : EndsWell budget (start r t zs) r a (ended k τ) → (k ≡ (routine_need r t).steps) × ((f : Figure) → SizeMet budget (start r t zs) r f ((routine_need r t).most f))
     at_the_end (normally h reached empty final) =
         let all =
-        along (start_free image r t a passes no_recursion zs ranged) (start_without is_loop r t zs no_loops) (start_without is_conditional r t zs no_conditionals) first_of reached in
+        along (start_free image r t a passes zs ranged) (start_without is_loop r t zs no_loops) (start_without is_conditional r t zs no_conditionals) first_of reached in
         (omega (arith, all.counted, none_ahead_of τ empty), λ f. ⊎_elim (λ m. m) (λ h. absurd (control_left τ h.1 empty)) (all.met f))

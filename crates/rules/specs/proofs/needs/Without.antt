@@ -1,18 +1,16 @@
--- A tree without some kinds of commands, or without Rbnd, is run without them: no state of its free runs has one, on control, on the value stack
--- or in a closure.
+-- A tree without some commands is run without them: no state of its free runs has one, on control, on the value stack or in a closure.
 use Prim.Native.Nat.{ℕ, zero, suc}
 use Rattle.std.specs.Prelude.{◌≡◌, refl, Bool, ◌||◌, eqb, ℤ, length}
 use Rattle.std.proofs.Math.Path.{subst}
 use Rattle.std.proofs.Math.Bool.{true, false, cond}
 use mathlib.Core.List.{List, [], ◌∷◌}
-use Rattle.std.proofs.Math.Option.{Option, none, some, some-injective}
+use Rattle.std.proofs.Math.Option.{Option, some, some-injective}
 use Rattle.rules.specs.proofs.Basics.{missing}
-use Rattle.rules.specs.paper.Tree.{Expression, Formal, Command, Loop, block, Cond, Block, Bound, plain, Ref, Abs, Root}
+use Rattle.rules.specs.paper.Tree.{Expression, Formal, Command, Loop, CSeq, block, Cond, Blk, Bound, plain, Ref, Abs, Root}
 use Rattle.rules.specs.paper.Tree as Tree
-use Rattle.rules.specs.paper.Kinds.{Kind, command_kind, declaration_kind, loop, cseq, blk, conditional, rbnd}
 use Rattle.rules.specs.paper.Integers.{Result, number, failed, compute}
 use Rattle.rules.specs.paper.States.{Value, integer, Bindable, value, closure, Environment, empty, bound, lookup, join, Store, Entry, bindable, name, node, environment, locations, val, Mark, bind_mark, dseq_extend_mark, dseq_join_mark, extend_mark, leave_mark, call_mark, Item, expression, command, declaration, reference, abstraction, mark, bound_item, State, state, control_of, values_of, environment_of}
-use Rattle.rules.specs.paper.Rules.{Rule, Effect, goes, fails, Table, Applies, pushed, put_actuals, Matched, match_formals, with_own_name}
+use Rattle.rules.specs.paper.Rules.{Rule, Effect, goes, fails, Table, Applies, pushed, put_actuals, Matched, match_formals}
 use Rattle.rules.specs.paper.Rules as Rules
 use Rattle.rules.specs.paper.Fire.{after_test, chosen}
 use Rattle.rules.specs.paper.Needs.{some_command, some_in_block, some_in_declaration, some_in_bound, some_in_root}
@@ -31,24 +29,19 @@ neither_right true b q = absurd (subst IsTrue q tt)
     IsTrue false = ⊥
 neither_right false b q = q
 
--- The same of a function: the Rbnd that gives it its name counts.
-abbrev pub some_in_function : (Kind → Bool) → (own : Option ℕ) → Block → Bool
-some_in_function t none b = some_in_block t b
-some_in_function t (some x) b = t (declaration_kind rbnd) || some_in_block t b
-
-module _ (t : Kind → Bool) where
+module _ (t : Command → Bool) where
   abbrev pub WithoutItem : Item → Type 0
   WithoutItem (expression e) = Unit {0}
   WithoutItem (command c) = some_command t c ≡ false
   WithoutItem (declaration d) = some_in_declaration t d ≡ false
   WithoutItem (reference p e) = Unit {0}
-  WithoutItem (abstraction p own fs b) = some_in_function t own b ≡ false
+  WithoutItem (abstraction p fs b) = some_in_block t b ≡ false
   WithoutItem (mark m) = Unit {0}
 
   abbrev mutual
     pub WithoutBindable : Bindable → Type 0
     WithoutBindable (value v) = Unit {0}
-    WithoutBindable (closure own fs b F) = (some_in_function t own b ≡ false) × WithoutEnvironment F
+    WithoutBindable (closure fs b F) = (some_in_block t b ≡ false) × WithoutEnvironment F
 
     pub WithoutEnvironment : Environment → Type 0
     WithoutEnvironment empty = Unit {0}
@@ -80,7 +73,7 @@ module _ (t : Kind → Bool) where
 
   -- ---- Environments.
 
-  pub lookup_without : (x : ℕ) (E : Environment) (b : Bindable) → lookup x E ≡ some b → WithoutEnvironment E → WithoutBindable b
+  lookup_without : (x : ℕ) (E : Environment) (b : Bindable) → lookup x E ≡ some b → WithoutEnvironment E → WithoutBindable b
   unfolding lookup
   lookup_without x empty b q w = missing q
   lookup_without x (bound y c E) b q w = choose (eqb y x) q (λ p. lookup_without x E b p w.1)
@@ -93,14 +86,6 @@ module _ (t : Kind → Bool) where
   unfolding join
   join_without empty E d e = e
   join_without (bound x b D) E d e = (d.0, join_without D E d.1 e)
-
-  own_name_without : (own : Option ℕ) (fs : List Formal) (b : Block) (F : Environment) → WithoutBindable (closure own fs b F) → WithoutEnvironment (with_own_name own fs b F)
-  own_name_without none fs b F w = w.1
-  own_name_without (some x) fs b F w = (w, w.1)
-
-  body_without : (own : Option ℕ) (b : Block) → some_in_function t own b ≡ false → some_in_block t b ≡ false
-  body_without none b q = q
-  body_without (some x) b q = neither_right (t (declaration_kind rbnd)) (some_in_block t b) q
 
   record MatchWithout (m : Matched) : Type 0 where
     names_without : WithoutEnvironment m.environment_with
@@ -115,7 +100,7 @@ module _ (t : Kind → Bool) where
   match_without (suc k) [] X F m q w e = missing q
   match_without (suc k) (f ∷ fs) [] F m q w e = missing q
   match_without (suc k) (f ∷ fs) (bindable (value v) ∷ X) F m q (one_entry u w) e = match_without k fs X (bound f.name (value v) F) m q w (tt, e)
-  match_without (suc k) (f ∷ fs) (bindable (closure own gs b E) ∷ X) F m q w e = missing q
+  match_without (suc k) (f ∷ fs) (bindable (closure gs b E) ∷ X) F m q w e = missing q
   match_without (suc k) (f ∷ fs) (name x ∷ X) F m q w e = missing q
   match_without (suc k) (f ∷ fs) (node c ∷ X) F m q w e = missing q
   match_without (suc k) (f ∷ fs) (environment E ∷ X) F m q w e = missing q
@@ -137,14 +122,14 @@ module _ (t : Kind → Bool) where
   turn_without : (u : Bool) (p : ℕ) (e : Expression) (c : Command) {C : List Item} → some_command t (Loop p e c) ≡ false → WithoutControl C →
       WithoutControl (after_test u (record { place = p; test = e; body = c }) C)
   unfolding some_command
-  turn_without true p e c q w = one_item {i = command c} (neither_right (t (command_kind loop)) (some_command t c) q) (one_item {i = command (Loop p e c)} q w)
+  turn_without true p e c q w = one_item {i = command c} (neither_right (t (Loop p e c)) (some_command t c) q) (one_item {i = command (Loop p e c)} q w)
   turn_without false p e c q w = w
 
   choice_without : (u : Bool) (p : ℕ) (e : Expression) (c₁ c₂ : Command) → some_command t (Cond p e c₁ c₂) ≡ false → some_command t (chosen u c₁ c₂) ≡ false
   unfolding some_command
   choice_without true p e c₁ c₂ q =
-      neither_right (t (command_kind conditional)) (some_command t c₁) (neither_left (t (command_kind conditional) || some_command t c₁) (some_command t c₂) q)
-  choice_without false p e c₁ c₂ q = neither_right (t (command_kind conditional) || some_command t c₁) (some_command t c₂) q
+      neither_right (t (Cond p e c₁ c₂)) (some_command t c₁) (neither_left (t (Cond p e c₁ c₂) || some_command t c₁) (some_command t c₂) q)
+  choice_without false p e c₁ c₂ q = neither_right (t (Cond p e c₁ c₂) || some_command t c₁) (some_command t c₂) q
 
   -- ---- A step.
 
@@ -189,17 +174,15 @@ module _ (t : Kind → Bool) where
         same_names (one_item {i = command c₂} (choice_without false p x c₁ c₂ v) c) w
     line_without r i X e (Rules.cseq {p = p} {c₁ = c₁} {c₂ = c₂}) h w =
         same_names
-        (one_item {i = command c₁} (neither_right (t (command_kind cseq)) (some_command t c₁) (neither_left (t (command_kind cseq) || some_command t c₁) (some_command t c₂) h))
-        (one_item {i = command c₂} (neither_right (t (command_kind cseq) || some_command t c₁) (some_command t c₂) h) c))
+        (one_item {i = command c₁} (neither_right (t (CSeq p c₁ c₂)) (some_command t c₁) (neither_left (t (CSeq p c₁ c₂) || some_command t c₁) (some_command t c₂) h))
+        (one_item {i = command c₂} (neither_right (t (CSeq p c₁ c₂) || some_command t c₁) (some_command t c₂) h) c))
         w
     line_without r i X e Rules.ref h w = same_names test_first w
     line_without r i X e Rules.ref_at h (one_entry u w) = same_names c (pushed_value w)
     line_without r i X e (Rules.bind {x = x} {b = b}) h w =
         same_names (one_item {i = bound_item b} (bound_without b h) (one_item {i = mark bind_mark} tt c)) (one_entry {e = name x} tt w)
     line_without r i X e (Rules.bind_at {x = x} {b = b}) h (one_entry u (one_entry v w)) = same_names c (one_entry {e = environment (bound x b empty)} (u, tt) w)
-    line_without r i X e (Rules.rbnd {x = x} {q = q} {fs = fs} {b = b}) h w =
-        same_names (one_item {i = abstraction q (some x) fs b} h (one_item {i = mark bind_mark} tt c)) (one_entry {e = name x} tt w)
-    line_without r i X e (Rules.abs {own = own} {fs = fs} {b = b}) h w = same_names c (one_entry {e = bindable (closure own fs b E)} (h, names) w)
+    line_without r i X e (Rules.abs {fs = fs} {b = b}) h w = same_names c (one_entry {e = bindable (closure fs b E)} (h, names) w)
     line_without r i X e (Rules.dseq {d₁ = d₁} {d₂ = d₂}) h w =
         same_names
         (one_item {i = declaration d₁} (neither_left (some_in_declaration t d₁) (some_in_declaration t d₂) h)
@@ -212,20 +195,20 @@ module _ (t : Kind → Bool) where
         record { on_control = c; on_values = one_entry {e = environment (join D₂ D₁)} (join_without D₂ D₁ u v) w; in_names = f }
     line_without r i X e (Rules.blk {p = p} {d = d} {c = x}) h w =
         same_names
-        (one_item {i = declaration d} (neither_right (t (command_kind blk)) (some_in_declaration t d) (neither_left (t (command_kind blk) || some_in_declaration t d) (some_command t x) h))
+        (one_item {i = declaration d} (neither_right (t (block (Blk p d x))) (some_in_declaration t d) (neither_left (t (block (Blk p d x)) || some_in_declaration t d) (some_command t x) h))
         (one_item {i = mark extend_mark} tt
-        (one_item {i = command x} (neither_right (t (command_kind blk) || some_in_declaration t d) (some_command t x) h) (one_item {i = mark (leave_mark p n)} tt c))))
+        (one_item {i = command x} (neither_right (t (block (Blk p d x)) || some_in_declaration t d) (some_command t x) h) (one_item {i = mark (leave_mark p n)} tt c))))
         (one_entry {e = locations L} tt w)
     line_without r i X e (Rules.extend_at {D = D}) h (one_entry u w) =
         record { on_control = c; on_values = one_entry {e = environment E} names w; in_names = join_without D E u names }
     line_without r i X e Rules.leave_at h (one_entry u (one_entry v w)) = record { on_control = c; on_values = w; in_names = u }
     line_without r i X e (Rules.call {p = p} {x = x} {es = es}) h w =
         same_names (actuals_without es (one_item {i = mark (call_mark p x (length es))} tt c)) w
-    line_without r i X e (Rules.call_at {p = p} {x = x} {k = k} {own = own} {fs = fs} {b = b} {F = F} {m = m} {X = Y} q s) h w =
-        let closed = lookup_without x E (closure own fs b F) q names in
-        let o = match_without k fs Y (with_own_name own fs b F) m s w (own_name_without own fs b F closed) in
+    line_without r i X e (Rules.call_at {p = p} {x = x} {k = k} {fs = fs} {b = b} {F = F} {m = m} {X = Y} q s) h w =
+        let closed = lookup_without x E (closure fs b F) q names in
+        let o = match_without k fs Y F m s w closed.1 in
         record {
-          on_control = one_item {i = command (block b)} (body_without own b closed.0) (one_item {i = mark (leave_mark p n)} tt c);
+          on_control = one_item {i = command (block b)} closed.0 (one_item {i = mark (leave_mark p n)} tt c);
           on_values = one_entry {e = environment E} names (one_entry {e = locations L} tt o.rest_without);
           in_names = o.names_without;
         }

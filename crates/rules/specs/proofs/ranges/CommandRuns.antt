@@ -4,7 +4,7 @@ use Rattle.std.specs.Prelude.{ℕ, suc, ◌+◌, ◌-◌, ◌≤◌, ◌≡◌, 
 use Rattle.std.proofs.Math.Path.{refl}
 use Rattle.std.proofs.Common.{sym, ◌∙◌, subst, arith, length-drop}
 use Rattle.std.proofs.Math.Option.{Option, none, some}
-use Rattle.rules.specs.paper.Tree.{Expression, Formal, Command, Assign, Loop, CSeq, block, Call, Cond, Block, Blk, Declaration, Bind, DSeq, Rbnd, Bound, plain, Ref, Abs}
+use Rattle.rules.specs.paper.Tree.{Expression, Formal, Command, Assign, Loop, CSeq, block, Call, Cond, Block, Blk, Declaration, Bind, DSeq, Bound, plain, Ref, Abs}
 use Rattle.rules.specs.paper.States.{Value, truth, location, Bindable, value, closure, Environment, empty, bound, lookup, join, Store, store_at, remove, Entry, bindable, name, node, environment, locations, val, assign_mark, conditional_mark, ref_mark, bind_mark, dseq_extend_mark, dseq_join_mark, extend_mark, leave_mark, call_mark, Item, expression, command, declaration, mark, bound_item, state}
 use Rattle.rules.specs.paper.Rules.{rule-Assign, rule-CSeq, rule-Blk, rule-Call, rule-Cond, rule-Bind, rule-DSeq, rule-Ref, rule-Abs, mark-Assign, mark-Cond, mark_Ref, mark-Bind, mark-DSeq-extend, mark-DSeq-join, mark-extend, mark-leave, mark-Call, match_formals}
 use Rattle.rules.specs.paper.Rules as Rules
@@ -325,7 +325,6 @@ mutual
 
   pub declaration_runs : (d : Declaration) (E : Environment) (S : Store) (N : CarriedNames) (K : CarriedCells) → NamesWithin E N → StoreWithin S K →
       If (DeclaresAnywhere d E S K) (carry_declaration N K d)
-  declaration_runs (Rbnd p x q fs b) E S N K names cells = tt
   declaration_runs (Bind p x b) E S N K names cells =
       after (BindsAnywhere b E S K) (DeclaresAnywhere (Bind p x b) E S K) (carry_bound N K b) _ (bound_runs b E S N K names cells)
       (λ B run. bind_done E S N K names cells p x b B run)
@@ -346,7 +345,7 @@ mutual
   bound_runs (Abs p fs b) E S N K names cells =
       λ C X L n.
       record {
-        given = closure none fs b E;
+        given = closure fs b E;
         left = S;
         made = L;
         leads = one_step rule-Abs Rules.abs there;

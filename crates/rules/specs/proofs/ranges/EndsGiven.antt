@@ -13,16 +13,15 @@ use Rattle.rules.specs.paper.Refusals.{Reason, Cells, Bindings, ValueEntries, Co
 use Rattle.rules.specs.paper.Refusals as Refusals
 use Rattle.rules.specs.paper.Limits.{most_steps, most_cells, most_bindings, most_value_entries, most_control_entries, work_words}
 use Rattle.rules.specs.paper.Checker.{Passed}
-use Rattle.rules.specs.paper.Needs.{Figure, control, values, cells, bindings, Sizes, routine_need, has_loop, has_recursion}
+use Rattle.rules.specs.paper.Needs.{Figure, control, values, cells, bindings, Sizes, routine_need, has_loop}
 use Rattle.rules.specs.paper.Engine.{Checked, turned_back, passed, check_image, cleared}
 use Rattle.rules.specs.paper.Carried.{Carrying, carried, unsafe, unfit}
 use Rattle.rules.specs.paper.Carrying.{CarriedCells, carry_routine}
-use Rattle.rules.specs.paper.Ranges.{RangesAnswer, ends_given, no_ends, RangesCalled, no_ranges, lowest_of, highest_of, ends_from, carried_ranges, limits_cross, room_refusal, with_room, ranges_of, tree_ranges, ranges_checked, ranges}
+use Rattle.rules.specs.paper.Ranges.{RangesAnswer, ends_given, no_ends, RangesCalled, no_ranges, lowest_of, highest_of, ends_from, carried_ranges, limits_cross, room_refusal, with_room, ranges_of, ranges_checked, ranges}
 use Rattle.rules.specs.claims.FreeRun.{limits}
 use Rattle.rules.specs.proofs.ranges.Fitting.{carrying_fits}
 
 pub record EndsOf (r : ℕ) (t : Root) (ls hs : List ℤ) (c : RangesCalled) : Type 0 where
-  pub no_recursion : has_recursion t ≡ false
   pub as_many_lowest : length ls ≡ r
   pub as_many_highest : length hs ≡ r
   pub room : (f : Figure) → (routine_need r t).most f ≤ limits f
@@ -87,9 +86,9 @@ module _ (r : ℕ) (t : Root) (ls hs : List ℤ) (ws : List ℕ) where
   left_by (unsafe p) q fit h = absurd h
   left_by unfit q fit h = absurd (fit refl)
 
-  of_passed : (image : List ℕ) (a : Passed) → check_image image ≡ passed r t a → has_recursion t ≡ false → GivesEnds (ranges_of r t ls hs ws).answer → EndsOf r t ls hs (ranges_of r t ls hs ws)
+  of_passed : (image : List ℕ) (a : Passed) → check_image image ≡ passed r t a → GivesEnds (ranges_of r t ls hs ws).answer → EndsOf r t ls hs (ranges_of r t ls hs ws)
   unfolding ranges_of
-  of_passed image a passes plain h =
+  of_passed image a passes h =
       let counts = met (eqb (length ls) r && eqb (length hs) r) _ (no_ranges Refusals.Registers 0 ls hs ws) (λ x. x) h in
       let h₁ = along counts.1 h in
       let ordered = past (limits_cross ls hs) (no_ranges Refusals.CrossedLimits 0 ls hs ws) _ (λ x. x) h₁ in
@@ -105,13 +104,12 @@ module _ (r : ℕ) (t : Root) (ls hs : List ℤ) (ws : List ℕ) where
       let high : length hs ≡ r = eqb-true (length hs) r (true_test _ (and_right (eqb (length ls) r) (eqb (length hs) r) many)) in
       let same : ranges_of r t ls hs ws ≡ carried_ranges r (carry_routine r t ls hs) ls hs ws = counts.1 ∙ ordered.1 ∙ straight.1 ∙ counted.1 ∙ room.1 in
       with_left low high (room_kept (routine_need r t).most room.0)
-      (subst Left (sym same) (left_by (carry_routine r t ls hs) refl (carrying_fits image r t a passes straight.0 plain ls hs low high ordered.0) h₅))
+      (subst Left (sym same) (left_by (carry_routine r t ls hs) refl (carrying_fits image r t a passes straight.0 ls hs low high ordered.0) h₅))
     where
       with_left : length ls ≡ r → length hs ≡ r → ((f : Figure) → (routine_need r t).most f ≤ limits f) → Left (ranges_of r t ls hs ws) →
           EndsOf r t ls hs (ranges_of r t ls hs ws)
       with_left low high fits last =
           record {
-            no_recursion = plain;
             as_many_lowest = low;
             as_many_highest = high;
             room = fits;
@@ -124,14 +122,12 @@ module _ (r : ℕ) (t : Root) (ls hs : List ℤ) (ws : List ℕ) where
 pub ends_of : (image : List ℕ) (ls hs : List ℤ) (ws : List ℕ) → (ranges image ls hs ws).answer ≡ ends_given → (r : ℕ) (t : Root) (a : Passed) →
     check_image image ≡ passed r t a →
     EndsOf r t ls hs (ranges image ls hs ws)
-unfolding ranges tree_ranges
+unfolding ranges
 ends_of image ls hs ws q r t a passes =
     let h = subst GivesEnds (sym q) tt in
     let lent = past (ltb (length ws) work_words) (no_ranges Refusals.Work 0 ls hs ws) (ranges_checked (check_image image) ls hs (cleared ws)) (λ x. x) h in
-    let tree : ranges image ls hs ws ≡ tree_ranges r t ls hs (cleared ws) = lent.1 ∙ ap (λ c. ranges_checked c ls hs (cleared ws)) passes in
-    let plain = past (has_recursion t) (no_ranges Refusals.HasRecursion 0 ls hs (cleared ws)) (ranges_of r t ls hs (cleared ws)) (λ x. x) (along tree h) in
-    let same : ranges image ls hs ws ≡ ranges_of r t ls hs (cleared ws) = tree ∙ plain.1 in
-    subst (EndsOf r t ls hs) (sym same) (of_passed r t ls hs (cleared ws) image a passes plain.0 (along same h))
+    let same : ranges image ls hs ws ≡ ranges_of r t ls hs (cleared ws) = lent.1 ∙ ap (λ c. ranges_checked c ls hs (cleared ws)) passes in
+    subst (EndsOf r t ls hs) (sym same) (of_passed r t ls hs (cleared ws) image a passes (along same h))
 
 -- The image was passed.
 pub record ImagePassed (image : List ℕ) : Type 0 where

@@ -6,16 +6,15 @@ use Rattle.std.proofs.Math.Path.{subst}
 use Rattle.std.proofs.Math.Bool.{true, false}
 use Rattle.std.proofs.Math.Option.{Option, some}
 use Rattle.std.proofs.Math.Dec.{T}
-use Rattle.rules.specs.paper.Kinds.{Kind}
 use Rattle.std.specs.Int.Signed.{lt_z, ≤ℤ_refl}
 use Rattle.rules.specs.proofs.Basics.{or_left, or_right, failed_test, false_test}
 use Rattle.rules.specs.paper.Tree.{Formal, Command, Block, Declaration, Bound, Root}
 use Rattle.rules.specs.paper.Checker.{Meaning, code, function, Scope, meaning_of, with_formals, register_scope, Passed}
-use Rattle.rules.specs.paper.Needs.{is_loop, is_recursion, some_command, some_in_block, some_in_declaration, some_in_bound, some_in_root, has_loop, has_recursion}
+use Rattle.rules.specs.paper.Needs.{is_loop, some_command, some_in_block, some_in_declaration, some_in_bound, some_in_root, has_loop}
 use Rattle.rules.specs.paper.Carried.{Carried, truths, Carrying, carried, unsafe, unfit, ◌>>=◌, fitting}
 use Rattle.rules.specs.paper.Carrying.{CarriedCells, carried_at, carry_to, wider_cells, CarriedMeaning, CarriedNames, carried_meaning, carry_formals, value_of, location_in, carry_expression, carry_actuals, same_sort, set_cell, carry_assign, carry_choosing, carry_call, CarriedDeclared, CarriedBound, carry_command, carry_block, carry_declaration, carry_bound, carry_root, register_names, register_cells, carry_routine}
 use Rattle.rules.specs.paper.Ranges.{limits_cross}
-use Rattle.rules.specs.claims.Typing.{CommandOk, assign, loop, cseq, block_of, call, conditional, BlockOk, blk, Gives, bind, dseq, rbnd, Means, plain_of, ref, abs, RootOk, root_expression, root_command, root_absent}
+use Rattle.rules.specs.claims.Typing.{CommandOk, assign, loop, cseq, block_of, call, conditional, BlockOk, blk, Gives, bind, dseq, Means, plain_of, ref, abs, RootOk, root_expression, root_command, root_absent}
 use Rattle.rules.specs.claims.Ranges.{CarryingFits}
 use Rattle.rules.specs.proofs.checking.ImageExact.{check_exact}
 use Rattle.rules.specs.proofs.running.World.{World, code_at, code_newest}
@@ -87,30 +86,29 @@ function_fits {W} {N} {Γ} fs b names fits U grown vs ts J cells =
 
 -- ---- All nodes.
 
--- Neither Loop nor Rbnd.
-abbrev Carriable : ((Kind → Bool) → Bool) → Type 0
-Carriable SomeOf = (T (SomeOf is_loop) → ⊥) × (T (SomeOf is_recursion) → ⊥)
+abbrev NoLoop : Bool → Type 0
+NoLoop b = T b → ⊥
 
-first_without : (a b : (Kind → Bool) → Bool) → Carriable (λ k. a k || b k) → Carriable a
-first_without a b h = (λ t. h.0 (or_left (a is_loop) (b is_loop) t), λ t. h.1 (or_left (a is_recursion) (b is_recursion) t))
+first_without : (a b : Bool) → NoLoop (a || b) → NoLoop a
+first_without a b h t = h (or_left a b t)
 
-second_without : (a b : (Kind → Bool) → Bool) → Carriable (λ k. a k || b k) → Carriable b
-second_without a b h = (λ t. h.0 (or_right (a is_loop) (b is_loop) t), λ t. h.1 (or_right (a is_recursion) (b is_recursion) t))
+second_without : (a b : Bool) → NoLoop (a || b) → NoLoop b
+second_without a b h t = h (or_right a b t)
 
 mutual
   unfolding carry_command carry_block carry_declaration carry_bound some_command some_in_block some_in_declaration some_in_bound
 
-  command_fits : {Γ : Scope} {c : Command} → CommandOk Γ c → Carriable (λ k. some_command k c) → (W : World) (N : CarriedNames) (K : CarriedCells) → NamesTyped W N Γ →
+  command_fits : {Γ : Scope} {c : Command} → CommandOk Γ c → NoLoop (some_command is_loop c) → (W : World) (N : CarriedNames) (K : CarriedCells) → NamesTyped W N Γ →
       CellsTyped K W →
       Fits (Kept W K) (carry_command N K c)
   command_fits {Γ} (assign {x = x} {c = c} {e = e} h few q) free W N K names cells =
       fits_after (λ v. CarriedTyped W v c) (Kept W K) (carry_expression N K e) _ (expression_fits W N K Γ names cells h) (λ v t.
       assign_fits W K cells c v (location_in (value_of (carried_meaning x N))) few t (location_at W N K Γ names cells x c q))
-  command_fits (loop h k) free W N K names cells = absurd (free.0 tt)
+  command_fits (loop h k) free W N K names cells = absurd (free tt)
   command_fits (cseq {c₁ = c₁} {c₂ = c₂} h k) free W N K names cells =
       fits_after (Kept W K) (Kept W K) (carry_command N K c₁) _
-      (command_fits h (first_without (λ k. some_command k c₁) (λ k. some_command k c₂) free) W N K names cells) (λ M kept.
-      fits_kept (carry_command N M c₂) kept (command_fits k (second_without (λ k. some_command k c₁) (λ k. some_command k c₂) free) W N M names (kept_typed kept)))
+      (command_fits h (first_without (some_command is_loop c₁) (some_command is_loop c₂) free) W N K names cells) (λ M kept.
+      fits_kept (carry_command N M c₂) kept (command_fits k (second_without (some_command is_loop c₁) (some_command is_loop c₂) free) W N M names (kept_typed kept)))
     where
       fits_kept : {W : World} {K M : CarriedCells} (m : Carrying CarriedCells) → Kept W K M → Fits (Kept W M) m → Fits (Kept W K) m
       fits_kept (carried J) kept h = kept_on kept h
@@ -122,20 +120,20 @@ mutual
   command_fits {Γ} (conditional {e = e} {c₁ = c₁} {c₂ = c₂} h k₁ k₂) free W N K names cells =
       fits_after (λ v. CarriedTyped W v 1) (Kept W K) (carry_expression N K e) _ (expression_fits W N K Γ names cells h) (λ v t.
       choosing_fits W K cells v (carry_command N K c₁) (carry_command N K c₂) t
-      (command_fits k₁ (first_without (λ k. some_command k c₁) (λ k. some_command k c₂) free) W N K names cells)
-      (command_fits k₂ (second_without (λ k. some_command k c₁) (λ k. some_command k c₂) free) W N K names cells))
+      (command_fits k₁ (first_without (some_command is_loop c₁) (some_command is_loop c₂) free) W N K names cells)
+      (command_fits k₂ (second_without (some_command is_loop c₁) (some_command is_loop c₂) free) W N K names cells))
 
-  block_fits : {Γ : Scope} {b : Block} → BlockOk Γ b → Carriable (λ k. some_in_block k b) → (W : World) (N : CarriedNames) (K : CarriedCells) → NamesTyped W N Γ →
+  block_fits : {Γ : Scope} {b : Block} → BlockOk Γ b → NoLoop (some_in_block is_loop b) → (W : World) (N : CarriedNames) (K : CarriedCells) → NamesTyped W N Γ →
       CellsTyped K W →
       Fits (Kept W K) (carry_block N K b)
   block_fits (blk {Δ = Δ} {d = d} {c = c} h k) free W N K names cells =
       fits_after (DeclaredTyped W K Δ) (Kept W K) (carry_declaration N K d) _
-      (declaration_fits h (first_without (λ k. some_in_declaration k d) (λ k. some_command k c) free) W N K names cells) (λ D t.
+      (declaration_fits h (first_without (some_in_declaration is_loop d) (some_command is_loop c) free) W N K names cells) (λ D t.
       fits_after (Kept t.world_after D.cells_after) (Kept W K) (carry_command (D.names_declared ++ N) D.cells_after c) _
-      (command_fits k (second_without (λ k. some_in_declaration k d) (λ k. some_command k c) free) t.world_after (D.names_declared ++ N) D.cells_after
+      (command_fits k (second_without (some_in_declaration is_loop d) (some_command is_loop c) free) t.world_after (D.names_declared ++ N) D.cells_after
       (names_append t.names (names_newer (extends_newer t.extends) names)) (extends_typed t.extends cells)) (λ M kept. left_kept t.extends kept))
 
-  declaration_fits : {Γ Δ : Scope} {d : Declaration} → Gives Γ d Δ → Carriable (λ k. some_in_declaration k d) → (W : World) (N : CarriedNames) (K : CarriedCells) →
+  declaration_fits : {Γ Δ : Scope} {d : Declaration} → Gives Γ d Δ → NoLoop (some_in_declaration is_loop d) → (W : World) (N : CarriedNames) (K : CarriedCells) →
       NamesTyped W N Γ → CellsTyped K W →
       Fits (DeclaredTyped W K Δ) (carry_declaration N K d)
   declaration_fits (bind {Δ = Δ} {x = x} {b = b} {m = m} h q) free W N K names cells =
@@ -147,9 +145,9 @@ mutual
       })
   declaration_fits (dseq {Δ₁ = Δ₁} {Δ₂ = Δ₂} {Δ = Δ} {d₁ = d₁} {d₂ = d₂} h k apart q) free W N K names cells =
       fits_after (DeclaredTyped W K Δ₁) (DeclaredTyped W K Δ) (carry_declaration N K d₁) _
-      (declaration_fits h (first_without (λ k. some_in_declaration k d₁) (λ k. some_in_declaration k d₂) free) W N K names cells) (λ D t.
+      (declaration_fits h (first_without (some_in_declaration is_loop d₁) (some_in_declaration is_loop d₂) free) W N K names cells) (λ D t.
       fits_after (DeclaredTyped t.world_after D.cells_after Δ₂) (DeclaredTyped W K Δ) (carry_declaration (D.names_declared ++ N) D.cells_after d₂) _
-      (declaration_fits k (second_without (λ k. some_in_declaration k d₁) (λ k. some_in_declaration k d₂) free) t.world_after (D.names_declared ++ N) D.cells_after
+      (declaration_fits k (second_without (some_in_declaration is_loop d₁) (some_in_declaration is_loop d₂) free) t.world_after (D.names_declared ++ N) D.cells_after
       (names_append t.names (names_newer (extends_newer t.extends) names)) (extends_typed t.extends cells)) (λ F u.
       record {
         world_after = u.world_after;
@@ -158,9 +156,8 @@ mutual
             subst (NamesTyped u.world_after (F.names_declared ++ D.names_declared)) (sym q)
             (names_append u.names (names_newer (extends_newer u.extends) t.names));
       }))
-  declaration_fits (rbnd apart h q) free W N K names cells = absurd (free.1 tt)
 
-  bound_fits : {Γ : Scope} {b : Bound} {m : Meaning} → Means Γ b m → Carriable (λ k. some_in_bound k b) → (W : World) (N : CarriedNames) (K : CarriedCells) →
+  bound_fits : {Γ : Scope} {b : Bound} {m : Meaning} → Means Γ b m → NoLoop (some_in_bound is_loop b) → (W : World) (N : CarriedNames) (K : CarriedCells) →
       NamesTyped W N Γ → CellsTyped K W →
       Fits (BoundTyped W K m) (carry_bound N K b)
   bound_fits {Γ} (plain_of {e = e} {c = c} h) free W N K names cells =
@@ -206,16 +203,16 @@ registers_typed zero ls hs ordered = no_cells
 registers_typed (suc r) ls hs ordered = one_cell (numbers_typed (ordered r)) (registers_typed r ls hs ordered)
 
 root_fits : (W : World) (N : CarriedNames) (K : CarriedCells) (Γ : Scope) {t : Root} {a : Passed} → NamesTyped W N Γ → CellsTyped K W → RootOk Γ t a →
-    Carriable (λ k. some_in_root k t) → Fits (Kept W K) (carry_root N K t)
-unfolding carry_root some_in_root
+    NoLoop (has_loop t) → Fits (Kept W K) (carry_root N K t)
+unfolding carry_root has_loop some_in_root
 root_fits W N K Γ names cells (root_expression {e = e} {c = c} h) free =
     fits_after (λ v. CarriedTyped W v c) (Kept W K) (carry_expression N K e) _ (expression_fits W N K Γ names cells h) (λ v t. kept_self cells)
 root_fits W N K Γ names cells (root_command h) free = command_fits h free W N K names cells
 root_fits W N K Γ names cells root_absent free = kept_self cells
 
 pub carrying_fits : CarryingFits
-unfolding carry_routine has_loop has_recursion
-carrying_fits image r t a passes straight plain ls hs many_low many_high ordered never =
+unfolding carry_routine
+carrying_fits image r t a passes straight ls hs many_low many_high ordered never =
     subst (Fits (Kept (register_world r) (register_cells r ls hs))) never
     (root_fits (register_world r) (register_names r) (register_cells r ls hs) (register_scope r) (registers_named r)
-    (registers_typed r ls hs (limits_ordered ls hs (many_low ∙ sym many_high) ordered)) ((check_exact image r t a).0 passes).types (failed_test straight, failed_test plain))
+    (registers_typed r ls hs (limits_ordered ls hs (many_low ∙ sym many_high) ordered)) ((check_exact image r t a).0 passes).types (failed_test straight))

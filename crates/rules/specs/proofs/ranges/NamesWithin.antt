@@ -51,9 +51,8 @@ FunctionWithin fs b F give =
 
 pub data BindableWithin : Bindable → CarriedMeaning → Type 0 where
   value_within : {x : Value} {v : Carried} → ValueWithin x v → BindableWithin (value x) (a_value v)
-  -- a function that does not know its name: an Rbnd is not carried
   function_within : {fs : List Formal} {b : Block} {F : Environment} {give : List Carried → CarriedCells → Carrying CarriedCells} →
-      FunctionWithin fs b F give → BindableWithin (closure none fs b F) (a_function give)
+      FunctionWithin fs b F give → BindableWithin (closure fs b F) (a_function give)
 
 pub data NamesWithin : Environment → CarriedNames → Type 0 where
   no_names : NamesWithin empty []

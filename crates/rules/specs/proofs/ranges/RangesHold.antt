@@ -83,10 +83,10 @@ module _ (image : List ℕ) (ls hs : List ℤ) (ws : List ℕ) (low_ranged : All
       by (budget_used q) = refl
       by (divisor_zero q) = absurd (never Refusals.ZeroDivisor q)
       by (result_outside q) = absurd (never Refusals.OutOfRange q)
-      by (cells_full τ q l) = absurd (room_suffices image r t a passes ends.no_recursion zs as_many ranged ends.room budget steps σ h reached x e line cells (cells_full τ q l))
-      by (bindings_full τ q l) = absurd (room_suffices image r t a passes ends.no_recursion zs as_many ranged ends.room budget steps σ h reached x e line bindings (bindings_full τ q l))
-      by (values_full τ q l) = absurd (room_suffices image r t a passes ends.no_recursion zs as_many ranged ends.room budget steps σ h reached x e line values (values_full τ q l))
-      by (control_full τ q l) = absurd (room_suffices image r t a passes ends.no_recursion zs as_many ranged ends.room budget steps σ h reached x e line control (control_full τ q l))
+      by (cells_full τ q l) = absurd (room_suffices image r t a passes zs as_many ranged ends.room budget steps σ h reached x e line cells (cells_full τ q l))
+      by (bindings_full τ q l) = absurd (room_suffices image r t a passes zs as_many ranged ends.room budget steps σ h reached x e line bindings (bindings_full τ q l))
+      by (values_full τ q l) = absurd (room_suffices image r t a passes zs as_many ranged ends.room budget steps σ h reached x e line values (values_full τ q l))
+      by (control_full τ q l) = absurd (room_suffices image r t a passes zs as_many ranged ends.room budget steps σ h reached x e line control (control_full τ q l))
 
   -- At a state of the run with control empty.
   within_ends : {budget k : ℕ} {τ : State} {h : History} → Reach budget (start r t zs) r k τ h → control_of τ ≡ [] →

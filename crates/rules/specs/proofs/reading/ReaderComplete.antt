@@ -3,10 +3,10 @@ use Rattle.std.specs.Prelude.{ℕ, zero, suc, ◌+◌, ◌*◌, ◌/◌, ◌%◌
 use Rattle.std.proofs.Common.{sym, ap, ◌∙◌, subst, arith, lt→ltb}
 use Rattle.std.proofs.Math.Option.{Option, none, some}
 use Rattle.rules.specs.proofs.Basics.{append_assoc, append_nothing, true_test}
-use Rattle.rules.specs.paper.Tree.{Operator, arithmetic, Eq, order, logic, Sum, Sub, Mul, Div, Lt, Le, Gt, Ge, And, Or, Expression, Boo, Formal, Command, block, Block, Declaration, Bound, plain, Abs, Root, expression, command}
+use Rattle.rules.specs.paper.Tree.{Operator, arithmetic, Eq, order, logic, Sum, Sub, Mul, Div, Lt, Le, Gt, Ge, And, Or, Expression, Boo, Formal, Command, block, Block, Declaration, Bound, plain, Root, expression, command}
 use Rattle.rules.specs.paper.Limits.{words, names, codes, most_parameters, most_depth}
-use Rattle.rules.specs.paper.Kinds.{Kind, ExpressionKind, CommandKind, DeclarationKind, num, boo, id, deref, valref, binary, negation, assign, loop, cseq, blk, call, conditional, bind, dseq, rbnd, expression_kind, command_kind, declaration_kind, ref, abs, formal, kind_of, operand_fits, operator_number, upper_part, kind_number}
-use Rattle.rules.specs.paper.Reader.{Node, Got, refused, got, Read, then, ◌>>=◌, give, Header, node, wants_expression, wants_command, wants_declaration, wants_blk, wants_bound, wants_abstraction, wants_formal, wants_root, read_expression, read_many, read_formal, read_command, read_block, read_declaration, read_bound, read_abstraction, read_root, read_routine, name_part, expression_by, command_by, blk_kind, plain_kind, root_expression, root_command}
+use Rattle.rules.specs.paper.Kinds.{Kind, ExpressionKind, CommandKind, DeclarationKind, num, boo, id, deref, valref, binary, negation, assign, loop, cseq, blk, call, conditional, bind, dseq, expression_kind, command_kind, declaration_kind, ref, abs, formal, kind_of, operand_fits, operator_number, upper_part, kind_number}
+use Rattle.rules.specs.paper.Reader.{Node, Got, refused, got, Read, then, ◌>>=◌, give, Header, node, wants_expression, wants_command, wants_declaration, wants_blk, wants_bound, wants_formal, wants_root, read_expression, read_many, read_formal, read_command, read_block, read_declaration, read_bound, read_root, read_routine, name_part, expression_by, command_by, blk_kind, plain_kind, root_expression, root_command}
 use Rattle.rules.specs.claims.Listing.{a_node, truth_word, expression_nodes, formal_nodes, all_nodes, command_nodes, block_nodes, declaration_nodes, bound_nodes, root_nodes}
 use Rattle.rules.specs.claims.Shape.{ShapedExpression, ShapedFormal, Many, none_left, one_more, ShapedCommand, ShapedBlock, ShapedDeclaration, ShapedBound, ShapedRoot}
 use Rattle.rules.specs.claims.Shape as Shape
@@ -43,7 +43,6 @@ kind_known (command_kind call) = refl
 kind_known (command_kind conditional) = refl
 kind_known (declaration_kind bind) = refl
 kind_known (declaration_kind dseq) = refl
-kind_known (declaration_kind rbnd) = refl
 kind_known ref = refl
 kind_known abs = refl
 kind_known formal = refl
@@ -152,10 +151,6 @@ assign_fits x h = lt→ltb x names h
 bind_fits : (x : ℕ) → x < names → T (operand_fits (declaration_kind bind) x)
 unfolding operand_fits
 bind_fits x h = lt→ltb x names h
-
-rbnd_fits : (x : ℕ) → x < names → T (operand_fits (declaration_kind rbnd) x)
-unfolding operand_fits
-rbnd_fits x h = lt→ltb x names h
 
 loop_fits : T (operand_fits (command_kind loop) 0)
 unfolding operand_fits
@@ -316,14 +311,6 @@ mutual
         append_assoc (declaration_nodes d₁) (declaration_nodes d₂) rest,
         declaration_read h (declaration_nodes d₂ ++ rest),
         declaration_read g rest,
-      )
-  declaration_read (Shape.rbnd {d = d} {i = i} {j = j} {x = x} {fs = fs} {b = b} low g m h) rest =
-      rw (
-        node_read wants_declaration (declaration_kind rbnd) rbnd x i (bound_nodes (Abs (suc i) fs b) ++ rest) refl (rbnd_fits x low),
-        node_read wants_abstraction abs _ (length fs) (suc i) ((all_nodes formal_nodes fs ++ block_nodes b) ++ rest) refl (abs_fits (length fs) g),
-        append_assoc (all_nodes formal_nodes fs) (block_nodes b) rest,
-        many_read (ShapedFormal d) (read_formal d) formal_nodes (λ k l f more s. formal_read d k l f more s) (suc (suc i)) j fs (block_nodes b ++ rest) m,
-        block_read h rest,
       )
 
   pub bound_read : {d i j : ℕ} {b : Bound} → ShapedBound d i j b → (rest : List Node) → read_bound d i (bound_nodes b ++ rest) ≡ got b j rest

@@ -70,11 +70,6 @@ mutual
   declaration_counted (Shape.bind h g) = omega (arith, bound_counted g)
   declaration_counted (Shape.dseq {i = i} {j = j} {k = k} {d₁ = d₁} {d₂ = d₂} h g) =
       counted_two i j k (declaration_nodes d₁) (declaration_nodes d₂) (declaration_counted h) (declaration_counted g)
-  declaration_counted (Shape.rbnd {d = d} {i = i} {j = j} {k = k} {fs = fs} {b = b} low g m h) =
-      omega (
-        arith,
-        counted_two (suc i) j k (all_nodes formal_nodes fs) (block_nodes b) (many_counted (ShapedFormal d) formal_nodes (formal_counted d) (suc (suc i)) j fs m) (block_counted h),
-      )
 
   bound_counted : {d i j : ℕ} {b : Bound} → ShapedBound d i j b → j ≡ i + length (bound_nodes b)
   bound_counted (Shape.plain_of {d = d} {i = i} {j = j} {e = e} h) = expression_counted d i j e h

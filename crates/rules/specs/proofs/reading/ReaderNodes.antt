@@ -5,7 +5,7 @@ use Rattle.std.proofs.Math.Option.{Option, none, some, some-injective}
 use Rattle.rules.specs.proofs.Basics.{missing, passed_test}
 use Rattle.rules.specs.paper.Refusals.{Refusal}
 use Rattle.rules.specs.paper.Kinds.{Kind, ExpressionKind, CommandKind, DeclarationKind, assign, loop, cseq, blk, call, conditional, expression_kind, command_kind, declaration_kind, ref, abs, formal, kind_number, every_kind, kind_in, kind_of, operand_fits}
-use Rattle.rules.specs.paper.Reader.{Node, Got, refused, got, Read, then, Header, node, wants_expression, wants_command, wants_declaration, BlkKind, wants_blk, BoundKind, plain_kind, ref_kind, abs_kind, wants_bound, AbstractionKind, wants_abstraction, FormalKind, wants_formal, RootKind, root_expression, root_command, wants_root, or_refuse}
+use Rattle.rules.specs.paper.Reader.{Node, Got, refused, got, Read, then, Header, node, wants_expression, wants_command, wants_declaration, BlkKind, wants_blk, BoundKind, plain_kind, ref_kind, abs_kind, wants_bound, FormalKind, wants_formal, RootKind, root_expression, root_command, wants_root, or_refuse}
 use Rattle.rules.specs.claims.Listing.{a_node}
 
 -- What is asked for holds of the answer, if there is one.
@@ -115,14 +115,6 @@ is_bound (declaration_kind d) s q = missing q
 is_bound ref s q = ap kind_of_bound (some-injective ref_kind s q)
 is_bound abs s q = ap kind_of_bound (some-injective abs_kind s q)
 is_bound formal s q = missing q
-
-pub is_abstraction : (k : Kind) (s : AbstractionKind) → wants_abstraction k ≡ some s → k ≡ abs
-is_abstraction (expression_kind e) s q = missing q
-is_abstraction (command_kind c) s q = missing q
-is_abstraction (declaration_kind d) s q = missing q
-is_abstraction ref s q = missing q
-is_abstraction abs s q = refl
-is_abstraction formal s q = missing q
 
 abbrev pub kind_of_root : RootKind → Kind
 kind_of_root (root_expression e) = expression_kind e

@@ -5,14 +5,14 @@ use Rattle.std.proofs.Math.Path.{ap}
 use mathlib.Core.List.{List, [], ◌∷◌, ◌++◌}
 use Rattle.std.proofs.Math.ListN.{length}
 use Rattle.rules.specs.proofs.Basics.{append_assoc}
-use Rattle.rules.specs.paper.Tree.{Expression, Formal, Command, Block, Blk, Declaration, Rbnd, Bound, Abs, Root}
+use Rattle.rules.specs.paper.Tree.{Expression, Formal, Command, Block, Blk, Declaration, Bound, Root}
 use Rattle.rules.specs.paper.Limits.{words, names, codes, most_parameters, most_depth}
-use Rattle.rules.specs.paper.Kinds.{ExpressionKind, CommandKind, DeclarationKind, num, boo, id, deref, valref, binary, negation, assign, loop, cseq, blk, call, conditional, bind, dseq, rbnd, expression_kind, command_kind, declaration_kind, ref, abs, formal, operand_fits, operator_number, kind_number, upper_part}
-use Rattle.rules.specs.paper.Reader.{Node, Read, then, ◌>>=◌, give, node, wants_expression, wants_command, wants_declaration, wants_blk, BoundKind, plain_kind, ref_kind, abs_kind, wants_bound, wants_abstraction, wants_formal, RootKind, root_expression, root_command, wants_root, name_part, expression_by, command_by, Function, declaration_by, bound_by, root_by, read_expression, read_many, read_formal, read_command, read_block, read_declaration, read_bound, read_abstraction, read_root, read_routine}
+use Rattle.rules.specs.paper.Kinds.{ExpressionKind, CommandKind, DeclarationKind, num, boo, id, deref, valref, binary, negation, assign, loop, cseq, blk, call, conditional, bind, dseq, expression_kind, command_kind, declaration_kind, ref, abs, formal, operand_fits, operator_number, kind_number, upper_part}
+use Rattle.rules.specs.paper.Reader.{Node, Read, then, ◌>>=◌, give, node, wants_expression, wants_command, wants_declaration, wants_blk, BoundKind, plain_kind, ref_kind, abs_kind, wants_bound, wants_formal, RootKind, root_expression, root_command, wants_root, name_part, expression_by, command_by, declaration_by, bound_by, root_by, read_expression, read_many, read_formal, read_command, read_block, read_declaration, read_bound, read_root, read_routine}
 use Rattle.rules.specs.claims.Listing.{a_node, truth_word, expression_nodes, formal_nodes, all_nodes, command_nodes, block_nodes, declaration_nodes, bound_nodes, root_nodes}
 use Rattle.rules.specs.claims.Shape.{ShapedExpression, ShapedFormal, Many, none_left, one_more, ShapedCommand, ShapedBlock, ShapedDeclaration, ShapedBound, ShapedRoot}
 use Rattle.rules.specs.claims.Shape as Shape
-use Rattle.rules.specs.proofs.reading.ReaderNodes.{Answers, then_answers, is_expression, is_command, is_declaration, is_blk, is_formal, kind_of_bound, is_bound, is_abstraction, kind_of_root, is_root, sorted_then}
+use Rattle.rules.specs.proofs.reading.ReaderNodes.{Answers, then_answers, is_expression, is_command, is_declaration, is_blk, is_formal, kind_of_bound, is_bound, kind_of_root, is_root, sorted_then}
 
 -- ---- What was read, as a listing.
 
@@ -110,9 +110,6 @@ DeclarationRead d i ns c j rest = ShapedDeclaration d i j c × (ns ≡ declarati
 abbrev BoundRead : (d i : ℕ) → List Node → Bound → ℕ → List Node → Type 0
 BoundRead d i ns b j rest = ShapedBound d i j b × (ns ≡ bound_nodes b ++ rest)
 
-abbrev FunctionRead : (d i : ℕ) → List Node → Function → ℕ → List Node → Type 0
-FunctionRead d i ns f j rest = BoundRead d i ns (Abs f.place f.formals f.body) j rest
-
 count_low : (w : ℕ) → T (ltb w (names * suc most_parameters)) → upper_part w ≤ most_parameters
 count_low w t = low (ltb→lt w (names * suc most_parameters) t)
   where
@@ -172,43 +169,20 @@ module _ (d : ℕ)
       then_answers (CommandRead d j r) _ (read_command d j r) _ (commands j r) (λ c k s g.
       (Shape.blk h.0 g.0, listed_two 23 w ns rest (declaration_nodes e) (command_nodes c) r s q (zero_word w t) h.1 g.1)))
 
-rbnd_shaped : {d i j x q : ℕ} {fs : List Formal} {b : Block} → x < names → ShapedBound d (suc i) j (Abs q fs b) → ShapedDeclaration (suc d) i j (Rbnd i x q fs b)
-rbnd_shaped low (Shape.abs g m h) = Shape.rbnd low g m h
-
 declaration_by_answers : (d : ℕ)
     (declarations : (j : ℕ) (ms : List Node) → Answers (DeclarationRead d j ms) (read_declaration d j ms))
     (bounds : (j : ℕ) (ms : List Node) → Answers (BoundRead d j ms) (read_bound d j ms))
-    (functions : (j : ℕ) (ms : List Node) → Answers (FunctionRead d j ms) (read_abstraction d j ms))
     (i : ℕ) (ns : List Node) (k : DeclarationKind) (w : ℕ) (rest : List Node) →
     T (operand_fits (declaration_kind k) w) → ns ≡ a_node (kind_number (declaration_kind k)) w ∷ rest →
-    Answers (DeclarationRead (suc d) i ns) (declaration_by k i w (read_bound d) (read_declaration d) (read_abstraction d) (suc i) rest)
+    Answers (DeclarationRead (suc d) i ns) (declaration_by k i w (read_bound d) (read_declaration d) (suc i) rest)
 unfolding operand_fits declaration_nodes
-declaration_by_answers d declarations bounds functions i ns bind w rest t q =
+declaration_by_answers d declarations bounds i ns bind w rest t q =
     then_answers (BoundRead d (suc i) rest) _ (read_bound d (suc i) rest) _ (bounds (suc i) rest) (λ b j r h.
     (Shape.bind (ltb→lt w names t) h.0, q ∙ ap {B = List Node} (λ x. a_node 30 w ∷ x) h.1))
-declaration_by_answers d declarations bounds functions i ns dseq w rest t q =
+declaration_by_answers d declarations bounds i ns dseq w rest t q =
     then_answers (DeclarationRead d (suc i) rest) _ (read_declaration d (suc i) rest) _ (declarations (suc i) rest) (λ a j r h.
     then_answers (DeclarationRead d j r) _ (read_declaration d j r) _ (declarations j r) (λ b k s g.
     (Shape.dseq h.0 g.0, listed_two 31 w ns rest (declaration_nodes a) (declaration_nodes b) r s q (zero_word w t) h.1 g.1)))
-declaration_by_answers d declarations bounds functions i ns rbnd w rest t q =
-    then_answers (FunctionRead d (suc i) rest) _ (read_abstraction d (suc i) rest) _ (functions (suc i) rest) (λ f j r h.
-    (rbnd_shaped (ltb→lt w names t) h.0, q ∙ ap {B = List Node} (λ x. a_node 32 w ∷ x) h.1))
-
--- The Formals and the Blk of an Abs whose own node is read, and what is made of them.
-abstraction_parts : {A : Type 0} (d : ℕ) (blocks : (j : ℕ) (ms : List Node) → Answers (BlockRead d j ms) (read_block d j ms))
-    (i : ℕ) (ns : List Node) (w : ℕ) (rest : List Node) → T (operand_fits abs w) → ns ≡ a_node 41 w ∷ rest →
-    (P : A → ℕ → List Node → Type 0) (make : List Formal → Block → A) →
-    ((fs : List Formal) (b : Block) (j : ℕ) (left : List Node) → BoundRead (suc d) i ns (Abs i fs b) j left → P (make fs b) j left) →
-    Answers P (then (read_many w (read_formal d) (suc i) rest) (λ fs. read_block d >>= λ b. give (make fs b)))
-unfolding operand_fits bound_nodes
-abstraction_parts d blocks i ns w rest t q P make holds =
-    then_answers (ManyRead (ShapedFormal d) formal_nodes w (suc i) rest) _ (read_many w (read_formal d) (suc i) rest) _
-    (many_answers (ShapedFormal d) formal_nodes (read_formal d) (formal_answers d) w (suc i) rest) (λ fs j r h.
-    then_answers (BlockRead d j r) P (read_block d j r) _ (blocks j r) (λ b k s g. holds fs b k s (
-      Shape.abs (subst (λ c. c ≤ most_parameters) (sym h.0) (few w t)) h.1 g.0,
-      q ∙ ap {B = List Node} (λ x. a_node 41 x ∷ rest) (sym h.0)
-          ∙ ap {B = List Node} (λ x. a_node 41 (length fs) ∷ x) (both_listed (all_nodes formal_nodes fs) (block_nodes b) rest r s h.2 g.1),
-    )))
 
 bound_by_answers : (d : ℕ) (blocks : (j : ℕ) (ms : List Node) → Answers (BlockRead d j ms) (read_block d j ms))
     (i : ℕ) (ns : List Node) (k : BoundKind) (w : ℕ) (rest : List Node) →
@@ -222,7 +196,13 @@ bound_by_answers d blocks i ns ref_kind w rest t q =
     then_answers (ExpressionRead d (suc i) rest) _ (read_expression d (suc i) rest) _ (expression_answers d (suc i) rest) (λ e j r h.
     (Shape.ref h.0, listed_one 40 w ns rest (expression_nodes e) r q (zero_word w t) h.1))
 bound_by_answers d blocks i ns abs_kind w rest t q =
-    abstraction_parts d blocks i ns w rest t q (BoundRead (suc d) i ns) (λ fs b. Abs i fs b) (λ fs b j left h. h)
+    then_answers (ManyRead (ShapedFormal d) formal_nodes w (suc i) rest) _ (read_many w (read_formal d) (suc i) rest) _
+    (many_answers (ShapedFormal d) formal_nodes (read_formal d) (formal_answers d) w (suc i) rest) (λ fs j r h.
+    then_answers (BlockRead d j r) _ (read_block d j r) _ (blocks j r) (λ b k s g. (
+      Shape.abs (subst (λ c. c ≤ most_parameters) (sym h.0) (few w t)) h.1 g.0,
+      q ∙ ap {B = List Node} (λ x. a_node 41 x ∷ rest) (sym h.0)
+          ∙ ap {B = List Node} (λ x. a_node 41 (length fs) ∷ x) (both_listed (all_nodes formal_nodes fs) (block_nodes b) rest r s h.2 g.1),
+    )))
 
 mutual
   unfolding read_command operand_fits command_nodes
@@ -243,19 +223,12 @@ mutual
   declaration_answers zero i ns = sorted_then wants_declaration declaration_kind is_declaration _ (DeclarationRead zero i ns) i ns (λ s w rest t q. tt)
   declaration_answers (suc d) i ns =
       sorted_then wants_declaration declaration_kind is_declaration _ (DeclarationRead (suc d) i ns) i ns
-      (declaration_by_answers d (λ j ms. declaration_answers d j ms) (λ j ms. bound_answers d j ms) (λ j ms. function_answers d j ms) i ns)
+      (declaration_by_answers d (λ j ms. declaration_answers d j ms) (λ j ms. bound_answers d j ms) i ns)
 
   bound_answers : (d i : ℕ) (ns : List Node) → Answers (BoundRead d i ns) (read_bound d i ns)
   bound_answers zero i ns = sorted_then wants_bound kind_of_bound is_bound _ (BoundRead zero i ns) i ns (λ s w rest t q. tt)
   bound_answers (suc d) i ns = sorted_then wants_bound kind_of_bound is_bound _ (BoundRead (suc d) i ns) i ns
       (bound_by_answers d (λ j ms. block_answers d j ms) i ns)
-
-  function_answers : (d i : ℕ) (ns : List Node) → Answers (FunctionRead d i ns) (read_abstraction d i ns)
-  function_answers zero i ns = sorted_then wants_abstraction (λ s. abs) is_abstraction _ (FunctionRead zero i ns) i ns (λ s w rest t q. tt)
-  function_answers (suc d) i ns =
-      sorted_then wants_abstraction (λ s. abs) is_abstraction _ (FunctionRead (suc d) i ns) i ns
-      (λ s w rest t q. abstraction_parts d (λ j ms. block_answers d j ms) i ns w rest t q (FunctionRead (suc d) i ns)
-      (λ fs b. record { place = i; formals = fs; body = b }) (λ fs b j left h. h))
 
 abbrev pub RootRead : (d i : ℕ) → List Node → Root → ℕ → List Node → Type 0
 RootRead d i ns t j rest = ShapedRoot d i j t × (ns ≡ root_nodes t ++ rest)

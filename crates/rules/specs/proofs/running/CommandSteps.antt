@@ -10,7 +10,7 @@ use Rattle.rules.specs.paper.States.{Environment, Store, Entry, Item, expression
 use Rattle.rules.specs.paper.Rules.{put_actuals}
 use Rattle.rules.specs.paper.Rules as Rules
 use Rattle.rules.specs.claims.History.{History}
-use Rattle.rules.specs.proofs.running.World.{World, SmallExpression, SmallActuals, SmallCommand, SmallBlock, SmallDeclaration, SmallBound, with_own_meaning, EnvironmentTyped, closure_typed}
+use Rattle.rules.specs.proofs.running.World.{World, SmallExpression, SmallActuals, SmallCommand, SmallBlock, SmallDeclaration, SmallBound, EnvironmentTyped, closure_typed}
 use Rattle.rules.specs.proofs.running.Stores.{StoreTyped, world_made, same}
 use Rattle.rules.specs.proofs.running.Continuation.{StackShape, value_of, name_of, declared, calling, opened, actuals, Declaring, in_block, past_name, past_saved, ControlTyped, expression_typed, command_typed, declaration_typed, reference_typed, abstraction_typed, assign_mark_typed, loop_mark_typed, conditional_mark_typed, ref_mark_typed, bind_mark_typed, dseq_extend_mark_typed, dseq_join_mark_typed, extend_mark_typed, leave_mark_typed, call_mark_typed, ValuesTyped, value_on, name_on, testing_on, calling_on, opened_on, open_states}
 use Rattle.rules.specs.proofs.running.Progress.{Progress, same_store, opening_step}
@@ -70,14 +70,11 @@ module _ (a : Passed) (r : ℕ) (C : List Item) (X : List Entry) (E : Environmen
       same_store Rules.rule-DSeq refl refl Rules.dseq names cells types pending
       (declaration_typed g₁ s.0 t (dseq_extend_mark_typed (declaration_typed g₂ s.1 (past_saved t) (dseq_join_mark_typed (subst (λ Ψ. ControlTyped a C Γ (declared Ψ Θ)) q k)))))
       values (λ M m. tt)
-  declaration_step d Δ (Typing.rbnd t g q) s u k =
-      same_store Rules.rule-Rbnd refl refl Rules.rbnd names cells types pending
-      (abstraction_typed g s (bind_mark_typed (subst (λ Ψ. ControlTyped a C Γ (declared Ψ Θ)) q k))) (name_on values) (λ M m. tt)
 
   pub reference_step : (p c : ℕ) (e : Expression) → HasCode Γ e c → SmallExpression e → Declaring Θ → ControlTyped a C Γ (value_of (code (suc (suc c))) Θ) → Here (reference p e)
   reference_step p c e g s t k =
       same_store Rules.rule-Ref refl refl Rules.ref names cells types pending (expression_typed g s (ref_mark_typed t k)) values (λ M m. tt)
 
-  pub abstraction_step : (p : ℕ) (own : Option ℕ) (fs : List Formal) (b : Block) → BlockOk (with_formals fs (with_own_meaning own fs Γ)) b → SmallBlock b → ControlTyped a C Γ (value_of (function fs) Θ) → Here (abstraction p own fs b)
-  abstraction_step p own fs b g s k =
+  pub abstraction_step : (p : ℕ) (fs : List Formal) (b : Block) → BlockOk (with_formals fs Γ) b → SmallBlock b → ControlTyped a C Γ (value_of (function fs) Θ) → Here (abstraction p fs b)
+  abstraction_step p fs b g s k =
       same_store Rules.rule-Abs refl refl Rules.abs names cells types pending k (value_on (closure_typed Γ names g s) values) (λ M m. tt)

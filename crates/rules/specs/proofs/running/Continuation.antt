@@ -7,7 +7,7 @@ use Rattle.rules.specs.paper.Checker.{Meaning, code, function, Scope, meaning_of
 use Rattle.rules.specs.claims.Typing.{HasCode, CommandOk, BlockOk, Gives}
 use Rattle.rules.specs.paper.States.{Bindable, Environment, Entry, bindable, name, node, environment, locations, operator_mark, not_mark, assign_mark, loop_mark, conditional_mark, ref_mark, bind_mark, dseq_extend_mark, dseq_join_mark, extend_mark, leave_mark, call_mark, Item, expression, command, declaration, reference, abstraction, mark, State, control_of, values_of, environment_of, store_of, locations_of, live_cells}
 use Rattle.rules.specs.claims.History.{Earlier, History, node_on_top}
-use Rattle.rules.specs.proofs.running.World.{World, SmallExpression, SmallCommand, SmallBlock, SmallDeclaration, with_own_meaning, EnvironmentTyped, BindableTyped}
+use Rattle.rules.specs.proofs.running.World.{World, SmallExpression, SmallCommand, SmallBlock, SmallDeclaration, EnvironmentTyped, BindableTyped}
 use Rattle.rules.specs.proofs.running.Stores.{StoreTyped, Grown, world_cells, world_made}
 
 -- The shape of the value stack, top first.
@@ -55,8 +55,8 @@ pub data ControlTyped (a : Passed) : List Item → Scope → StackShape → Type
       Gives Γ d Δ → SmallDeclaration d → Declaring Θ → ControlTyped a C Γ (declared Δ Θ) → ControlTyped a (declaration d ∷ C) Γ Θ
   reference_typed : {p c : ℕ} {e : Expression} {C : List Item} {Γ : Scope} {Θ : StackShape} →
       HasCode Γ e c → SmallExpression e → Declaring Θ → ControlTyped a C Γ (value_of (code (suc (suc c))) Θ) → ControlTyped a (reference p e ∷ C) Γ Θ
-  abstraction_typed : {p : ℕ} {own : Option ℕ} {fs : List Formal} {b : Block} {C : List Item} {Γ : Scope} {Θ : StackShape} →
-      BlockOk (with_formals fs (with_own_meaning own fs Γ)) b → SmallBlock b → ControlTyped a C Γ (value_of (function fs) Θ) → ControlTyped a (abstraction p own fs b ∷ C) Γ Θ
+  abstraction_typed : {p : ℕ} {fs : List Formal} {b : Block} {C : List Item} {Γ : Scope} {Θ : StackShape} →
+      BlockOk (with_formals fs Γ) b → SmallBlock b → ControlTyped a C Γ (value_of (function fs) Θ) → ControlTyped a (abstraction p fs b ∷ C) Γ Θ
   operator_mark_typed : {o : Operator} {c₁ c₂ c : ℕ} {C : List Item} {Γ : Scope} {Θ : StackShape} →
       OperatorTyped o c₁ c₂ c → ControlTyped a C Γ (value_of (code c) Θ) → ControlTyped a (mark (operator_mark o) ∷ C) Γ (value_of (code c₂) (value_of (code c₁) Θ))
   not_mark_typed : {C : List Item} {Γ : Scope} {Θ : StackShape} →

@@ -4,10 +4,10 @@ use Rattle.std.proofs.Math.Path.{refl, ap}
 use Rattle.std.proofs.Common.{sym, ◌∙◌, subst}
 use Rattle.std.proofs.Math.Option.{Option, none, some, none-ne-some, some-injective}
 use Rattle.rules.specs.proofs.Basics.{missing}
-use Rattle.rules.specs.paper.Tree.{Operator, arithmetic, Eq, order, logic, Expression, Num, Boo, Id, DeRef, ValRef, Binary, Not, Formal, Command, Assign, Loop, CSeq, block, Call, Cond, Block, Blk, Declaration, Bind, DSeq, Rbnd}
+use Rattle.rules.specs.paper.Tree.{Operator, arithmetic, Eq, order, logic, Expression, Num, Boo, Id, DeRef, ValRef, Binary, Not, Formal, Command, Assign, Loop, CSeq, block, Call, Cond, Block, Blk, Declaration, Bind, DSeq}
 use Rattle.rules.specs.paper.Integers.{compute, compare, combine}
 use Rattle.rules.specs.paper.States.{Value, integer, truth, location, Bindable, value, closure, Environment, lookup, Store, find, Entry, bindable, name, node, environment, locations, val, Mark, operator_mark, not_mark, assign_mark, loop_mark, conditional_mark, ref_mark, bind_mark, dseq_extend_mark, dseq_join_mark, extend_mark, leave_mark, call_mark, Item, expression, command, declaration, reference, abstraction, mark, State, state}
-use Rattle.rules.specs.paper.Rules.{Rule, Effect, goes, pushed, equal_values, Matched, match_formals, Table, Applies, with_own_name}
+use Rattle.rules.specs.paper.Rules.{Rule, Effect, goes, pushed, equal_values, Matched, match_formals, Table, Applies}
 use Rattle.rules.specs.paper.Rules as Rules
 use Rattle.rules.specs.paper.Fire.{Firing, stuck, fires, given, take, as_bindable, as_value, as_integer, as_truth, as_name, LoopNode, loop_node, as_loop, CondNode, cond_node, as_cond, as_environment, as_locations, bound_value, as_location, bound_location, Closure, bound_closure, id_value, after_test, chosen, fire_expression, fire_command, fire_declaration, fire_operator, fire_mark, fire_item, fire}
 
@@ -22,7 +22,7 @@ is_bindable (locations L) b q = missing q
 
 is_value : (e : Entry) (v : Value) → as_value e ≡ some v → e ≡ val v
 is_value (bindable (value w)) v q = ap val (some-injective w v q)
-is_value (bindable (closure own fs b E)) v q = missing q
+is_value (bindable (closure fs b E)) v q = missing q
 is_value (name x) v q = missing q
 is_value (node c) v q = missing q
 is_value (environment E) v q = missing q
@@ -32,7 +32,7 @@ is_integer : (e : Entry) (z : ℤ) → as_integer e ≡ some z → e ≡ val (in
 is_integer (bindable (value (integer y))) z q = ap (λ w. val (integer w)) (some-injective y z q)
 is_integer (bindable (value (truth b))) z q = missing q
 is_integer (bindable (value (location l))) z q = missing q
-is_integer (bindable (closure own fs b E)) z q = missing q
+is_integer (bindable (closure fs b E)) z q = missing q
 is_integer (name x) z q = missing q
 is_integer (node c) z q = missing q
 is_integer (environment E) z q = missing q
@@ -42,7 +42,7 @@ is_truth : (e : Entry) (t : Bool) → as_truth e ≡ some t → e ≡ val (truth
 is_truth (bindable (value (integer y))) t q = missing q
 is_truth (bindable (value (truth b))) t q = ap (λ w. val (truth w)) (some-injective b t q)
 is_truth (bindable (value (location l))) t q = missing q
-is_truth (bindable (closure own fs b E)) t q = missing q
+is_truth (bindable (closure fs b E)) t q = missing q
 is_truth (name x) t q = missing q
 is_truth (node c) t q = missing q
 is_truth (environment E) t q = missing q
@@ -100,18 +100,18 @@ is_location (location k) l q = ap location (some-injective k l q)
 
 is_bound_value : (b : Bindable) (v : Value) → bound_value b ≡ some v → b ≡ value v
 is_bound_value (value w) v q = ap value (some-injective w v q)
-is_bound_value (closure own fs b E) v q = missing q
+is_bound_value (closure fs b E) v q = missing q
 
 is_bound_location : (b : Bindable) (l : ℕ) → bound_location b ≡ some l → b ≡ value (location l)
 is_bound_location (value v) l q = ap value (is_location v l q)
-is_bound_location (closure own fs b E) l q = missing q
+is_bound_location (closure fs b E) l q = missing q
 
 abbrev closure_of : Closure → Bindable
-closure_of c = closure c.own c.formals c.body c.environment_of
+closure_of c = closure c.formals c.body c.environment_of
 
 is_bound_closure : (b : Bindable) (c : Closure) → bound_closure b ≡ some c → b ≡ closure_of c
 is_bound_closure (value v) c q = missing q
-is_bound_closure (closure own fs b E) c q = ap closure_of (some-injective (record { own = own; formals = fs; body = b; environment_of = E }) c q)
+is_bound_closure (closure fs b E) c q = ap closure_of (some-injective (record { formals = fs; body = b; environment_of = E }) c q)
 
 -- ---- What fires is a line of the table.
 
@@ -199,7 +199,6 @@ module _ (C : List Item) (E : Environment) (S : Store) (L : List ℕ) (n : ℕ) 
   declaration_sound : (d : Declaration) (X : List Entry) → At (declaration d) X (fire_declaration d C X E S L n)
   declaration_sound (Bind p x b) X = Rules.bind
   declaration_sound (DSeq p d₁ d₂) X = Rules.dseq
-  declaration_sound (Rbnd p x q fs b) X = Rules.rbnd
 
   operator_sound : (o : Operator) (X : List Entry) → At (mark (operator_mark o)) X (fire_operator o C X E S L n)
   unfolding fire_operator
@@ -256,8 +255,7 @@ module _ (C : List Item) (E : Environment) (S : Store) (L : List ℕ) (n : ℕ) 
   mark_sound (call_mark p x k) X =
       given_sound (At (mark (call_mark p x k)) X) tt (lookup x E) _ (λ b q.
       given_sound (At (mark (call_mark p x k)) X) tt (bound_closure b) _ (λ c r.
-      given_sound (At (mark (call_mark p x k)) X) tt
-      (match_formals k c.formals X (with_own_name c.own c.formals c.body c.environment_of)) _ (λ m t.
+      given_sound (At (mark (call_mark p x k)) X) tt (match_formals k c.formals X c.environment_of) _ (λ m t.
       Rules.call_at (q ∙ ap {B = Option Bindable} some (is_bound_closure b c r)) t)))
 
   item_sound : (i : Item) (X : List Entry) → At i X (fire_item i C X E S L n)
@@ -266,7 +264,7 @@ module _ (C : List Item) (E : Environment) (S : Store) (L : List ℕ) (n : ℕ) 
   item_sound (command c) X = command_sound c X
   item_sound (declaration d) X = declaration_sound d X
   item_sound (reference p e) X = Rules.ref
-  item_sound (abstraction p own fs b) X = Rules.abs
+  item_sound (abstraction p fs b) X = Rules.abs
   item_sound (mark m) X = mark_sound m X
 
   -- ---- A line of the table is what fires.
@@ -304,7 +302,6 @@ module _ (C : List Item) (E : Environment) (S : Store) (L : List ℕ) (n : ℕ) 
   line_fires r i X e Rules.ref_at = refl
   line_fires r i X e Rules.bind = refl
   line_fires r i X e Rules.bind_at = refl
-  line_fires r i X e Rules.rbnd = refl
   line_fires r i X e Rules.abs = refl
   line_fires r i X e Rules.dseq = refl
   line_fires r i X e Rules.dseq_extend_at = refl

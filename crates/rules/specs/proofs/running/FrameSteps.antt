@@ -10,10 +10,10 @@ use Rattle.rules.specs.paper.Checker.{Meaning, code, function, Scope, meaning_of
 use Rattle.rules.specs.claims.Typing.{BlockOk}
 use Rattle.rules.specs.claims.Typing as Typing
 use Rattle.rules.specs.paper.States.{Value, Bindable, value, closure, Environment, bound, lookup, join, Store, remove, Entry, environment, locations, Item, command, mark, extend_mark, leave_mark, call_mark, State, state, environment_of, values_of, locations_of, store_of, live_cells}
-use Rattle.rules.specs.paper.Rules.{goes, Matched, match_formals, with_own_name}
+use Rattle.rules.specs.paper.Rules.{goes, Matched, match_formals}
 use Rattle.rules.specs.paper.Rules as Rules
 use Rattle.rules.specs.claims.History.{Made, Earlier, History, node_on_top, is_place, waits_for, latest, compare_latest, note, remake}
-use Rattle.rules.specs.proofs.running.World.{World, SmallBlock, with_own_meaning, own_name_typed, EnvironmentTyped, one_name, BindableTyped, value_typed, closure_typed, BoundAs, lookup_typed, join_typed}
+use Rattle.rules.specs.proofs.running.World.{World, SmallBlock, EnvironmentTyped, one_name, BindableTyped, value_typed, closure_typed, BoundAs, lookup_typed, join_typed}
 use Rattle.rules.specs.proofs.running.Stores.{StoreTyped, store_cells, Grown, same, remove_grown, grown_keeps, world_cells, world_made, remade}
 use Rattle.rules.specs.proofs.running.Continuation.{StackShape, value_of, declared, calling, opened, frame, actuals, ControlTyped, command_typed, leave_mark_typed, Entered, ValuesTyped, value_on, declared_on, calling_on, opened_on, frame_on, is_some, open_states}
 use Rattle.rules.specs.proofs.running.Progress.{Progress, Advance, same_store, quiet_invariant, kept}
@@ -149,18 +149,17 @@ module _ (a : Passed) (r : ℕ) (C : List Item) (E : Environment) (S : Store) (n
         };
       }
 
-  -- The call's mark: L and E go on the value stack, and the function's Blk runs in the closure's environment, with its own name if it knows it,
-  -- plus Formals.
-  enter_step : (p x k : ℕ) (own : Option ℕ) (fs : List Formal) (b : Block) (F : Environment) (Γ₁ : Scope) (L : List ℕ) (X : List Entry) (Θ : StackShape) (P : List State) → open_states h.past ≡ P →
-      lookup x E ≡ some (closure own fs b F) → BlockOk (with_formals fs Γ₁) b → SmallBlock b → length fs ≡ k →
-      ControlTyped a C Γ Θ → (m : MatchTyped r fs X (with_own_name own fs b F) E W L Γ₁ (calling p Θ) P) →
+  -- The call's mark: L and E go on the value stack, and the function's Blk runs in the closure's environment plus Formals.
+  enter_step : (p x k : ℕ) (fs : List Formal) (b : Block) (F : Environment) (Γ₁ : Scope) (L : List ℕ) (X : List Entry) (Θ : StackShape) (P : List State) → open_states h.past ≡ P →
+      lookup x E ≡ some (closure fs b F) → EnvironmentTyped W F Γ₁ → BlockOk (with_formals fs Γ₁) b → SmallBlock b → length fs ≡ k →
+      ControlTyped a C Γ Θ → (m : MatchTyped r fs X F E W L Γ₁ (calling p Θ) P) →
       Progress a r (state (mark (call_mark p x k) ∷ C) X E S L n) h
-  enter_step p x k own fs b F Γ₁ L X Θ P pending found ok small counted control m =
+  enter_step p x k fs b F Γ₁ L X Θ P pending found closed ok small counted control m =
       let called = calling_open m.rest_typed in
       record {
         rule = Rules.mark-Call;
         effect = _;
-        applies = Rules.call_at found (subst (λ j. match_formals j fs X (with_own_name own fs b F) ≡ some m.matched) counted m.matches);
+        applies = Rules.call_at found (subst (λ j. match_formals j fs X F ≡ some m.matched) counted m.matches);
         cells_before = tt;
         next = record {
           invariant =
@@ -176,9 +175,8 @@ module _ (a : Passed) (r : ℕ) (C : List Item) (E : Environment) (S : Store) (n
   closure_step : (p x k : ℕ) (fs : List Formal) (b : Bindable) (L : List ℕ) (X : List Entry) (Θ : StackShape) (P : List State) → open_states h.past ≡ P →
       lookup x E ≡ some b → BindableTyped W b (function fs) → length fs ≡ k → ControlTyped a C Γ Θ → ValuesTyped r E W L X (actuals fs (calling p Θ)) P →
       Progress a r (state (mark (call_mark p x k) ∷ C) X E S L n) h
-  closure_step p x k fs b L X Θ P pending found (closure_typed {own = own} {b = body} {F = F} Γ₁ closed ok small) counted control values =
-      enter_step p x k own fs body F (with_own_meaning own fs Γ₁) L X Θ P pending found ok small counted control
-      (match_typed fs (with_own_name own fs body F) (own_name_typed own fs Γ₁ closed ok small) values)
+  closure_step p x k fs b L X Θ P pending found (closure_typed {b = body} {F = F} Γ₁ closed ok small) counted control values =
+      enter_step p x k fs body F Γ₁ L X Θ P pending found closed ok small counted control (match_typed fs F closed values)
 
   pub call_step : (p x k : ℕ) (fs : List Formal) (L : List ℕ) (X : List Entry) (Θ : StackShape) (P : List State) → open_states h.past ≡ P →
       meaning_of x Γ ≡ some (function fs) → length fs ≡ k → ControlTyped a C Γ Θ → ValuesTyped r E W L X (actuals fs (calling p Θ)) P →

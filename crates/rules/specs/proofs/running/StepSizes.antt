@@ -4,7 +4,7 @@ use Rattle.std.specs.Prelude.{ℕ, suc, ◌≤◌, ◌≡◌, refl, Bool, true, 
 use Rattle.std.proofs.Common.{ap, arith}
 use Rattle.rules.specs.paper.Integers.{Result, number, failed, compute}
 use Rattle.rules.specs.paper.States.{Value, Environment, Cell, Store, store_at, Entry, val, integer, Mark, operator_mark, not_mark, assign_mark, loop_mark, conditional_mark, ref_mark, bind_mark, dseq_extend_mark, dseq_join_mark, extend_mark, leave_mark, call_mark, Item, expression, command, declaration, reference, abstraction, mark, State, state, control_of, values_of, store_of, bindings_of}
-use Rattle.rules.specs.paper.Rules.{Rule, Effect, goes, fails, pushed, Table, num, boo, id_plain, id_cell, deref, valref, binary, negation, arithmetic_at, equal_at, order_at, logic_at, not_at, assign, assign_at, loop, conditional, cseq, ref, bind, rbnd, abs, dseq, blk, call}
+use Rattle.rules.specs.paper.Rules.{Rule, Effect, goes, fails, pushed, Table, num, boo, id_plain, id_cell, deref, valref, binary, negation, arithmetic_at, equal_at, order_at, logic_at, not_at, assign, assign_at, loop, conditional, cseq, ref, bind, abs, dseq, blk, call}
 
 -- ---- At a node.
 
@@ -13,7 +13,7 @@ IsNode (expression e) = Unit {0}
 IsNode (command c) = Unit {0}
 IsNode (declaration d) = Unit {0}
 IsNode (reference p e) = Unit {0}
-IsNode (abstraction p own fs b) = Unit {0}
+IsNode (abstraction p fs b) = Unit {0}
 IsNode (mark k) = ⊥
 
 -- No more live cells and bindings than before.
@@ -40,7 +40,6 @@ module _ (C : List Item) (E : Environment) (S : Store) (L : List ℕ) (n : ℕ) 
   node_keeps_memory cseq t = kept
   node_keeps_memory ref t = kept
   node_keeps_memory bind t = kept
-  node_keeps_memory rbnd t = kept
   node_keeps_memory abs t = kept
   node_keeps_memory dseq t = kept
   node_keeps_memory blk t = kept

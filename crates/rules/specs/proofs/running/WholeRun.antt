@@ -40,7 +40,7 @@ step_of a r i C X E S L n h Γ Θ W P p t e s v (expression_typed {e = x} {c = c
 step_of a r i C X E S L n h Γ Θ W P p t e s v (command_typed {c = c} g u k) = command_step a r C X E S L n h Γ Θ W P e s v t p c g u k
 step_of a r i C X E S L n h Γ Θ W P p t e s v (declaration_typed {d = d} {Δ = Δ} g u w k) = declaration_step a r C X E S L n h Γ Θ W P e s v t p d Δ g u w k
 step_of a r i C X E S L n h Γ Θ W P p t e s v (reference_typed {p = q} {c = c} {e = x} g u w k) = reference_step a r C X E S L n h Γ Θ W P e s v t p q c x g u w k
-step_of a r i C X E S L n h Γ Θ W P p t e s v (abstraction_typed {p = q} {own = o} {fs = fs} {b = b} g u k) = abstraction_step a r C X E S L n h Γ Θ W P e s v t p q o fs b g u k
+step_of a r i C X E S L n h Γ Θ W P p t e s v (abstraction_typed {p = q} {fs = fs} {b = b} g u k) = abstraction_step a r C X E S L n h Γ Θ W P e s v t p q fs b g u k
 step_of a r i C X E S L n h Γ Θ W P p t e s v (operator_mark_typed {o = o} {c₁ = c₁} {c₂ = c₂} {c = c} {Θ = Φ} g k) = operator_step a r C E S L n h Γ W P e s t p o c₁ c₂ c X Φ g k v
 step_of a r i C X E S L n h Γ Θ W P p t e s v (not_mark_typed {Θ = Φ} k) = not_step a r C E S L n h Γ W P e s t p X Φ k v
 step_of a r i C X E S L n h Γ Θ W P p t e s v (assign_mark_typed {x = x} {c = c} {Θ = Φ} l q k) = assign_step a r C E S L n h Γ W P e s t p x c X Φ l q k v
@@ -90,7 +90,6 @@ mutual
   small_declaration : {d i j : ℕ} {c : Declaration} → ShapedDeclaration d i j c → SmallDeclaration c
   small_declaration (Shape.bind x h) = small_bound h
   small_declaration (Shape.dseq h g) = (small_declaration h, small_declaration g)
-  small_declaration (Shape.rbnd x l f h) = small_block h
 
   small_bound : {d i j : ℕ} {b : Bound} → ShapedBound d i j b → SmallBound b
   small_bound (Shape.plain_of h) = small_expression h

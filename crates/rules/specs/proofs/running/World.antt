@@ -5,10 +5,9 @@ use Rattle.std.proofs.Common.{sym, ap, ◌∙◌, subst, arith, le_of_suc-le-suc
 use Rattle.std.proofs.Math.Option.{Option, none, some, some-injective}
 use Rattle.std.proofs.Math.Dec.{eqb_refl}
 use Rattle.rules.specs.proofs.Basics.{missing, passed_test, true_test, false_test}
-use Rattle.rules.specs.paper.Tree.{Expression, Num, Boo, Id, DeRef, ValRef, Binary, Not, Formal, Command, Assign, Loop, CSeq, block, Call, Cond, Block, Blk, Declaration, Bind, DSeq, Rbnd, Bound, plain, Ref, Abs}
+use Rattle.rules.specs.paper.Tree.{Expression, Num, Boo, Id, DeRef, ValRef, Binary, Not, Formal, Command, Assign, Loop, CSeq, block, Call, Cond, Block, Blk, Declaration, Bind, DSeq, Bound, plain, Ref, Abs}
 use Rattle.rules.specs.paper.Limits.{words}
-use Rattle.rules.specs.paper.Checker.{Meaning, code, function, Named, Scope, meaning_of, own_name, with_formals}
-use Rattle.rules.specs.paper.Rules.{with_own_name}
+use Rattle.rules.specs.paper.Checker.{Meaning, code, function, Named, Scope, meaning_of, with_formals}
 use Rattle.rules.specs.claims.Typing.{BlockOk}
 use Rattle.rules.specs.paper.Integers.{in_range}
 use Rattle.rules.specs.paper.States.{Value, integer, truth, location, Bindable, value, closure, Environment, empty, bound, lookup, join, Store, find, store_at, live_cells}
@@ -43,7 +42,6 @@ abbrev mutual
   pub SmallDeclaration : Declaration → Type 0
   SmallDeclaration (Bind p x b) = SmallBound b
   SmallDeclaration (DSeq p d e) = SmallDeclaration d × SmallDeclaration e
-  SmallDeclaration (Rbnd p x q fs b) = SmallBlock b
 
   pub SmallBound : Bound → Type 0
   SmallBound (plain e) = SmallExpression e
@@ -100,11 +98,6 @@ value_plain U h (location_typed q) = absurd (not-suc-le-zero (le_of_suc-le-suc (
 
 -- ---- Typed environments: pointwise, in the order of the scope.
 
--- What a function's Formals are added to: the scope around it, with its own name where it knows it.
-abbrev pub with_own_meaning : (own : Option ℕ) → List Formal → Scope → Scope
-with_own_meaning none fs Γ = Γ
-with_own_meaning (some x) fs Γ = own_name x fs ∷ Γ
-
 mutual
   pub data EnvironmentTyped (W : World) : Environment → Scope → Type 0 where
     no_names : EnvironmentTyped W empty []
@@ -113,8 +106,8 @@ mutual
 
   pub data BindableTyped (W : World) : Bindable → Meaning → Type 0 where
     value_typed : {v : Value} {c : ℕ} → ValueTyped W v c → BindableTyped W (value v) (code c)
-    closure_typed : {own : Option ℕ} {fs : List Formal} {b : Block} {F : Environment} (Γ : Scope) →
-        EnvironmentTyped W F Γ → BlockOk (with_formals fs (with_own_meaning own fs Γ)) b → SmallBlock b → BindableTyped W (closure own fs b F) (function fs)
+    closure_typed : {fs : List Formal} {b : Block} {F : Environment} (Γ : Scope) →
+        EnvironmentTyped W F Γ → BlockOk (with_formals fs Γ) b → SmallBlock b → BindableTyped W (closure fs b F) (function fs)
 
 mutual
   pub environment_older : {W : World} {E : Environment} {Γ : Scope} → EnvironmentTyped W E Γ → (d : ℕ) → EnvironmentTyped (d ∷ W) E Γ
@@ -124,12 +117,6 @@ mutual
   pub bindable_older : {W : World} {b : Bindable} {m : Meaning} → BindableTyped W b m → (d : ℕ) → BindableTyped (d ∷ W) b m
   bindable_older (value_typed h) d = value_typed (value_older d h)
   bindable_older (closure_typed Γ F h s) d = closure_typed Γ (environment_older F d) h s
-
--- A closure's environment with its own name, where it knows it.
-pub own_name_typed : {W : World} {b : Block} {F : Environment} (own : Option ℕ) (fs : List Formal) (Γ : Scope) → EnvironmentTyped W F Γ →
-    BlockOk (with_formals fs (with_own_meaning own fs Γ)) b → SmallBlock b → EnvironmentTyped W (with_own_name own fs b F) (with_own_meaning own fs Γ)
-own_name_typed none fs Γ closed ok small = closed
-own_name_typed (some x) fs Γ closed ok small = one_name {n = own_name x fs} refl (closure_typed Γ closed ok small) closed
 
 -- A name in scope is bound to what its meaning says.
 pub record BoundAs (W : World) (E : Environment) (x : ℕ) (m : Meaning) : Type 0 where

@@ -14,13 +14,13 @@ fn family(family: Family, count: u64) -> Tally {
 #[test]
 fn small() {
     let tally = family(Family::Small, 700);
-    reaches(&tally, &[0, 1, 2, 3, 4, 5, 20, 21, 22, 30, 32], 5);
+    reaches(&tally, &[0, 1, 2, 3, 4, 5, 20, 21, 22, 30, 31, 32], 5);
 }
 
 #[test]
 fn medium() {
     let tally = family(Family::Medium, 300);
-    reaches(&tally, &[0, 1, 2, 20, 21, 22, 30, 32], 2);
+    reaches(&tally, &[0, 1, 2, 20, 21, 22, 30, 31, 32], 2);
 }
 
 #[test]
@@ -51,12 +51,6 @@ fn choices() {
 fn functions() {
     let tally = family(Family::Functions, 200);
     reaches(&tally, &[0, 1, 2, 10, 14, 20, 21, 22, 30], 5);
-}
-
-#[test]
-fn recursion() {
-    let tally = family(Family::Recursion, 300);
-    reaches(&tally, &[0, 1, 2, 10, 11, 12, 14, 20, 21, 22, 30, 35], 2);
 }
 
 #[test]

@@ -1,6 +1,5 @@
-//! Every change of one word in the paper's images, one with Conds and one with functions that
-//! call themselves, every image with one node taken out, doubled or moved, and every beginning
-//! of an image.
+//! Every change of one word in the paper's images and one with Conds, every image with
+//! one node taken out, doubled or moved, and every beginning of an image.
 
 use crate::changes;
 use crate::helpers::{agreed, images_to_change};

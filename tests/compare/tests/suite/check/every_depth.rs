@@ -17,7 +17,6 @@ const BLK: (u32, u32) = (23, 0);
 const COND: (u32, u32) = (25, 0);
 const BIND: (u32, u32) = (30, 0);
 const DSEQ: (u32, u32) = (31, 0);
-const RBND: (u32, u32) = (32, 0);
 const REF: (u32, u32) = (40, 0);
 
 /// The nodes before a place at this depth, for each sort of place: as many of the
@@ -26,7 +25,7 @@ fn before(depth: usize) -> Vec<Nodes> {
     let abs = |count: u32| (41, count);
     let call = |count: u32| (24, 64 * count);
     let formal = |name: u32| (42, name);
-    let ways: [((u32, u32), Nodes, Nodes); 23] = [
+    let ways: [((u32, u32), Nodes, Nodes); 19] = [
         (NOT, vec![], vec![]),
         (NOT, vec![SUM], vec![NUM]),
         (CSEQ, vec![], vec![]),
@@ -46,10 +45,6 @@ fn before(depth: usize) -> Vec<Nodes> {
         (CSEQ, vec![BLK, BIND, abs(0)], vec![]),
         (CSEQ, vec![BLK, BIND, abs(3)], vec![formal(1), formal(2)]),
         (CSEQ, vec![BLK, BIND, abs(0), BLK], vec![]),
-        (CSEQ, vec![BLK, RBND], vec![]),
-        (CSEQ, vec![BLK, RBND, abs(0)], vec![]),
-        (CSEQ, vec![BLK, RBND, abs(3)], vec![formal(1), formal(2)]),
-        (CSEQ, vec![BLK, RBND, abs(0), BLK], vec![]),
     ];
     let reaches = |(first, above, beside): ((u32, u32), Nodes, Nodes)| {
         let count = (depth - 1).checked_sub(above.len())?;

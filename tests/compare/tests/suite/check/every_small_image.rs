@@ -1,5 +1,5 @@
-//! Every image of no node, of one, two and three, as far as kinds go, of four that start with
-//! a Cond, and of five that start with an Rbnd in a Blk; operands at the ends of each range.
+//! Every image of no node, of one, two and three, as far as kinds go, and of four that
+//! start with a Cond; operands at the ends of each range.
 
 use crate::helpers::{agreed, without_nodes};
 use second::generate::random::Random;
@@ -67,19 +67,6 @@ fn three_nodes() {
     let random = &mut Random::new(3);
     for kinds in every_three() {
         agreed(&image(1, &kinds.map(|kind| (kind, 0))), random);
-    }
-}
-
-/// An Rbnd and what stands below it and behind it, with a count of Formals or without.
-#[test]
-fn an_rbnd_and_three_nodes() {
-    let random = &mut Random::new(6);
-    for kinds in every_three() {
-        for count in [0, 1] {
-            let [child, second, third] = kinds.map(|kind| (kind, 0));
-            let nodes = [(23, 0), (32, 1), (child.0, count), second, third];
-            agreed(&image(1, &nodes), random);
-        }
     }
 }
 

@@ -53,12 +53,6 @@ fn functions() {
 }
 
 #[test]
-fn recursion() {
-    let tally = family(Family::Recursion, 3_000);
-    reaches(&tally, &[0, 5, 10, 11, 12, 14], 5);
-}
-
-#[test]
 fn limits() {
     let tally = family(Family::Limits, 2_000);
     reaches(&tally, &[0, 2, 6, 22], 50);

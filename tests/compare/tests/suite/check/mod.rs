@@ -9,6 +9,5 @@ mod every_type;
 mod families;
 mod no_routine;
 mod paper;
-mod recursion;
 mod sequences;
 mod work_words;

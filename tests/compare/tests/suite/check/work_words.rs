@@ -20,7 +20,6 @@ fn every_answer() -> Vec<(Answer, Vec<u32>)> {
     let repeated = blk(bind_abs(1, &[(2, 0), (2, 0)], unnamed()), call(1, vec![]));
     let both = |first, second| blk(dseq(first, second), assign(0, num(0)));
     let twice = both(bind(1, num(1)), bind(1, id(1)));
-    let recursive = |command| blk(rbnd(1, &[], block(bind(2, num(0)), command)), assign(0, num(0)));
     all.extend([
         (Answer::Code(1), image(0, boo(true))),
         (Answer::Code(2), image(1, deref(0))),
@@ -51,9 +50,6 @@ fn every_answer() -> Vec<(Answer, Vec<u32>)> {
         (refused(10, 4), image(1, cond(boo(true), assign(0, num(1)), assign(1, num(2))))),
         (refused(4, 0), vec![4, 0, 25, 2, 24, 24, 1, 1, 0, 0]),
         (refused(5, 3), vec![3, 0, 25, 2, 24, 0, 1, 0]),
-        (Answer::Command, image(1, recursive(call(1, vec![])))),
-        (refused(14, 6), image(1, recursive(call(1, vec![num(1)])))),
-        (refused(5, 2), vec![5, 1, 23, 32, 1, 20, 1, 0, 5, 1, 0, 1]),
         (refused(13, 3), image(1, blk(bind(1, num(0)), assign(1, num(0))))),
         (refused(14, 3), image(1, blk(bind(1, num(0)), call(1, vec![])))),
     ]);

@@ -1,6 +1,5 @@
-//! Every change of one word in the paper's images, one with Conds, one with functions in
-//! functions and one with functions that call themselves, and every image with one node taken
-//! out, doubled or moved.
+//! Every change of one word in the paper's images, one with Conds and one with functions in
+//! functions, and every image with one node taken out, doubled or moved.
 
 use crate::changes;
 use crate::helpers::*;

@@ -69,14 +69,6 @@ fn functions() {
     assert!(tally.said(NOT_KNOWN) <= 10, "{}", tally.text());
 }
 
-/// Needs are known of no image with an Rbnd; a change may have left it without.
-#[test]
-fn recursion() {
-    let tally = family(Family::Recursion, 2_000);
-    reaches(&tally, &[45], 1_000);
-    reaches(&tally, &[5, 10, 11, 12, 14, 22], 5);
-}
-
 #[test]
 fn limits() {
     let tally = family(Family::Limits, 1_500);

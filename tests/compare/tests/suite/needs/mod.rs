@@ -4,6 +4,5 @@ mod differences;
 mod every_change;
 mod families;
 mod numbers;
-mod recursion;
 mod runs;
 mod work_words;

@@ -1,6 +1,6 @@
-//! Every change of one word in the paper's images, one with Conds and one with functions that
-//! call themselves, and every image with one node taken out, doubled or moved; each in a lent
-//! page as long as its lines and in one a byte shorter.
+//! Every change of one word in the paper's images and one with Conds, and every image with
+//! one node taken out, doubled or moved; each in a lent page as long as its lines and in one a
+//! byte shorter.
 
 use crate::changes;
 use crate::helpers::images_to_change;

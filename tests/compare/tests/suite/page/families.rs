@@ -49,11 +49,6 @@ fn functions() {
 }
 
 #[test]
-fn recursion() {
-    reaches(&family(Family::Recursion, 1_500), &[0, 5, 10, 11, 12, 14, 22, 41], 10);
-}
-
-#[test]
 fn limits() {
     reaches(&family(Family::Limits, 600), &[0, 2, 6, 22, 41], 20);
 }

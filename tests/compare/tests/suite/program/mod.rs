@@ -7,7 +7,6 @@ mod families;
 mod inputs;
 mod no_routine;
 mod paper;
-mod recursion;
 mod refusals;
 mod streams;
 mod whole;

@@ -1,5 +1,5 @@
-//! Every change of one word in the paper's images and in some with Conds, functions, those that
-//! call themselves too, and locations, and every image with one node taken out, doubled or moved.
+//! Every change of one word in the paper's images and in some with Conds, functions and
+//! locations, and every image with one node taken out, doubled or moved.
 
 use crate::changes;
 use crate::helpers::*;

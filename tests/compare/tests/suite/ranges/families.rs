@@ -70,13 +70,6 @@ fn functions() {
 }
 
 #[test]
-fn recursion() {
-    let tally = family(Family::Recursion, 800);
-    reaches(&tally, &[45], 2_000);
-    reaches(&tally, &[5, 10, 11, 12, 14, 22], 5);
-}
-
-#[test]
 fn limits() {
     reaches(&family(Family::Limits, 500), &[0, 2, 6, 20, 22, 33, 34, 35, 36, 42, 43], 5);
 }

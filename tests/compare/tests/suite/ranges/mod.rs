@@ -7,5 +7,4 @@ mod families;
 mod lengths;
 mod no_routine;
 mod numbers;
-mod recursion;
 mod work_words;

@@ -1,5 +1,5 @@
-//! Every change of one word in the paper's images, one with Conds and one with functions that
-//! call themselves, run: what still passes is run by other rules than the image before.
+//! Every change of one word in the paper's images and one with Conds, run: what still
+//! passes is run by other rules than the image before.
 
 use crate::helpers::{agreed_run, images_to_change, with_starts};
 use second::generate::random::Random;

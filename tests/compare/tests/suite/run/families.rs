@@ -54,12 +54,6 @@ fn functions() {
 }
 
 #[test]
-fn recursion() {
-    let tally = family(Family::Recursion, 1_000);
-    reaches(&tally, &[0, 5, 10, 11, 12, 14, 30, 31, 32, 33, 34, 35, 36], 2);
-}
-
-#[test]
 fn divisions() {
     let tally = family(Family::Divisions, 3_000);
     reaches(&tally, &[0, 20, 21, 22, 30, 31, 32], 50);

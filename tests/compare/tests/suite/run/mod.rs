@@ -15,8 +15,6 @@ mod loops;
 mod marks;
 mod no_routine;
 mod paper;
-mod recursion;
-mod recursion_limits;
 mod sequence_limits;
 mod sequences;
 mod towers;

@@ -10,7 +10,6 @@ use compare::run::{as_words, reply_of};
 use second::build::*;
 use second::encode;
 use second::engine::{MOST_BUDGET, WORK_WORDS};
-use second::generate::descent::Descent;
 use second::generate::limits::with_nodes;
 use second::generate::random::Random;
 use second::generate::tower::{Layer, Tower};
@@ -41,11 +40,6 @@ fn choice_reaching(values: usize, control: usize) -> Vec<u32> {
     let choice = cond(lt(id(0), num(9)), assign(0, num(8)), assign(0, num(9)));
     let inner = cseq(assign(0, num(7)), choice);
     encode(&Tower::reaching(values, control, 11, inner).routine())
-}
-
-/// A function that calls itself.
-fn descent(descent: Descent) -> Vec<u32> {
-    encode(&descent.routine())
 }
 
 /// A call for each answer a run has, with the refusal's number or 0.
@@ -89,11 +83,6 @@ fn every_answer() -> Vec<(u32, Case)> {
         (36, sequence_reaching(100, 507)),
         (35, choice_reaching(510, 400)),
         (36, choice_reaching(100, 511)),
-        (0, descent(Descent::to(126, assign(0, num(7))))),
-        (33, descent(Descent { plain: 0, cells: 3, ..Descent::to(200, assign(0, num(7))) })),
-        (34, descent(Descent { plain: 4, ..Descent::to(200, assign(0, num(7))) })),
-        (35, descent(Descent::to(200, assign(0, num(7))))),
-        (36, descent(Descent { sequences: 4, ..Descent::to(200, assign(0, num(7))) })),
         (35, call_with_full_values(508)),
         (36, call_with_full_values(509)),
     ];
