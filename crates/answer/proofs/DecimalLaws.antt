@@ -10,7 +10,7 @@ use Rattle.answer.specs.Sizes.{number_bytes, integer_bytes}
 use Rattle.io.specs.Digits.{hex_digit_ascii, last_digits, IsDigitCount}
 use Rattle.integers.specs.Words.{integer_of}
 use Rattle.integers.specs.WordLaws.{integer_low, integer_high}
-use Rattle.rules.specs.proofs.Basics.{by_order}
+use Rattle.rules.proofs.Basics.{by_order}
 use Rattle.rules.specs.paper.Decimal.{ascii, digit, digits_within, decimal, integer}
 use Rattle.answer.specs.Writing.{Put, PutWithin}
 use Rattle.answer.proofs.PutLaws.{within, within_then, within_as}

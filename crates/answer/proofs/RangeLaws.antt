@@ -19,7 +19,7 @@ use Rattle.rules.specs.paper.HighMarks.{high_marks}
 use Rattle.rules.specs.claims.History.{History, Reach}
 use Rattle.rules.specs.claims.Claim.{AllInRange}
 use Rattle.rules.specs.claims.Ends.{EndsWell, normally, withheld_for, RegisterHolds, RangedValues, StateFacts}
-use Rattle.rules.specs.proofs.running.RunEnds.{run_ends, state_facts}
+use Rattle.rules.proofs.running.RunEnds.{run_ends, state_facts}
 use Rattle.rules.specs.paper.Engine.{Checked, turned_back, passed, check_image, number, truth_of, cell, nothing, outcome_of, as_register, registers_from, Answer, outcome, refused, Called, cleared, refusing, finish, start, run_checked, engine}
 use Rattle.integers.specs.Words.{integers_of, words_of}
 use Rattle.integers.specs.WordLaws.{integer_of_word}

@@ -1,4 +1,6 @@
 // From the bytes of standard input to the bytes of standard output: what the input is, the run, and the answer's lines.
+#![tactic(auto)]
+
 mod input;
 mod lines;
 mod text;

@@ -1,4 +1,6 @@
 // The automaton: one step, and the run.
+#![tactic(auto)]
+
 pub mod ends;
 mod marks;
 pub mod meter;
@@ -9,7 +11,7 @@ ghost use Rattle.rules.specs.paper.Checker.{Passed};
 ghost use Rattle.rules.specs.paper.States.{State, Item, Entry, Environment, Store};
 ghost use Rattle.rules.specs.paper.Rules.{Rule, Effect, Table};
 ghost use Rattle.rules.specs.claims.History.{History};
-ghost use Rattle.rules.specs.proofs.running.Continuation.{Invariant};
+ghost use Rattle.rules.proofs.running.Continuation.{Invariant};
 ghost use Rattle.rules.specs.paper.Run.{run, judge};
 ghost use Rattle.rules.specs.paper.HighMarks.{high_marks};
 ghost use Rattle.machine.specs.Steps.{Holds};

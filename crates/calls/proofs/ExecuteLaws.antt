@@ -11,11 +11,11 @@ use Rattle.rules.specs.paper.Run.{Ending, ended, stopped, lost, run}
 use Rattle.rules.specs.paper.HighMarks.{high_marks}
 use Rattle.rules.specs.claims.History.{History, first_history, Reach}
 use Rattle.rules.specs.claims.Ends.{EndsWell, normally, withheld_for, RegisterHolds}
-use Rattle.rules.specs.proofs.running.Continuation.{Invariant}
-use Rattle.rules.specs.proofs.running.WholeRun.{start_invariant}
-use Rattle.rules.specs.proofs.running.RunEnds.{run_ends, state_facts}
+use Rattle.rules.proofs.running.Continuation.{Invariant}
+use Rattle.rules.proofs.running.WholeRun.{start_invariant}
+use Rattle.rules.proofs.running.RunEnds.{run_ends, state_facts}
 use Rattle.rules.specs.paper.Engine.{check_image, passed, start, registers_from}
-use Rattle.rules.specs.proofs.checking.ImageExact.{check_exact}
+use Rattle.rules.proofs.checking.ImageExact.{check_exact}
 use Rattle.integers.specs.Words.{integers_of, words_of}
 use Rattle.integers.specs.WordLaws.{integers_length}
 use Rattle.machine.specs.Steps.{Holds, Untouched}

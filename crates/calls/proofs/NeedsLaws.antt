@@ -6,14 +6,14 @@ use mathlib.Core.List.{List}
 use native.Mathlib.Omega.{arith}
 use lib.Dec.{ltb, ltb→lt, lt→ltb}
 use lib.ListN.{length}
-use Rattle.rules.specs.proofs.Basics.{true_test, false_test}
+use Rattle.rules.proofs.Basics.{true_test, false_test}
 use Rattle.rules.specs.paper.Refusals.{refusal_number}
 use Rattle.rules.specs.paper.Limits.{most_registers, most_steps, work_words}
 use Rattle.rules.specs.paper.Tree.{Root}
 use Rattle.rules.specs.paper.Needs.{control, values, cells, bindings, routine_need}
 use Rattle.rules.specs.paper.Engine.{check_image, cleared, figures_of, needs_answer, needs}
-use Rattle.rules.specs.proofs.checking.ImageExact.{check_exact}
-use Rattle.rules.specs.proofs.needs.RoomBounds.{figures_small}
+use Rattle.rules.proofs.checking.ImageExact.{check_exact}
+use Rattle.rules.proofs.needs.RoomBounds.{figures_small}
 use Rattle.reader.specs.Put.{KeptBeyond}
 use Rattle.reader.specs.Stored.{RootAt}
 use Rattle.reader.specs.StoredLaws.{same_root}

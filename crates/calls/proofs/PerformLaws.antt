@@ -5,7 +5,7 @@ use mathlib.Core.List.{List, [], ◌∷◌}
 use mathlib.Core.Option.{Option, none, some, some-injective, map}
 use native.Mathlib.Omega.{arith}
 use lib.ListN.{length, get_or}
-use Rattle.rules.specs.proofs.Basics.{missing}
+use Rattle.rules.proofs.Basics.{missing}
 use Rattle.rules.specs.paper.Refusals.{Reason, reason_number, refusal_number}
 use Rattle.rules.specs.paper.Tree.{Root}
 use Rattle.rules.specs.claims.Listing.{truth_word}

@@ -19,10 +19,10 @@ use Rattle.rules.specs.paper.Engine.{check_image, passed, cleared}
 use Rattle.rules.specs.paper.Carried.{Carrying, carried, unsafe, unfit}
 use Rattle.rules.specs.paper.Carrying.{CarriedCells, carry_routine}
 use Rattle.rules.specs.paper.Ranges.{RangesCalled, no_ranges, carried_ranges, limits_cross, room_refusal, with_room, ranges_of, ranges_checked, ranges}
-use Rattle.rules.specs.proofs.Basics.{missing}
-use Rattle.rules.specs.proofs.needs.RoomBounds.{figures_small}
-use Rattle.rules.specs.proofs.checking.ImageExact.{check_exact}
-use Rattle.rules.specs.proofs.ranges.Fitting.{carrying_fits}
+use Rattle.rules.proofs.Basics.{missing}
+use Rattle.rules.proofs.needs.RoomBounds.{figures_small}
+use Rattle.rules.proofs.checking.ImageExact.{check_exact}
+use Rattle.rules.proofs.ranges.Fitting.{carrying_fits}
 use Rattle.integers.specs.Words.{integers_of}
 use Rattle.integers.specs.WordLaws.{integers_length, words_back}
 use Rattle.reader.specs.Put.{KeptBeyond}

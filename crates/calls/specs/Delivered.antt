@@ -6,13 +6,13 @@ use borrow.Author.Tests.{le-ltb, le-leb, eq-eqb}
 use Rattle.rules.specs.paper.Limits.{most_budget, work_words}
 use Rattle.rules.specs.paper.Run.{Ending, ended, stopped, run}
 use Rattle.rules.specs.paper.HighMarks.{high_marks}
-use Rattle.rules.specs.proofs.needs.HighMarks.{high_marks_are_most, replies_within_needs}
+use Rattle.rules.proofs.needs.HighMarks.{high_marks_are_most, replies_within_needs}
 use Rattle.rules.specs.paper.Needs.{Figure, control, values, cells, bindings, sizes}
 use Rattle.rules.specs.paper.Engine.{start, cleared, number, truth_of, cell, nothing, Answer, outcome, refused, finish, engine, MostSteps, given, left_open, NeedsAnswer, figures, no_figures, needs}
 use Rattle.rules.specs.claims.Claim.{AllInRange}
 use Rattle.rules.specs.claims.Ends.{EndsWell, normally, withheld_for}
-use Rattle.rules.specs.proofs.running.WholeRun.{whole_run}
-use Rattle.rules.specs.proofs.running.RunEnds.{run_ends}
+use Rattle.rules.proofs.running.WholeRun.{whole_run}
+use Rattle.rules.proofs.running.RunEnds.{run_ends}
 use Rattle.integers.specs.Words.{integers_of, words_of}
 use Rattle.integers.specs.WordLaws.{integer_in_range, integers_length}
 use Rattle.automaton.specs.Runs.{marks_of}

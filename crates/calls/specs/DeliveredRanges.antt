@@ -7,8 +7,8 @@ use Rattle.rules.specs.paper.Engine.{number, truth_of, cell, nothing, Outcome, A
 use Rattle.rules.specs.paper.Ranges.{RangesAnswer, ends_given, no_ends}
 use Rattle.rules.specs.claims.Claim.{AllInRange}
 use Rattle.rules.specs.claims.Ranges.{Within}
-use Rattle.rules.specs.proofs.ranges.RootRuns.{starts_in_range}
-use Rattle.rules.specs.proofs.ranges.RangesHold.{replies_within_ranges}
+use Rattle.rules.proofs.ranges.RootRuns.{starts_in_range}
+use Rattle.rules.proofs.ranges.RangesHold.{replies_within_ranges}
 use Rattle.integers.specs.Words.{integer_of, word_of, integers_of, words_of}
 use Rattle.integers.specs.WordLaws.{by_sign, integer_low, integer_high, integer_of_word}
 use Rattle.automaton.specs.Runs.{marks_of}

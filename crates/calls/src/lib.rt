@@ -1,4 +1,6 @@
 // The engine's five calls: the checker alone, the needs alone, the ranges, the annex page, and the run.
+#![tactic(auto)]
+
 mod estimate;
 mod limits;
 mod perform;

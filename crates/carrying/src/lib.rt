@@ -1,5 +1,7 @@
 // What carrying a routine over the registers' limits rests on: names and cells in the work words, and expressions, declarations and calls over them,
 // from the reader's answers alone.
+#![tactic(auto)]
+
 pub mod cells;
 pub mod declarations;
 pub mod expressions;

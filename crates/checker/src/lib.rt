@@ -1,4 +1,6 @@
 // Scope and types of an image that was read: what its root is.
+#![tactic(auto)]
+
 mod commands;
 mod formals;
 

@@ -1,4 +1,6 @@
 // The rules of commands and declarations, and of their marks.
+#![tactic(auto)]
+
 pub mod choices;
 pub mod declarations;
 pub mod marks;

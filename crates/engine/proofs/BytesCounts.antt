@@ -10,7 +10,7 @@ use lib.ListN.{length, take, drop, set, length-append, length-drop, length-set}
 use lib.Seq.{length-take-le, take_at}
 use borrow.Author.Tests.{ltb-false}
 use Rattle.calls.specs.Sizes.{most_image_words}
-use Rattle.rules.specs.proofs.Basics.{passed_test, and_right}
+use Rattle.rules.proofs.Basics.{passed_test, and_right}
 use Rattle.little_endian.specs.Numbers.{numbers}
 use Rattle.little_endian.specs.NumberLaws.{numbers_length}
 use Rattle.engine.specs.Bytes.{whole, image_count, image_of_bytes}

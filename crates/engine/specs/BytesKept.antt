@@ -3,7 +3,7 @@ use Rattle.std.specs.Prelude.{ℕ, ◌+◌, ◌*◌, ◌/◌, ◌%◌, ◌≡◌
 use Rattle.std.proofs.Common.{sym, ap, ◌∙◌, arith, zero-add, eqb→eq}
 use Rattle.std.proofs.Math.Nat.{mod-add-div}
 use Rattle.rules.specs.paper.Limits.{most_registers}
-use Rattle.rules.specs.proofs.Basics.{passed_test, and_left}
+use Rattle.rules.proofs.Basics.{passed_test, and_left}
 use Rattle.integers.specs.Words.{integers_of, words_of}
 use Rattle.integers.specs.WordLaws.{words_back}
 use Rattle.little_endian.specs.Numbers.{numbers, bytes_of_words}

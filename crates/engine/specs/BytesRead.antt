@@ -11,8 +11,8 @@ use Rattle.rules.specs.paper.Tree.{Root}
 use Rattle.rules.specs.paper.Checker.{Passed}
 use Rattle.rules.specs.paper.Reader.{read, bad, size_fits}
 use Rattle.rules.specs.paper.Engine.{check_image, passed, run_checked, refusing}
-use Rattle.rules.specs.proofs.Basics.{append_nothing}
-use Rattle.rules.specs.proofs.checking.ImageExact.{check_exact}
+use Rattle.rules.proofs.Basics.{append_nothing}
+use Rattle.rules.proofs.checking.ImageExact.{check_exact}
 use Rattle.reader.specs.SizeLaws.{few_nodes}
 use Rattle.integers.specs.Words.{integers_of}
 use Rattle.integers.specs.WordLaws.{integers_length}

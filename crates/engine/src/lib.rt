@@ -1,5 +1,7 @@
 // The engine as a C host calls it: the checker alone, the needs alone and the run on words; in `annex`, the annex page; in `bytes`, the
 // checker and the run on bytes; in `limits`, the ranges of the registers.
+#![tactic(auto)]
+
 pub mod annex;
 pub mod bytes;
 pub mod limits;

@@ -8,7 +8,7 @@ use lib.ListN.{length, get_or}
 use Rattle.rules.specs.paper.Limits.{most_steps, most_parameters}
 use Rattle.rules.specs.paper.Tree.{Expression}
 use Rattle.rules.specs.paper.Needs.{sizes, over, expression_need, actuals_need}
-use Rattle.rules.specs.proofs.needs.NodeStretches.{expression_least}
+use Rattle.rules.proofs.needs.NodeStretches.{expression_least}
 use Rattle.reader.specs.Pack.{packed_end}
 use Rattle.reader.specs.Stored.{StoredActuals, no_actuals, one_actual}
 use Rattle.reader.specs.StandingLaws.{expression_end}

@@ -5,7 +5,7 @@ use mathlib.Core.List.{List, ◌∷◌, ◌++◌}
 use native.Mathlib.Omega.{arith}
 use lib.ListN.{length, get_or}
 use Rattle.rules.specs.paper.Limits.{most_nodes, names}
-use Rattle.rules.specs.proofs.Basics.{append_assoc}
+use Rattle.rules.proofs.Basics.{append_assoc}
 use Rattle.rules.specs.paper.Tree.{Expression, Formal, block, Block, Declaration, Bind, DSeq, Bound, plain, Ref, Abs}
 use Rattle.rules.specs.paper.Needs.{Needs, nothing, push_step, expression_need, over_formals, cells_left, bindings_left, bound_need, command_need, block_need, declaration_need, names_given, bound_function}
 use Rattle.reader.specs.KindNumbers.{bind_number, dseq_number, ref_number, abs_number}

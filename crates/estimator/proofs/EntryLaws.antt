@@ -10,7 +10,7 @@ use lib.Seq.{get_or-set_same, get_or-set_other}
 use Rattle.rules.specs.paper.Limits.{most_nodes, names}
 use Rattle.rules.specs.paper.Needs.{NameNeed, Needs, need_of}
 use Rattle.rules.specs.paper.Needs as Rules
-use Rattle.rules.specs.proofs.Basics.{true_test, false_test}
+use Rattle.rules.proofs.Basics.{true_test, false_test}
 use Rattle.reader.specs.StoredLaws.{SameNodes}
 use Rattle.estimator.specs.Figures.{numbers, figures}
 use Rattle.estimator.proofs.FigureLaws.{same_need}

@@ -1,4 +1,6 @@
 // The needs of a routine before it is loaded, from the reader's answers alone.
+#![tactic(auto)]
+
 mod commands;
 mod expressions;
 pub mod figures;

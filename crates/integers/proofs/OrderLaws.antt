@@ -3,7 +3,7 @@ use Rattle.std.proofs.Common.{◌≡◌, ℕ, ◌+◌, ◌-◌, ◌%◌, ◌^◌
 use lib.Signed.{lt_z}
 use Rattle.integers.specs.Words.{integer_of}
 use Rattle.integers.specs.WordLaws.{integer_low, integer_high, by_sign}
-use Rattle.rules.specs.proofs.Basics.{by_order}
+use Rattle.rules.proofs.Basics.{by_order}
 
 -- Two tests of order are one where they are of the same order.
 same_order : (a b p q : ℕ) → (a < b → p < q) → (b ≤ a → q ≤ p) → ltb p q ≡ ltb a b

@@ -4,7 +4,7 @@ use lib.IntN.{sub_ℕ}
 use Rattle.rules.specs.paper.Refusals.{reason_number}
 use Rattle.rules.specs.paper.Integers.{ranged}
 use Rattle.integers.specs.Words.{word_of, computed}
-use Rattle.rules.specs.proofs.Basics.{by_order}
+use Rattle.rules.proofs.Basics.{by_order}
 use Rattle.integers.specs.declared.Computed.TheVariants.{Number, Failed}
 
 pub kept_pos : (n w : ℕ) → n < 2 ^ 63 → w ≡ n → computed (ranged (pos n)) ≡ Number w

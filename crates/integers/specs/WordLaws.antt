@@ -5,7 +5,7 @@ use Rattle.std.specs.Prelude.{◌≡◌, ℕ, zero, suc, ◌-◌, ◌^◌, ◌<�
 use Rattle.std.proofs.Common.{sym, ap, ◌∙◌, subst, arith, ltb→lt, lt→ltb, lt-ltb, le-ltb, le-leb, eqb-true, eq-eqb}
 use Rattle.std.specs.Int.Signed.{lt_z, le_z}
 use Rattle.std.proofs.lemmas.Bool.{lt-leb}
-use Rattle.rules.specs.proofs.Basics.{by_order}
+use Rattle.rules.proofs.Basics.{by_order}
 use Rattle.rules.specs.paper.Refusals.{Reason, OutOfRange, reason_number}
 use Rattle.rules.specs.paper.Tree.{Arithmetic, Sum, Sub, Mul, Div, Lt, Le, Gt, Ge}
 use Rattle.rules.specs.paper.Integers.{Result, in_range, ranged, floor, divide, compute, number, failed, equal_integers, compare}

@@ -1,4 +1,6 @@
 // The arithmetic of the automaton: 64-bit integers, each held in one word by two's complement.
+#![tactic(auto)]
+
 ghost use Rattle.std.specs.Prelude.{◌≡◌, ◌<◌, int_lt, unsigned_abs};
 ghost use Rattle.rules.specs.paper.Tree.{Sum, Sub, Mul, Div};
 ghost use Rattle.rules.specs.paper.Integers.{compute, ranged};

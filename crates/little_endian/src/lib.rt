@@ -1,4 +1,6 @@
 // Numbers as bytes, least byte first: words of 4 bytes and values of 8, from bytes and back.
+#![tactic(auto)]
+
 ghost use Rattle.std.specs.Prelude.{◌≡◌, ◌+◌, ◌*◌, ◌≤◌, length, take, drop};
 ghost use Rattle.std.proofs.lemmas.List.Edits.{sets};
 ghost use Rattle.little_endian.specs.Numbers.{little_endian, numbers, bytes_of, bytes_of_words};

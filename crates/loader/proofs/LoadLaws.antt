@@ -11,7 +11,7 @@ use Rattle.rules.specs.paper.Tree.{Root}
 use Rattle.rules.specs.paper.Reader.{Reading, bad, image, read}
 use Rattle.rules.specs.claims.Listing.{root_nodes}
 use Rattle.rules.specs.claims.Image.{IsImage}
-use Rattle.rules.specs.proofs.reading.ReaderExact.{read_exact}
+use Rattle.rules.proofs.reading.ReaderExact.{read_exact}
 use Rattle.rules.specs.paper.Checker.{Judged, fault, fine, Passed, register_scope, root_is}
 use Rattle.rules.specs.paper.Engine.{check_image, check_reading, checked}
 use Rattle.reader.specs.Pack.{root_words}

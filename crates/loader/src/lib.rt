@@ -1,4 +1,6 @@
 // What every call of the engine begins and ends with: the image's tree is loaded into the work words, and they are cleared.
+#![tactic(auto)]
+
 ghost use Rattle.std.specs.Prelude.{◌≡◌, ◌≤◌, length};
 ghost use Rattle.rules.specs.paper.Limits.{work_words};
 ghost use Rattle.rules.specs.paper.Engine.{cleared, check_image};

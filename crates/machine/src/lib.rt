@@ -1,4 +1,6 @@
 // The machine: its scalars, and the stacks, rows and cells that it keeps in the lent work words.
+#![tactic(auto)]
+
 pub mod layout;
 pub mod lookup;
 pub mod memory;

@@ -6,10 +6,10 @@ use mathlib.Core.Option.{some-injective}
 use native.Mathlib.Omega.{arith}
 use lib.ListN.{length, get_or, drop, set}
 use lib.Seq.{drop-cons, drop-length}
-use Rattle.rules.specs.proofs.Basics.{missing}
+use Rattle.rules.proofs.Basics.{missing}
 use Rattle.rules.specs.paper.Decimal.{ascii}
 use Rattle.rules.specs.paper.Kinds.{Kind, kind_number, every_kind, kind_of}
-use Rattle.rules.specs.proofs.reading.ReaderComplete.{kind_known}
+use Rattle.rules.proofs.reading.ReaderComplete.{kind_known}
 use Rattle.reader.specs.Put.{put, put_none, put_length, set_put}
 use Rattle.reader.proofs.TableRows.{NoneOf, none_of}
 use Rattle.page.specs.Names.{kind_name}

@@ -4,7 +4,7 @@ use mathlib.Core.Path.{◌≡◌, refl, sym, ap, ◌∙◌}
 use mathlib.Core.List.{List, [], ◌∷◌, ◌++◌}
 use native.Mathlib.Omega.{arith}
 use lib.ListN.{length, set, length-replicate}
-use Rattle.rules.specs.proofs.Basics.{append_assoc}
+use Rattle.rules.proofs.Basics.{append_assoc}
 use Rattle.rules.specs.paper.Decimal.{digit, decimal}
 use Rattle.reader.specs.Put.{put, put_none, put_length, set_put}
 use Rattle.page.specs.Page.{blank, blanks, to_the_right}

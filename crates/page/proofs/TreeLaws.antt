@@ -4,7 +4,7 @@ use mathlib.Core.Path.{◌≡◌, refl, sym, ap, ◌∙◌, subst}
 use mathlib.Core.List.{List, [], ◌∷◌, ◌++◌}
 use native.Mathlib.Omega.{arith}
 use lib.ListN.{length, get_or, drop}
-use Rattle.rules.specs.proofs.Basics.{append_assoc, append_nothing}
+use Rattle.rules.proofs.Basics.{append_assoc, append_nothing}
 use Rattle.rules.specs.paper.Limits.{most_nodes, most_depth}
 use Rattle.rules.specs.paper.Kinds.{Kind, kind_number}
 use Rattle.reader.specs.Put.{put, put_none, put_length, put_append}

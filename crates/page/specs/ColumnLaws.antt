@@ -3,7 +3,7 @@ use Rattle.std.specs.Prelude.{ℕ, zero, suc, ◌+◌, ◌-◌, ◌/◌, ◌%◌
 use Rattle.std.proofs.Math.Path.{refl}
 use Rattle.std.proofs.Common.{sym, ap, ◌∙◌, subst, arith, lt-ltb, le-ltb, leb→le, ltb→lt, length-append, take_at, drop_at, drop-drop}
 use Rattle.std.proofs.Math.ListN.{get_or-append}
-use Rattle.rules.specs.proofs.Basics.{by_order, and_left, and_right}
+use Rattle.rules.proofs.Basics.{by_order, and_left, and_right}
 use Rattle.rules.specs.paper.Decimal.{ascii, digit, digits_within, decimal}
 use Rattle.rules.specs.paper.Kinds.{Kind, every_kind}
 use Rattle.reader.proofs.TableRows.{all_of, each_kind}

@@ -1,7 +1,7 @@
 -- The decimal digits of a number: the last one behind those of its tenth part; how many there are; and that each is one of ten bytes.
 use Rattle.std.specs.Prelude.{ℕ, zero, suc, ◌+◌, ◌/◌, ◌%◌, ◌^◌, ◌<◌, ◌≤◌, ◌≡◌, [], ◌∷◌, ◌++◌, length}
 use Rattle.std.proofs.Common.{sym, ap, ◌∙◌, subst, arith, pow-suc, div-lt_iff_lt-mul, lt-ltb, le-ltb, length-append}
-use Rattle.rules.specs.proofs.Basics.{by_order}
+use Rattle.rules.proofs.Basics.{by_order}
 use Rattle.rules.specs.paper.Decimal.{digit, digits_within, decimal}
 
 -- ---- The last digit, and those before it.

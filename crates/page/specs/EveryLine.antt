@@ -3,13 +3,13 @@ use Rattle.std.specs.Prelude.{ℕ, zero, suc, ◌+◌, ◌-◌, ◌*◌, ◌<◌
 use Rattle.std.proofs.Math.Path.{sym, ap, subst}
 use Rattle.std.proofs.Common.{◌∙◌, arith, length-append, take_at, drop_at}
 use Rattle.std.proofs.Math.ListN.{length, get_or, length-replicate}
-use Rattle.rules.specs.proofs.Basics.{by_order, append_assoc}
+use Rattle.rules.proofs.Basics.{by_order, append_assoc}
 use Rattle.rules.specs.paper.Limits.{most_nodes, most_depth}
 use Rattle.rules.specs.paper.Tree.{Root}
 use Rattle.rules.specs.paper.Engine.{passed}
 use Rattle.rules.specs.claims.Image.{IsImage}
 use Rattle.rules.specs.claims.Listing.{node_of, root_nodes, image_words}
-use Rattle.rules.specs.proofs.checking.ImageExact.{check_exact}
+use Rattle.rules.proofs.checking.ImageExact.{check_exact}
 use Rattle.reader.specs.Pack.{root_words}
 use Rattle.reader.specs.Put.{put}
 use Rattle.reader.specs.Stored.{RootAt}

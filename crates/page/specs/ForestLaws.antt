@@ -2,7 +2,7 @@
 -- lines fits its columns.
 use Rattle.std.specs.Prelude.{ℕ, suc, ◌+◌, ◌*◌, ◌≤◌, ◌≡◌, refl, List, [], ◌∷◌, ◌++◌, length}
 use Rattle.std.proofs.Common.{sym, ap, ◌∙◌, subst, arith, length-append}
-use Rattle.rules.specs.proofs.Basics.{append_assoc, append_nothing}
+use Rattle.rules.proofs.Basics.{append_assoc, append_nothing}
 use Rattle.rules.specs.paper.Limits.{most_depth, names}
 use Rattle.rules.specs.paper.Kinds.{Kind, num, boo, id, deref, valref, binary, negation, assign, loop, cseq, blk, call, conditional, bind, dseq, expression_kind, command_kind, declaration_kind, ref, abs, formal, kind_number}
 use Rattle.rules.specs.paper.Tree.{Expression, Formal, Command, Block, Declaration, Bound, Root}

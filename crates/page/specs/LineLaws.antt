@@ -2,7 +2,7 @@
 use Rattle.std.specs.Prelude.{ℕ, ◌+◌, ◌-◌, ◌<◌, ◌≤◌, ◌≡◌, List, [], ◌∷◌, ◌++◌, T, leb, length}
 use Rattle.std.proofs.Common.{ap, ◌∙◌, arith, leb→le, length-append}
 use Rattle.std.proofs.lemmas.List.{length-replicate}
-use Rattle.rules.specs.proofs.Basics.{append_assoc}
+use Rattle.rules.proofs.Basics.{append_assoc}
 use Rattle.rules.specs.paper.Limits as Limits
 use Rattle.rules.specs.paper.Limits.{most_nodes, most_depth}
 use Rattle.rules.specs.paper.Decimal.{ascii, decimal}
@@ -10,7 +10,7 @@ use Rattle.rules.specs.paper.Kinds.{Kind, kind_number, every_kind}
 use Rattle.reader.specs.Pack.{kinds_room}
 use Rattle.reader.specs.Stored.{HasWord}
 use Rattle.reader.proofs.TableRows.{all_of, each_kind, known_low}
-use Rattle.rules.specs.proofs.reading.ReaderComplete.{kind_known}
+use Rattle.rules.proofs.reading.ReaderComplete.{kind_known}
 use Rattle.page.specs.Names.{kind_name}
 use Rattle.page.specs.Lines.{Line, line_of}
 use Rattle.page.specs.Page.{node_columns, depth_columns, name_columns, operand_columns, end_columns, line_bytes, blank, newline, blanks, to_the_right, to_the_left, line_text}

@@ -1,4 +1,6 @@
 // The tree on the contract's annex page, one node a line, from the reader's answers alone.
+#![tactic(auto)]
+
 mod line;
 mod names;
 mod text;

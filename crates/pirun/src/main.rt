@@ -1,5 +1,7 @@
 // The program: reads an image and its starting values from standard input, runs it, and writes the answer to standard output. A stream that
 // fails is said on standard error: without a whole input there is no answer.
+#![tactic(auto)]
+
 use answer::{ANSWER_BYTES, MOST_INPUT_BYTES};
 use libc::STDERR_FILENO;
 use streams::Ended;

@@ -13,7 +13,7 @@ use lib.Signed.{lt_z}
 use Rattle.rules.specs.paper.Limits.{most_registers, most_bindings, most_cells}
 use Rattle.rules.specs.paper.Integers.{in_range}
 use Rattle.rules.specs.paper.Needs.{register_needs}
-use Rattle.rules.specs.proofs.Basics.{by_order}
+use Rattle.rules.proofs.Basics.{by_order}
 use Rattle.rules.specs.paper.Carried.{Carried}
 use Rattle.rules.specs.paper.Carrying.{CarriedCells, carried_at, register_names, register_cells}
 use Rattle.rules.specs.paper.Ranges.{lowest_of, highest_of, ends_from, limits_cross}

@@ -1,5 +1,7 @@
 // Registers known only within limits: a routine's tree is carried over the lowest and highest start of each register, from the reader's answers
 // alone.
+#![tactic(auto)]
+
 mod commands;
 pub mod registers;
 

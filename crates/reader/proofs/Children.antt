@@ -7,7 +7,7 @@ use native.Mathlib.Omega.{arith}
 use native.Mathlib.Nat.{not-suc-le-zero, div-le_self}
 use lib.Dec.{T, eqb, eqb→eq, eqb_refl}
 use lib.ListN.{length, drop, replicate, length-replicate, length-append}
-use Rattle.rules.specs.proofs.Basics.{passed_test}
+use Rattle.rules.proofs.Basics.{passed_test}
 use Rattle.rules.specs.paper.Limits.{words}
 use Rattle.rules.specs.paper.Kinds.{Kind, num, boo, id, deref, valref, binary, negation, assign, loop, cseq, blk, call, conditional, bind, dseq, expression_kind, command_kind, declaration_kind, ref, abs, formal, row_of, upper_part, Sort, an_expression, a_command, a_declaration, a_bound, a_formal, a_Block, a_root, Children, these, counted, sorts_of, child_sorts}
 use Rattle.reader.specs.Tables.{sort_numbers, sort_number, sort_of_number, fixed_sorts, counted_sort, sort_after, sort_from_last, count_shift, fixed_at, fixed_room, sorts_at, sort_bits, sort_room, last_children, shift_at, shift_room, row_word, last_sorts, SortedAt}

@@ -5,7 +5,7 @@ use mathlib.Core.Bool.{Bool, true, false, cond}
 use mathlib.Core.Option.{Option, none, some}
 use native.Mathlib.Omega.{arith}
 use lib.Dec.{T, ltb→lt, lt→ltb}
-use Rattle.rules.specs.proofs.Basics.{true_test, false_test}
+use Rattle.rules.proofs.Basics.{true_test, false_test}
 use Rattle.rules.specs.paper.Refusals.{refusal_number}
 use Rattle.rules.specs.paper.Kinds.{Kind, kind_of, operand_bound, operand_fits, is_of}
 use Rattle.reader.specs.Tables.{sort_numbers, sort_of_number, bit, operands_at, row_by, row_at, fault_by, fault_of}

@@ -8,13 +8,13 @@ use native.Mathlib.Nat.{zero-add, suc-add, not-suc-le-zero, le_of_suc-le-suc}
 use lib.Seq.{drop-nil}
 use lib.Dec.{T, eqb, eqb→eq, eqb_refl}
 use lib.ListN.{length, get_or, drop}
-use Rattle.rules.specs.proofs.Basics.{true_test, false_test}
+use Rattle.rules.proofs.Basics.{true_test, false_test}
 use Rattle.rules.specs.paper.Tree.{Root}
 use Rattle.rules.specs.paper.Refusals.{refusal_number}
 use Rattle.rules.specs.paper.Reader.{Node, Got, refused, got, image, whole, size_fits, read_root, read_routine, read}
 use Rattle.rules.specs.claims.Listing.{root_nodes, image_words}
-use Rattle.rules.specs.proofs.reading.ReaderComplete.{routine_is_root}
-use Rattle.rules.specs.proofs.reading.ReaderExact.{read_exact}
+use Rattle.rules.proofs.reading.ReaderComplete.{routine_is_root}
+use Rattle.rules.proofs.reading.ReaderExact.{read_exact}
 use Rattle.reader.specs.Pack.{root_words}
 use Rattle.rules.specs.paper.Kinds.{a_root}
 use Rattle.rules.specs.paper.Limits.{most_nodes, most_depth}

@@ -10,13 +10,13 @@ use native.Mathlib.Nat.{add_assoc, not-suc-le-zero}
 use lib.Dec.{T}
 use lib.ListN.{length, get_or, take, drop, set, length-take, length-drop, drop_of_length-le}
 use lib.Seq.{get_or-take, get_or-drop}
-use Rattle.rules.specs.proofs.Basics.{passed_test}
+use Rattle.rules.proofs.Basics.{passed_test}
 use Rattle.rules.specs.paper.Refusals.{Refusal, refusal_number}
 use Rattle.rules.specs.paper.Refusals as Refusals
 use Rattle.rules.specs.paper.Kinds.{Kind, kind_of, operand_fits, Sort, is_of, child_sorts}
 use Rattle.rules.specs.paper.Reader.{Node, Got, refused, got, Read, then, give, Header, or_refuse, node, nodes_of}
 use Rattle.rules.specs.claims.Listing.{a_node}
-use Rattle.rules.specs.proofs.reading.ReaderNodes.{number_of}
+use Rattle.rules.proofs.reading.ReaderNodes.{number_of}
 use Rattle.reader.specs.Pack.{kinds_room, pack, node_words}
 use Rattle.reader.specs.Put.{put, set_put}
 use Rattle.reader.specs.Scan.{accepting, scan_list, scan}

@@ -5,7 +5,7 @@ use mathlib.Core.List.{List, [], ◌++◌}
 use native.Mathlib.Omega.{arith}
 use lib.Dec.{T, eqb, ltb, ltb→lt}
 use lib.ListN.{length, replicate}
-use Rattle.rules.specs.proofs.Basics.{append_nothing}
+use Rattle.rules.proofs.Basics.{append_nothing}
 use Rattle.rules.specs.paper.Tree.{Num, Boo, Id, DeRef, ValRef, Binary, Not, Assign, Loop, CSeq, block, Call, Cond, Blk, Bind, DSeq, plain, Ref, Abs, expression, command}
 use Rattle.rules.specs.paper.Limits.{names}
 use Rattle.rules.specs.paper.Kinds.{Kind, ExpressionKind, CommandKind, DeclarationKind, num, boo, id, deref, valref, binary, negation, assign, loop, cseq, blk, call, conditional, bind, dseq, expression_kind, command_kind, declaration_kind, ref, abs, formal, operand_fits, operator_number, upper_part, an_expression, a_command, a_declaration, a_bound, a_formal, a_Block, a_root}

@@ -7,7 +7,7 @@ use mathlib.Core.List.{List, [], ◌∷◌, ◌++◌}
 use mathlib.Core.Option.{Option, none, some, some-injective, some-ne-none, none-ne-some}
 use lib.Dec.{T}
 use lib.ListN.{length, replicate}
-use Rattle.rules.specs.proofs.Basics.{append_nothing, append_assoc, passed_test}
+use Rattle.rules.proofs.Basics.{append_nothing, append_assoc, passed_test}
 use Rattle.rules.specs.paper.Refusals.{Refusal}
 use Rattle.rules.specs.paper.Refusals as Refusals
 use Rattle.rules.specs.paper.Kinds.{Kind, kind_of, operand_fits, kind_number, Sort, is_of, child_sorts}

@@ -8,10 +8,10 @@ use native.Mathlib.Omega.{arith}
 use native.Mathlib.Nat.{not-suc-le-zero}
 use lib.Dec.{T, eqb, eqb→eq, eqb_refl, ltb, ltb→lt}
 use lib.ListN.{length}
-use Rattle.rules.specs.proofs.Basics.{missing, and_left, and_right}
+use Rattle.rules.proofs.Basics.{missing, and_left, and_right}
 use Rattle.rules.specs.paper.Kinds.{Kind, kind_number, row_of, operand_bound, every_kind, kind_in, kind_of, is_of}
-use Rattle.rules.specs.proofs.reading.ReaderNodes.{number_of}
-use Rattle.rules.specs.proofs.reading.ReaderComplete.{kind_known}
+use Rattle.rules.proofs.reading.ReaderNodes.{number_of}
+use Rattle.rules.proofs.reading.ReaderComplete.{kind_known}
 use Rattle.reader.specs.Pack.{kinds_room}
 use Rattle.reader.specs.Tables.{sort_numbers, sort_number, sort_of_number, bit, fixed_sorts, sort_from_last, count_shift, fixed_at, fixed_room, sorts_at, sort_bits, sort_room, last_children, shift_at, shift_room, operands_at, row_word, row_by, row_at}
 

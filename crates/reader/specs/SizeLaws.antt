@@ -1,7 +1,7 @@
 -- What n and r are where they fit: n is at most the most nodes, r at most the most registers.
 use Rattle.std.specs.Prelude.{ℕ, ◌≤◌, ◌≡◌, true, leb}
 use Rattle.std.proofs.Common.{leb→le}
-use Rattle.rules.specs.proofs.Basics.{passed_test, and_left, and_right}
+use Rattle.rules.proofs.Basics.{passed_test, and_left, and_right}
 use Rattle.rules.specs.paper.Limits.{most_nodes, most_registers}
 use Rattle.rules.specs.paper.Reader.{size_fits}
 

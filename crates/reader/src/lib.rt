@@ -1,4 +1,6 @@
 // From the image's words to the shape: each node's checks in the paper's order and, for a whole tree, one work word a node.
+#![tactic(auto)]
+
 pub mod kinds;
 pub mod refusals;
 mod tables;

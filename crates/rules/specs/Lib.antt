@@ -1,4 +1,3 @@
--- The rules of the engine: what the paper says, what is claimed of it, and the proofs of the claims.
+-- The rules of the engine: what the paper says, and what is claimed of it.
 pub mod paper
 pub mod claims
-pub mod proofs

@@ -3,6 +3,8 @@
 // What comes after each call, by its answer, is an equation (`after`). No contract can say which bytes a call of the system moves, nor which
 // answers it gave: those of `receive` and `send` say that there are answers that the contracts of read and write allow and that end the
 // transfer so (`Transfers`). That the calls are made, on the right bytes, is seen in `receive_some` and `send_some` and tested.
+#![tactic(auto)]
+
 ghost use Rattle.std.specs.Prelude.{◌≡◌, ◌≤◌, length};
 ghost use Rattle.libc.specs.Io.{Moved};
 ghost use Rattle.streams.specs.Transfers.{most_interruptions, after_call, Answered, Transfers};

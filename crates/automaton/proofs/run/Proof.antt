@@ -7,7 +7,7 @@ use borrow.Author.Rules.{rules}
 use Rattle.rules.specs.paper.Checker.{Passed}
 use Rattle.rules.specs.paper.States.{State}
 use Rattle.rules.specs.claims.History.{History}
-use Rattle.rules.specs.proofs.running.Continuation.{Invariant}
+use Rattle.rules.proofs.running.Continuation.{Invariant}
 use Rattle.machine.specs.Steps.{Holds}
 use Rattle.machine.specs.declared.Machine.{Machine}
 use Rattle.automaton.specs.declared.meter.HighMarks.{HighMarks}

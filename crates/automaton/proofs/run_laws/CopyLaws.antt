@@ -6,7 +6,7 @@ use native.Mathlib.Omega.{arith}
 use native.Mathlib.Nat.{zero-add}
 use lib.ListN.{length, get_or, set, take, drop}
 use lib.Seq.{paste, paste-suc, length-paste, drop-length}
-use Rattle.rules.specs.proofs.Basics.{append_nothing}
+use Rattle.rules.proofs.Basics.{append_nothing}
 
 pub copy_next : (into from now : List ℕ) (i : ℕ) → now ≡ paste into 0 from i → i < length into → i < length from → set now i (get_or from i 0) ≡ paste into 0 from (i + 1)
 copy_next into from now i q low within =

@@ -10,7 +10,7 @@ use Rattle.rules.specs.paper.Rules.{Rule, Effect, Applies}
 use Rattle.rules.specs.paper.Run.{made, withheld, judge}
 use Rattle.rules.specs.paper.Needs.{Figure, control, values, cells, bindings, Sizes, sizes}
 use Rattle.rules.specs.paper.HighMarks.{size, high_marks}
-use Rattle.rules.specs.proofs.running.HighMarkLaws.{here_counted, marks_spent, marks_at_end, marks_withheld, marks_made}
+use Rattle.rules.proofs.running.HighMarkLaws.{here_counted, marks_spent, marks_at_end, marks_withheld, marks_made}
 use Rattle.machine.specs.Steps.{Holds}
 use Rattle.machine.specs.declared.Machine.{Machine}
 use Rattle.machine.specs.declared.Stepped.{Stepped}

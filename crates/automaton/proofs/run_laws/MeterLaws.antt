@@ -12,8 +12,8 @@ use Rattle.rules.specs.paper.Limits.{names}
 use Rattle.rules.specs.paper.States.{Environment, Store, Entry, Item, mark, Mark, State, state, control_of, values_of, store_of, bindings_of}
 use Rattle.rules.specs.paper.Rules.{Rule, Effect, goes, Table}
 use Rattle.rules.specs.paper.Run.{Verdict, made, withheld, judge}
-use Rattle.rules.specs.proofs.running.Judging.{made_goes}
-use Rattle.rules.specs.proofs.running.StepSizes.{IsNode, KeepsMemory, node_keeps_memory, RaisesNothing, NoneAbove, mark_raises_nothing}
+use Rattle.rules.proofs.running.Judging.{made_goes}
+use Rattle.rules.proofs.running.StepSizes.{IsNode, KeepsMemory, node_keeps_memory, RaisesNothing, NoneAbove, mark_raises_nothing}
 use Rattle.machine.specs.Layout.{top_control, mark_base, mark_numbers}
 use Rattle.machine.specs.Regions.{regions}
 use Rattle.machine.specs.Represents.{Mode, ControlAs, operator_on, not_on, assign_on, loop_on, conditional_on, ref_on, bind_on, dseq_extend_on, dseq_join_on, extend_on, leave_on, call_on}

@@ -11,15 +11,15 @@ use Rattle.rules.specs.paper.Checker.{Scope, Passed}
 use Rattle.rules.specs.paper.States.{Environment, Store, Entry, environment, locations, Item, mark, extend_mark, State, state, control_of}
 use Rattle.rules.specs.paper.Rules.{Rule, Effect, goes, fails, Applies}
 use Rattle.rules.specs.paper.Fire.{fire, fires}
-use Rattle.rules.specs.proofs.running.FireExact.{applies→fires}
-use Rattle.rules.specs.proofs.running.Judging.{made_goes}
+use Rattle.rules.proofs.running.FireExact.{applies→fires}
+use Rattle.rules.proofs.running.Judging.{made_goes}
 use Rattle.rules.specs.paper.Run.{Verdict, made, withheld, judge, Ending, ended, stopped, attempt, run}
 use Rattle.rules.specs.paper.HighMarks.{high_marks}
 use Rattle.rules.specs.claims.History.{History, note}
-use Rattle.rules.specs.proofs.running.Continuation.{StackShape, declared, opened, ControlTyped, extend_mark_typed, ValuesTyped, declared_on, opened_on, Invariant}
-use Rattle.rules.specs.proofs.running.World.{World}
-use Rattle.rules.specs.proofs.running.Progress.{Next, Progress}
-use Rattle.rules.specs.proofs.running.WholeRun.{progress}
+use Rattle.rules.proofs.running.Continuation.{StackShape, declared, opened, ControlTyped, extend_mark_typed, ValuesTyped, declared_on, opened_on, Invariant}
+use Rattle.rules.proofs.running.World.{World}
+use Rattle.rules.proofs.running.Progress.{Next, Progress}
+use Rattle.rules.proofs.running.WholeRun.{progress}
 use Rattle.machine.specs.Steps.{Stands, Holds, Untouched, IsMade, IsWithheld, StepAnswer, AtExtendMark}
 use Rattle.automaton.specs.Runs.{EnabledAt, Enabled, StepsFrom, HasEnded, HasStopped, RunAnswer}
 use Rattle.machine.specs.declared.Machine.{Machine}

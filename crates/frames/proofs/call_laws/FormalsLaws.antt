@@ -5,7 +5,7 @@ use mathlib.Core.List.{List, [], ◌∷◌}
 use mathlib.Core.Option.{some, some-injective}
 use native.Mathlib.Omega.{arith}
 use lib.ListN.{length, get_or}
-use Rattle.rules.specs.proofs.Basics.{missing}
+use Rattle.rules.proofs.Basics.{missing}
 use Rattle.rules.specs.paper.Tree.{Formal}
 use Rattle.rules.specs.paper.Limits.{names, most_nodes}
 use Rattle.rules.specs.paper.States.{Value, value, closure, Environment, bound, Entry, bindable, name, node, environment, locations}

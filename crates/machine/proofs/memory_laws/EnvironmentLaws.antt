@@ -7,7 +7,7 @@ use mathlib.Core.Option.{Option, none, some}
 use native.Mathlib.Omega.{arith}
 use lib.Dec.{T, eqb, eqb→eq, eqb_refl}
 use lib.ListN.{length}
-use Rattle.rules.specs.proofs.Basics.{missing, true_test, false_test, passed_test}
+use Rattle.rules.proofs.Basics.{missing, true_test, false_test, passed_test}
 use Rattle.rules.specs.paper.Limits.{names}
 use Rattle.rules.specs.paper.States.{Bindable, Environment, empty, bound, join, Cell, Store, in_set, remove, Entry}
 use Rattle.machine.specs.Layout.{link}

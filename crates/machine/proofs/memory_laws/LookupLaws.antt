@@ -7,7 +7,7 @@ use mathlib.Core.Option.{Option, none, some, some-injective}
 use native.Mathlib.Omega.{arith}
 use lib.Dec.{T, eqb, eqb→eq, eqb_refl}
 use lib.ListN.{length, get_or}
-use Rattle.rules.specs.proofs.Basics.{missing, true_test, false_test, passed_test, failed_test}
+use Rattle.rules.proofs.Basics.{missing, true_test, false_test, passed_test, failed_test}
 use Rattle.rules.specs.paper.States.{Bindable, Environment, empty, bound, lookup}
 use Rattle.machine.specs.Layout.{row_labels, row_payloads, row_at_pointer, link}
 use Rattle.machine.specs.Regions.{Slot, slot, slots, slot_at}

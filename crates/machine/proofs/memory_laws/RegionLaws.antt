@@ -8,7 +8,7 @@ use native.Mathlib.Omega.{arith}
 use lib.Dec.{T, eqb, eqb→eq, eqb_refl}
 use lib.ListN.{length, get_or, set, take, drop, length-set}
 use lib.Seq.{get_or-set_same, get_or-set_other, take-set-le, drop-set-lt}
-use Rattle.rules.specs.proofs.Basics.{true_test, false_test, passed_test, failed_test}
+use Rattle.rules.proofs.Basics.{true_test, false_test, passed_test, failed_test}
 use Rattle.rules.specs.paper.Limits.{most_nodes, most_cells, most_bindings, most_value_entries, most_control_entries, work_words}
 use Rattle.machine.specs.Layout.{control_from, value_payloads, value_labels, row_labels, row_payloads, cell_payloads, cell_labels}
 use Rattle.machine.specs.Regions.{stack, Slot, slot, slots, slot_at, set_slot, Regions, regions, Fits, with_control, with_values, with_row, with_cells, raised_control, raised_values, raised_rows, raised_cells}

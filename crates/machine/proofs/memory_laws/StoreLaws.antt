@@ -7,7 +7,7 @@ use mathlib.Core.Option.{some}
 use native.Mathlib.Omega.{arith}
 use lib.Dec.{eqb, eqb→eq}
 use lib.ListN.{length}
-use Rattle.rules.specs.proofs.Basics.{missing, passed_test}
+use Rattle.rules.proofs.Basics.{missing, passed_test}
 use Rattle.rules.specs.paper.States.{Value, Store, find, store_at}
 use Rattle.machine.specs.Regions.{Slot, set_slot}
 use Rattle.machine.specs.Represents.{ValueAs, StoreAs, no_cell, one_cell}

@@ -13,7 +13,7 @@ use Rattle.rules.specs.paper.States.{Environment, Store, Entry, Item, State, sta
 use Rattle.rules.specs.paper.Rules.{goes, fails}
 use Rattle.rules.specs.paper.Run.{priority, holds, first_holding, made, withheld, settle, judge}
 use Rattle.rules.specs.paper.Limits.{most_cells, most_bindings, most_value_entries, most_control_entries}
-use Rattle.rules.specs.proofs.running.Judging.{first_same}
+use Rattle.rules.proofs.running.Judging.{first_same}
 use Rattle.machine.specs.Room.{over_limit, number_or_zero, reason_of_room}
 
 module _ (bindings values control : ℕ) where

@@ -5,7 +5,7 @@ use mathlib.Core.List.{List, [], ◌∷◌, ◌++◌}
 use native.Mathlib.Omega.{arith}
 use lib.ListN.{length, get_or, set, length-set}
 use Rattle.rules.specs.paper.Limits.{most_nodes}
-use Rattle.rules.specs.proofs.Basics.{append_assoc}
+use Rattle.rules.proofs.Basics.{append_assoc}
 use Rattle.rules.specs.paper.Tree.{Formal, Expression, Command, Block, Declaration, Bound}
 use Rattle.rules.specs.paper.Checker.{Meaning, Scope, register_scope}
 use Rattle.reader.specs.Pack.{packed_end}

@@ -3,7 +3,7 @@ use Prim.Native.Nat.{ℕ, zero, suc, ◌+◌, ◌<◌, ◌≤◌}
 use mathlib.Core.Path.{◌≡◌, refl, sym, subst}
 use native.Mathlib.Omega.{arith}
 use lib.Dec.{T, eqb, eqb→eq, eqb_refl, ltb, ltb→lt}
-use Rattle.rules.specs.proofs.Basics.{true_test, false_test}
+use Rattle.rules.proofs.Basics.{true_test, false_test}
 use Rattle.rules.specs.paper.Refusals.{refusal_number}
 use Rattle.rules.specs.paper.Limits.{plain_codes}
 use Rattle.rules.specs.paper.Checker.{Meaning, code, assignable, same_code, ref_code}

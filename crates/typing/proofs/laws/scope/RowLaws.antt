@@ -8,7 +8,7 @@ use native.Mathlib.Omega.{arith}
 use lib.Dec.{T, eqb, eqb→eq, eqb_refl}
 use lib.ListN.{get_or}
 use Rattle.rules.specs.paper.Limits.{names, most_nodes}
-use Rattle.rules.specs.proofs.Basics.{true_test, false_test}
+use Rattle.rules.proofs.Basics.{true_test, false_test}
 use Rattle.rules.specs.paper.Checker.{Meaning, code, Named, Scope, meaning_of, has_name, shares_name, register_scope}
 use Rattle.typing.specs.Rows.{rows_from, pointers_from, meaning_numbers, link_factor, row_word, meaning_number, MeaningAt, HasRow, Rows, no_rows, one_row, ScopeAt, RowFound, absent, present}
 use Rattle.typing.specs.Answers.{FoundAs, found_nothing, found_binding, found_register}
