@@ -13,7 +13,7 @@ use reader::kinds;
 const FIRST_THAT_RAISES: u64 = kinds::LOOP as u64;
 
 // The most cells, bindings, value entries and control entries over the states that a run has reached.
-#[derive(Drop)]
+#[derive(Clone, Copy)]
 pub struct HighMarks {
     pub cells: usize,
     pub bindings: usize,
@@ -22,7 +22,7 @@ pub struct HighMarks {
 }
 
 // A run's record: the machine in the state that was reached last, and the meter.
-#[derive(Drop)]
+#[derive(Clone, Copy)]
 pub struct Record {
     pub machine: Machine,
     pub marks: HighMarks,

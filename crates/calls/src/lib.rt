@@ -65,7 +65,7 @@ pub enum Ranged {
 
 // What a run answers: the word of the number, truth or location that is left, or nothing, with the steps and the high marks; or a refusal with
 // its place, the steps made and the high marks.
-#[derive(Drop)]
+#[derive(Clone, Copy)]
 pub enum Ran {
     Number(u64, u64, HighMarks),
     Truth(u64, u64, HighMarks),

@@ -10,7 +10,7 @@ pub mod layout;
 pub mod names;
 
 // The names and cells that there are: the pointer of the newest name, the live bindings, which are the rows in use, and the live cells.
-#[derive(Drop)]
+#[derive(Clone, Copy)]
 pub struct Held {
     pub environment: usize,
     pub bindings: usize,

@@ -8,11 +8,11 @@ pub mod reasons;
 pub mod stacks;
 
 // Where a cell is: not an integer, and nothing is computed with it.
-#[derive(Drop)]
+#[derive(Clone, Copy)]
 pub struct Location(pub usize);
 
 // The heights of the stacks in the work words and the pointers into them.
-#[derive(Drop)]
+#[derive(Clone, Copy)]
 pub struct Machine {
     // entries on control and on the value stack
     pub control: usize,
@@ -29,7 +29,7 @@ pub struct Machine {
 }
 
 // What a step comes to: the machine after it, or the number of the reason for which it is withheld.
-#[derive(Drop)]
+#[derive(Clone, Copy)]
 pub enum Stepped {
     Made(Machine),
     Withheld(u64),
