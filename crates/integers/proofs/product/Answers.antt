@@ -8,16 +8,36 @@ use Rattle.integers.specs.declared.Computed.{Computed}
 use Rattle.integers.proofs.SignedLaws.{signed_out}
 use Rattle.integers.proofs.ProductLaws.{product_answered, zero_product, small_product, product_within, product_beyond}
 use Rattle.integers.proofs.product.Goals as goal
+use Rattle.integers.proofs.product.Lts as lts
+use Rattle.integers.proofs.product.Tie as tie
+use Rattle.integers.proofs.product.Reads as reads
 
-abbrev first-magnitude : tie.After-opposite → ℕ
-first-magnitude c = c.before.before.magnitude.result
+abbrev first-magnitude : lts.After-opposite tie.the-claims reads.Pre reads.Post → ℕ
+first-magnitude c = c.magnitude-multiplicand.result
 
-abbrev second-magnitude : tie.After-opposite → ℕ
-second-magnitude c = c.before.magnitude2.result
+abbrev second-magnitude : lts.After-opposite tie.the-claims reads.Pre reads.Post → ℕ
+second-magnitude c = c.magnitude-multiplier.result
 
-answered : (c : tie.After-opposite) (r : Computed) → r ≡ computed (ranged (signed c.opposite.result (first-magnitude c * second-magnitude c))) → r ≡ computed (compute Mul (integer_of c.before.before.before.args.first) (integer_of c.before.before.before.args.second))
-answered c r = product_answered c.before.before.before.args.first c.before.before.before.args.second (first-magnitude c) (second-magnitude c) c.opposite.result r c.before.before.magnitude.ensures c.before.magnitude2.ensures c.opposite.ensures
+answered : (c : lts.After-opposite tie.the-claims reads.Pre reads.Post) (r : Computed) → r ≡ computed (ranged (signed c.opposite-negative.result (first-magnitude c * second-magnitude c))) → r ≡ computed (compute Mul (integer_of c.args.first) (integer_of c.args.second))
+answered c r = product_answered c.args.first c.args.second (first-magnitude c) (second-magnitude c) c.opposite-negative.result r c.magnitude-multiplicand.ensures c.magnitude-multiplier.ensures c.opposite-negative.ensures
 
--- LOST
-div-if3 : tie.Need-nonzero-div-if3
-div-if3 c = search rules
+pub overflow_mul-multiplicand : goal.overflow_mul-multiplicand
+overflow_mul-multiplicand c = record { fits = small_product (first-magnitude c.before) (second-magnitude c.before) c.if-multiplicand-multiplier-lt4294967296.true }
+
+pub returns-then-multiplicand-multiplier-lt4294967296 : goal.returns-then-multiplicand-multiplier-lt4294967296
+returns-then-multiplicand-multiplier-lt4294967296 c = answered c.before.before c.with_sign.result c.with_sign.ensures
+
+pub returns-then-multiplicand-eq0 : goal.returns-then-multiplicand-eq0
+returns-then-multiplicand-eq0 c =
+    answered c.before.before _ (zero_product c.opposite-negative.result (first-magnitude c.before.before) (second-magnitude c.before.before) c.if-multiplicand-eq0.true)
+
+pub returns-then-multiplicand-multiplier : goal.returns-then-multiplicand-multiplier
+returns-then-multiplicand-multiplier c =
+    answered c.before.before.before _ (signed_out c.opposite-negative.result (first-magnitude c.before.before.before * second-magnitude c.before.before.before) (product_beyond (first-magnitude c.before.before.before) (second-magnitude c.before.before.before) c.if-multiplicand-eq0.false c.if-multiplicand-multiplier.true))
+
+pub overflow_mul-multiplicand-2 : goal.overflow_mul-multiplicand-2
+overflow_mul-multiplicand-2 c =
+    record { fits = product_within (first-magnitude c.before.before.before) (second-magnitude c.before.before.before) c.if-multiplicand-eq0.false c.if-multiplicand-multiplier.false }
+
+pub returns : goal.returns
+returns c = answered c.before.before.before.before c.with_sign-2.result c.with_sign-2.ensures
