@@ -10,9 +10,9 @@ src/ and names that the check makes for a function's proof (the files Proof.antt
 
 import os
 import re
+import subprocess
 import sys
 
-KIT = os.environ.get("RATTLE_KIT", "/opt/rattle")
 WORD = re.compile(r"[^\s(){}\[\];,.@«»\"`]+")
 DASHED = re.compile(r"[\w'₀-₉⁰-⁹]-[\w'₀-₉⁰-⁹]")
 HEAD = re.compile(r"^(\s*)((?:(?:unfoldable|abbrev|pub|data|record|mutual|package|module|ruleset)\s+)*)([^\s(){}\[\];,.@«»\"`:]+)\s*(?=[:({])")
@@ -55,6 +55,10 @@ def declared(path, text):
     inside = None
     for line in text.splitlines():
         code, _ = parts(line, "--")
+        m = re.match(r"^\s+(?:pub )?((?:[^\s(){}\[\];,.@«»\"`:]+ )+):", code)
+        if m and by_hand and not code.lstrip().startswith("let "):
+            own.update(m.group(1).split())
+        own.update(re.findall(r"^\s*(?:pub )?(?:ghost )?use \S+ as (\S+)$", code))
         m = HEAD.match(code)
         if m and not code.lstrip().startswith(("use ", "pub use ", "open ", "unfolding ")):
             name, indent = m.group(3), len(m.group(1))
@@ -92,8 +96,9 @@ def tops(text):
 def library():
     """The dashed names of the kit's own libraries."""
     found = set()
+    kit = os.path.dirname(subprocess.run(["rt", "doc"], capture_output=True, text=True, check=True).stdout.strip())
     for folder in ("rattle",):
-        for where, dirs, names in os.walk(os.path.join(KIT, folder)):
+        for where, dirs, names in os.walk(os.path.join(kit, folder)):
             for name in names:
                 if name.endswith(".antt"):
                     for line in read(os.path.join(where, name)).splitlines():

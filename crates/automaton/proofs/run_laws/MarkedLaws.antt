@@ -15,7 +15,7 @@ use Rattle.machine.specs.Steps.{Holds}
 use Rattle.machine.specs.declared.Machine.{Machine}
 use Rattle.machine.specs.declared.Stepped.{Stepped}
 use Rattle.machine.specs.declared.Stepped.TheVariants.{Made}
-use Rattle.machine.proofs.state_laws.ModelLaws as model-laws
+use Rattle.machine.proofs.state_laws.ModelLaws as model_laws
 use Rattle.automaton.specs.Runs.{marks_of}
 use Rattle.automaton.specs.Meter.{first_marks, all_raised, after_step, Covers}
 use Rattle.automaton.specs.declared.meter.HighMarks.{HighMarks}
@@ -28,10 +28,10 @@ marked_size h = sizes h.control h.values h.cells h.bindings
 
 -- The machine's heights are the sizes of the state that it holds.
 held_size : (words : List ℕ) (m : Machine) (σ : State) → Holds words m σ → (f : Figure) → size σ f ≡ marked_size (first_marks m) f
-held_size words m (state C X E S L n) held control = (model-laws.sizes words m held.models).control_height
-held_size words m (state C X E S L n) held values = (model-laws.sizes words m held.models).values_height
-held_size words m (state C X E S L n) held cells = (model-laws.sizes words m held.models).cells_height
-held_size words m (state C X E S L n) held bindings = (model-laws.sizes words m held.models).bindings_height
+held_size words m (state C X E S L n) held control = (model_laws.sizes words m held.models).control_height
+held_size words m (state C X E S L n) held values = (model_laws.sizes words m held.models).values_height
+held_size words m (state C X E S L n) held cells = (model_laws.sizes words m held.models).cells_height
+held_size words m (state C X E S L n) held bindings = (model_laws.sizes words m held.models).bindings_height
 
 covered : (h : HighMarks) (m : Machine) → Covers h m → (f : Figure) → marked_size (first_marks m) f ≤ marked_size h f
 covered h m c control = c.control_below
@@ -94,7 +94,7 @@ module _ (budget : ℕ) (first : State) (σ : State) (words : List ℕ) (m : Mac
     where
       at_end : (τ : State) → Holds words m τ → (f : Figure) → high_marks left τ f ≡ size τ f
       at_end (state [] X E S L n) on f = marks_at_end left (state [] X E S L n) refl f
-      at_end (state (i ∷ C) X E S L n) on f = absurd (omega (arith, (model-laws.sizes words m on.models).control_height, q))
+      at_end (state (i ∷ C) X E S L n) on f = absurd (omega (arith, (model_laws.sizes words m on.models).control_height, q))
 
   pub marked_spent : (left : ℕ) → Marked budget first left σ m h → left ≡ 0 → h ≡ marks_of (high_marks budget first)
   marked_spent left marked q = all_marked left marked (λ f. ap (λ l. high_marks l σ f) q ∙ marks_spent σ f)

@@ -14,14 +14,6 @@ use Rattle.reader.proofs.ImageLaws.{short, refuse_size, refuse_length, absent_im
 use borrow.Author.Rules.{rules}
 use Rattle.reader.proofs.read_image.Goals as goal
 
-sized : (c : goal.Else-not-size_fits) →
-    size_fits (get_or c.args.image.now 0 0) (get_or c.args.image.now 1 0) ≡ true
-sized c = sym c.size_fits.ensures ∙ not-false c.size_fits.result c.if-not-size_fits.false
-
-few : (c : goal.Else-not-size_fits) →
-    get_or c.args.image.now 0 0 ≤ most_nodes
-few c = few_nodes (get_or c.args.image.now 0 0) (get_or c.args.image.now 1 0) (sized c)
-
 pub returns-then-image-lt2 : goal.returns-then-image-lt2
 returns-then-image-lt2 c =
     short c.args.image.now c.args.work.now c.if-image-lt2.true
@@ -34,40 +26,64 @@ overflow_cast-registers c = omega (arith, c.shared_slice_known-3-1.given 1)
 
 pub returns-then-not-size_fits : goal.returns-then-not-size_fits
 returns-then-not-size_fits c =
-    refuse_size c.args.image.now c.args.work.now c.if-image-lt2.false (sym c.size_fits.ensures ∙ not-true c.size_fits.result c.if-not-size_fits.true)
+    refuse_size c.args.image.now c.args.work.now c.if-image-lt2.false (sym c.size_fits.ensures ∙ c.if-not-size_fits.true)
 
 pub overflow_mul-n : goal.overflow_mul-n
-overflow_mul-n c = record { fits = omega (arith, few c) }
+overflow_mul-n c =
+    let sized : size_fits (get_or c.args.image.now 0 0) (get_or c.args.image.now 1 0) ≡ true =
+        sym c.size_fits.ensures ∙ c.if-not-size_fits.false in
+    let few : get_or c.args.image.now 0 0 ≤ most_nodes =
+        few_nodes (get_or c.args.image.now 0 0) (get_or c.args.image.now 1 0) (sized) in
+    record { fits = omega (arith, few) }
 
 pub overflow_add-n : goal.overflow_add-n
-overflow_add-n c = record { fits = omega (arith, few c) }
+overflow_add-n c =
+    let sized : size_fits (get_or c.args.image.now 0 0) (get_or c.args.image.now 1 0) ≡ true =
+        sym c.size_fits.ensures ∙ c.if-not-size_fits.false in
+    let few : get_or c.args.image.now 0 0 ≤ most_nodes =
+        few_nodes (get_or c.args.image.now 0 0) (get_or c.args.image.now 1 0) (sized) in
+    record { fits = omega (arith, few) }
 
 pub returns-then-image-n : goal.returns-then-image-n
 returns-then-image-n c =
-    refuse_length c.args.image.now c.args.work.now c.if-image-lt2.false (sized c.before) c.if-image-n.true
+    let sized : size_fits (get_or c.args.image.now 0 0) (get_or c.args.image.now 1 0) ≡ true =
+        sym c.size_fits.ensures ∙ c.if-not-size_fits.false in
+    refuse_length c.args.image.now c.args.work.now c.if-image-lt2.false (sized) c.if-image-n.true
 
 pub returns-then-n-eq0 : goal.returns-then-n-eq0
 returns-then-n-eq0 c =
-    absent_image c.args.image.now c.args.work.now c.if-image-lt2.false (sized c.before.before) c.if-image-n.false c.if-n-eq0.true
+    let sized : size_fits (get_or c.args.image.now 0 0) (get_or c.args.image.now 1 0) ≡ true =
+        sym c.size_fits.ensures ∙ c.if-not-size_fits.false in
+    absent_image c.args.image.now c.args.work.now c.if-image-lt2.false (sized) c.if-image-n.false c.if-n-eq0.true
 
 pub read_node-root-requires : goal.read_node-root-requires
 read_node-root-requires c =
-    let at_most = few c.before.before.before in search rules
+    let sized : size_fits (get_or c.args.image.now 0 0) (get_or c.args.image.now 1 0) ≡ true =
+        sym c.size_fits.ensures ∙ c.if-not-size_fits.false in
+    let few : get_or c.args.image.now 0 0 ≤ most_nodes =
+        few_nodes (get_or c.args.image.now 0 0) (get_or c.args.image.now 1 0) (sized) in
+    let at_most = few in search rules
 
 pub returns-then-end-n : goal.returns-then-end-n
 returns-then-end-n c =
+    let sized : size_fits (get_or c.args.image.now 0 0) (get_or c.args.image.now 1 0) ≡ true =
+        sym c.size_fits.ensures ∙ c.if-not-size_fits.false in
     whole_image c.args.image.now c.args.work.now c.read_node-root.new.work c.read_node-root.result
-    c.if-image-lt2.false (sized c.before.before.before.before.before.before.before.before.before.before) c.if-image-n.false c.if-n-eq0.false
+    c.if-image-lt2.false (sized) c.if-image-n.false c.if-n-eq0.false
     c.in-Next.end c.in-Next.is c.if-end-n.true c.read_node-root.ensures
 
 pub returns-else-end-n : goal.returns-else-end-n
 returns-else-end-n c =
+    let sized : size_fits (get_or c.args.image.now 0 0) (get_or c.args.image.now 1 0) ≡ true =
+        sym c.size_fits.ensures ∙ c.if-not-size_fits.false in
     left_over c.args.image.now c.args.work.now c.read_node-root.new.work c.read_node-root.result
-    c.if-image-lt2.false (sized c.before.before.before.before.before.before.before.before.before.before) c.if-image-n.false c.if-n-eq0.false
+    c.if-image-lt2.false (sized) c.if-image-n.false c.if-n-eq0.false
     c.in-Next.end c.in-Next.is c.if-end-n.false c.read_node-root.ensures
 
 pub returns-in-Refused : goal.returns-in-Refused
 returns-in-Refused c =
+    let sized : size_fits (get_or c.args.image.now 0 0) (get_or c.args.image.now 1 0) ≡ true =
+        sym c.size_fits.ensures ∙ c.if-not-size_fits.false in
     refused_image c.args.image.now c.args.work.now c.read_node-root.new.work c.read_node-root.result
-    c.if-image-lt2.false (sized c.before.before.before.before.before.before.before.before.before) c.if-image-n.false c.if-n-eq0.false
+    c.if-image-lt2.false (sized) c.if-image-n.false c.if-n-eq0.false
     c.in-Refused.number c.in-Refused.place c.in-Refused.is c.read_node-root.ensures

@@ -94,7 +94,7 @@ turn_line p e c true C X E S L n = Rules.loop_true
 turn_line p e c false C X E S L n = Rules.loop_false
 
 choice_line : (p : ℕ) (e : Expression) (c₁ c₂ : Command) (t : Bool) (C : List Item) (X : List Entry) (E : Environment) (S : Store) (L : List ℕ) (n : ℕ) →
-    Applies Rules.mark-Cond (state (mark conditional_mark ∷ C) (val (truth t) ∷ node (Cond p e c₁ c₂) ∷ X) E S L n) (goes (state (Rattle.rules.specs.paper.States.command (chosen t c₁ c₂) ∷ C) X E S L n))
+    Applies Rules.mark_Cond (state (mark conditional_mark ∷ C) (val (truth t) ∷ node (Cond p e c₁ c₂) ∷ X) E S L n) (goes (state (Rattle.rules.specs.paper.States.command (chosen t c₁ c₂) ∷ C) X E S L n))
 choice_line p e c₁ c₂ true C X E S L n = Rules.conditional_true
 choice_line p e c₁ c₂ false C X E S L n = Rules.conditional_false
 
@@ -104,7 +104,7 @@ free_typed a r h inv (any_integer {o = o} {y = y} {z = z} {C = C} {X = X} {E = E
 free_typed a r h inv (either_turn {p = p} {e = e} {c = c} {b = b} {C = C} {X = X} {E = E} {S = S} {L = L} {n = n} t) =
     record { history = _; typed = step_invariant a r Rules.mark_Loop _ _ h (retested_turn a r p e c b t C X E S L n h inv) (turn_line p e c t C X E S L n) }
 free_typed a r h inv (either_command {p = p} {e = e} {c₁ = c₁} {c₂ = c₂} {b = b} {C = C} {X = X} {E = E} {S = S} {L = L} {n = n} t) =
-    record { history = _; typed = step_invariant a r Rules.mark-Cond _ _ h (retested_choice a r p e c₁ c₂ b t C X E S L n h inv) (choice_line p e c₁ c₂ t C X E S L n) }
+    record { history = _; typed = step_invariant a r Rules.mark_Cond _ _ h (retested_choice a r p e c₁ c₂ b t C X E S L n h inv) (choice_line p e c₁ c₂ t C X E S L n) }
 
 pub free_invariant : {a : Passed} {r : ℕ} {σ τ : State} → FreeInvariant a r σ → FreeStep σ τ → FreeInvariant a r τ
 free_invariant {a} {r} inv step =

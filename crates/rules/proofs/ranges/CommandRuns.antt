@@ -6,7 +6,7 @@ use Rattle.std.proofs.Common.{sym, ◌∙◌, subst, arith, length-drop}
 use Rattle.std.proofs.Math.Option.{Option, none, some}
 use Rattle.rules.specs.paper.Tree.{Expression, Formal, Command, Assign, Loop, CSeq, block, Call, Cond, Block, Blk, Declaration, Bind, DSeq, Bound, plain, Ref, Abs}
 use Rattle.rules.specs.paper.States.{Value, truth, location, Bindable, value, closure, Environment, empty, bound, lookup, join, Store, store_at, remove, Entry, bindable, name, node, environment, locations, val, assign_mark, conditional_mark, ref_mark, bind_mark, dseq_extend_mark, dseq_join_mark, extend_mark, leave_mark, call_mark, Item, expression, command, declaration, mark, bound_item, state}
-use Rattle.rules.specs.paper.Rules.{rule-Assign, rule-CSeq, rule-Blk, rule-Call, rule-Cond, rule-Bind, rule-DSeq, rule-Ref, rule-Abs, mark-Assign, mark-Cond, mark_Ref, mark-Bind, mark-DSeq-extend, mark-DSeq-join, mark-extend, mark-leave, mark-Call, match_formals}
+use Rattle.rules.specs.paper.Rules.{rule_Assign, rule_CSeq, rule_Blk, rule_Call, rule_Cond, rule_Bind, rule_DSeq, rule_Ref, rule_Abs, mark_Assign, mark_Cond, mark_Ref, mark_Bind, mark_DSeq_extend, mark_DSeq_join, mark_extend, mark_leave, mark_Call, match_formals}
 use Rattle.rules.specs.paper.Rules as Rules
 use Rattle.rules.specs.paper.Fire.{chosen}
 use Rattle.rules.specs.paper.Carried.{Carried, numbers, truths, Carrying, carried, unsafe, unfit, ◌>>=◌, fitting}
@@ -90,8 +90,8 @@ module _ (E : Environment) (S : Store) (N : CarriedNames) (K : CarriedCells) (na
           record {
             left = store_at l given.given S;
             leads =
-                one_step rule-Assign Rules.assign (leads_on given.leads
-                (one_step mark-Assign (Rules.assign_at (bound_to E S N K names cells x l (named_value x (Carried.location l) names q)) cell.found) there));
+                one_step rule_Assign Rules.assign (leads_on given.leads
+                (one_step mark_Assign (Rules.assign_at (bound_to E S N K names cells x l (named_value x (Carried.location l) names q)) cell.found) there));
             within = store_within l given.given v cells given.within;
             as_many = set_length l v K;
           }
@@ -116,14 +116,14 @@ module _ (E : Environment) (S : Store) (N : CarriedNames) (K : CarriedCells) (na
   conditional_done p e c₁ c₂ true M C X L n tested run =
       record {
         left = run.left;
-        leads = one_step rule-Cond Rules.conditional (leads_on tested (one_step mark-Cond Rules.conditional_true run.leads));
+        leads = one_step rule_Cond Rules.conditional (leads_on tested (one_step mark_Cond Rules.conditional_true run.leads));
         within = run.within;
         as_many = run.as_many;
       }
   conditional_done p e c₁ c₂ false M C X L n tested run =
       record {
         left = run.left;
-        leads = one_step rule-Cond Rules.conditional (leads_on tested (one_step mark-Cond Rules.conditional_false run.leads));
+        leads = one_step rule_Cond Rules.conditional (leads_on tested (one_step mark_Cond Rules.conditional_false run.leads));
         within = run.within;
         as_many = run.as_many;
       }
@@ -189,8 +189,8 @@ module _ (E : Environment) (S : Store) (N : CarriedNames) (K : CarriedCells) (na
           record {
             left = remove [] r.left;
             leads =
-                one_step rule-Call Rules.call (leads_on actuals.leads
-                (one_step mark-Call (Rules.call_at found matches) (leads_on r.leads (one_step mark-leave Rules.leave_at there))));
+                one_step rule_Call Rules.call (leads_on actuals.leads
+                (one_step mark_Call (Rules.call_at found matches) (leads_on r.leads (one_step mark_leave Rules.leave_at there))));
             within = rw (remove_none r.left) r.within;
             as_many = r.as_many;
           }))
@@ -208,8 +208,8 @@ module _ (E : Environment) (S : Store) (N : CarriedNames) (K : CarriedCells) (na
       record {
         left = remove declared.made r.left;
         leads =
-            one_step rule-Blk Rules.blk (leads_on declared.leads
-            (one_step mark-extend Rules.extend_at (leads_on r.leads (one_step mark-leave Rules.leave_at there))));
+            one_step rule_Blk Rules.blk (leads_on declared.leads
+            (one_step mark_extend Rules.extend_at (leads_on r.leads (one_step mark_leave Rules.leave_at there))));
         within = remove_within declared.grown r.as_many r.within;
         as_many = oldest_length (length K) M (more (made_later declared.grown) r.as_many);
       }))
@@ -227,7 +227,7 @@ module _ (E : Environment) (S : Store) (N : CarriedNames) (K : CarriedCells) (na
         left = r.left;
         made = r.made;
         count = suc n;
-        leads = one_step rule-Bind Rules.bind (leads_on r.leads (one_step mark-Bind Rules.bind_at there));
+        leads = one_step rule_Bind Rules.bind (leads_on r.leads (one_step mark_Bind Rules.bind_at there));
         names = one_name refl r.within no_names;
         cells = r.cells;
         grown = r.grown;
@@ -250,8 +250,8 @@ module _ (E : Environment) (S : Store) (N : CarriedNames) (K : CarriedCells) (na
         made = second.made;
         count = second.count;
         leads =
-            one_step rule-DSeq Rules.dseq (leads_on first.leads
-            (one_step mark-DSeq-extend Rules.dseq_extend_at (leads_on second.leads (one_step mark-DSeq-join Rules.dseq_join_at there))));
+            one_step rule_DSeq Rules.dseq (leads_on first.leads
+            (one_step mark_DSeq_extend Rules.dseq_extend_at (leads_on second.leads (one_step mark_DSeq_join Rules.dseq_join_at there))));
         names = join_within second.names first.names;
         cells = second.cells;
         grown = made_on first.grown second.grown;
@@ -266,7 +266,7 @@ module _ (E : Environment) (S : Store) (N : CarriedNames) (K : CarriedCells) (na
         given = value (location (length S));
         left = record { where_at = length S; contents = r.given } ∷ S;
         made = length S ∷ L;
-        leads = one_step rule-Ref Rules.ref (leads_on r.leads (one_step mark_Ref Rules.ref_at there));
+        leads = one_step rule_Ref Rules.ref (leads_on r.leads (one_step mark_Ref Rules.ref_at there));
         within = subst (λ k. BindableWithin (value (location (length S))) (a_value (Carried.location k))) (within_length cells) (value_within location_within);
         cells = one_cell (within_length cells) r.within cells;
         grown = subst (λ k. MadeSince (length K) L (suc (length K)) (k ∷ L)) (sym (within_length cells)) (one_made none_made);
@@ -303,7 +303,7 @@ mutual
       let second = run₂ C X L n in
       record {
         left = second.left;
-        leads = one_step rule-CSeq Rules.cseq (leads_on first.leads second.leads);
+        leads = one_step rule_CSeq Rules.cseq (leads_on first.leads second.leads);
         within = second.within;
         as_many = second.as_many ∙ first.as_many;
       })))
@@ -348,7 +348,7 @@ mutual
         given = closure fs b E;
         left = S;
         made = L;
-        leads = one_step rule-Abs Rules.abs there;
+        leads = one_step rule_Abs Rules.abs there;
         within = function_within (function_made E N names fs b (λ F R M J h k. block_runs b F R M J h k));
         cells = cells;
         grown = none_made;

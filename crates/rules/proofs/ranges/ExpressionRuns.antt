@@ -7,7 +7,7 @@ use Rattle.std.proofs.Math.Option.{Option, none, some}
 use Rattle.std.specs.Int.Signed.{≤ℤ_refl}
 use Rattle.rules.specs.paper.Tree.{Expression, Num, Boo, Id, DeRef, ValRef, Binary, Not}
 use Rattle.rules.specs.paper.States.{Value, integer, truth, location, value, Environment, lookup, Store, find, Entry, val, operator_mark, not_mark, Item, expression, mark, state}
-use Rattle.rules.specs.paper.Rules.{put_actuals, rule-Num, rule-Boo, rule-Id, rule-DeRef, rule-ValRef, rule-Binary, rule-Not}
+use Rattle.rules.specs.paper.Rules.{put_actuals, rule_Num, rule_Boo, rule_Id, rule_DeRef, rule_ValRef, rule_Binary, rule_Not}
 use Rattle.rules.specs.paper.Rules as Rules
 use Rattle.rules.specs.paper.Carried.{Carried, numbers, truths, possible, Carrying, carried, fitting, carry_operator, carry_negation}
 use Rattle.rules.specs.paper.Carried as Carried
@@ -40,7 +40,7 @@ module _ (E : Environment) (S : Store) (N : CarriedNames) (K : CarriedCells) (na
   -- Id: a plain value itself, or the contents of a cell.
   id_plain : (p x : ℕ) (v : Carried) → NamedValue E x v → ((w : Value) → ValueWithin w v → Rules.IsPlain w) → Runs (Id p x) v
   id_plain p x v named plain C X L n =
-      record { given = named.what; leads = one_step rule-Id (Rules.id_plain (plain named.what named.within) named.found) there; within = named.within }
+      record { given = named.what; leads = one_step rule_Id (Rules.id_plain (plain named.what named.within) named.found) there; within = named.within }
 
   number_plain : {a b : ℤ} (w : Value) → ValueWithin w (numbers a b) → Rules.IsPlain w
   number_plain w (number_within h k) = tt
@@ -70,7 +70,7 @@ module _ (E : Environment) (S : Store) (N : CarriedNames) (K : CarriedCells) (na
       let f = find_within l v cells r in
       record {
         given = f.contents;
-        leads = one_step rule-Id (Rules.id_cell (bound_to x l (named_value x (Carried.location l) names q)) f.found) there;
+        leads = one_step rule_Id (Rules.id_cell (bound_to x l (named_value x (Carried.location l) names q)) f.found) there;
         within = f.within;
       })
 
@@ -80,7 +80,7 @@ module _ (E : Environment) (S : Store) (N : CarriedNames) (K : CarriedCells) (na
   deref_runs p x (some (truths f t)) q = tt
   deref_runs p x (some (Carried.location l)) q =
       λ C X L n.
-      record { given = location l; leads = one_step rule-DeRef (Rules.deref (bound_to x l (named_value x (Carried.location l) names q))) there; within = location_within }
+      record { given = location l; leads = one_step rule_DeRef (Rules.deref (bound_to x l (named_value x (Carried.location l) names q))) there; within = location_within }
 
   second_cell : (p x l : ℕ) → lookup x E ≡ some (value (location l)) → (o : Option Carried) → carried_at l K ≡ o →
       If (Runs (ValRef p x)) (fitting (contents_at (location_in o) K))
@@ -92,7 +92,7 @@ module _ (E : Environment) (S : Store) (N : CarriedNames) (K : CarriedCells) (na
       let f = find_within k v cells r in
       record {
         given = f.contents;
-        leads = one_step rule-ValRef (Rules.valref named (holds l k (find_within l (Carried.location k) cells q)) f.found) there;
+        leads = one_step rule_ValRef (Rules.valref named (holds l k (find_within l (Carried.location k) cells q)) f.found) there;
         within = f.within;
       })
 
@@ -106,8 +106,8 @@ module _ (E : Environment) (S : Store) (N : CarriedNames) (K : CarriedCells) (na
   pub expression_runs : (e : Expression) → If (Runs e) (carry_expression N K e)
   unfolding carry_expression
   expression_runs (Num p k) = λ C X L n.
-      record { given = integer (pos k); leads = one_step rule-Num Rules.num there; within = number_within (≤ℤ_refl (pos k)) (≤ℤ_refl (pos k)) }
-  expression_runs (Boo p b) = λ C X L n. record { given = truth b; leads = one_step rule-Boo Rules.boo there; within = truth_within (only_possible b) }
+      record { given = integer (pos k); leads = one_step rule_Num Rules.num there; within = number_within (≤ℤ_refl (pos k)) (≤ℤ_refl (pos k)) }
+  expression_runs (Boo p b) = λ C X L n. record { given = truth b; leads = one_step rule_Boo Rules.boo there; within = truth_within (only_possible b) }
   expression_runs (Id p x) = id_runs p x (value_of (carried_meaning x N)) refl
   expression_runs (DeRef p x) = deref_runs p x (value_of (carried_meaning x N)) refl
   expression_runs (ValRef p x) = valref_runs p x (value_of (carried_meaning x N)) refl
@@ -125,7 +125,7 @@ module _ (E : Environment) (S : Store) (N : CarriedNames) (K : CarriedCells) (na
           (operator_gives C X E S L n p o first.given second.given v w first.within second.within) in
           record {
             given = g.given;
-            leads = one_step rule-Binary Rules.binary (leads_on first.leads (leads_on second.leads (one_step g.rule g.applies there)));
+            leads = one_step rule_Binary Rules.binary (leads_on first.leads (leads_on second.leads (one_step g.rule g.applies there)));
             within = g.within;
           }
       by_carried (Carried.unsafe s) q run₁ run₂ = tt
@@ -137,7 +137,7 @@ module _ (E : Environment) (S : Store) (N : CarriedNames) (K : CarriedCells) (na
       by_carried {v} (carried u) q run = λ C X L n.
           let first = run (mark not_mark ∷ C) X L n in
           let g = subst (If (MarkGives not_mark C (val first.given ∷ X) X E S L n)) q (negation_gives C X E S L n first.given v first.within) in
-          record { given = g.given; leads = one_step rule-Not Rules.negation (leads_on first.leads (one_step g.rule g.applies there)); within = g.within }
+          record { given = g.given; leads = one_step rule_Not Rules.negation (leads_on first.leads (one_step g.rule g.applies there)); within = g.within }
       by_carried (Carried.unsafe s) q run = tt
       by_carried Carried.unfit q run = tt
 

@@ -9,7 +9,7 @@ use Rattle.rules.proofs.Basics.{and_both, or_left, or_right}
 use Rattle.rules.specs.paper.Tree.{Arithmetic, Operator, arithmetic, Eq, order, logic}
 use Rattle.rules.specs.paper.Integers.{compare, equal_integers, equal_truths, combine}
 use Rattle.rules.specs.paper.States.{Value, integer, truth, location, Environment, Store, Entry, val, Mark, operator_mark, not_mark, Item, mark, state}
-use Rattle.rules.specs.paper.Rules.{Rule, goes, pushed, Applies, mark-arithmetic, mark-Eq, mark-order, mark-logic, mark-Not}
+use Rattle.rules.specs.paper.Rules.{Rule, goes, pushed, Applies, mark_arithmetic, mark_Eq, mark_order, mark_logic, mark_Not}
 use Rattle.rules.specs.paper.Rules as Rules
 use Rattle.rules.specs.paper.Carried.{Carried, numbers, truths, Carrying, carried, unsafe, unfit, ◌>>=◌, fitting, safe, carry_arithmetic, carry_order, carry_equal, possible, some_choice, carry_choice, carry_not, carry_operator, carry_negation}
 use Rattle.rules.specs.paper.Carried as Carried
@@ -122,9 +122,9 @@ module _ (C : List Item) (X : List Entry) (E : Environment) (S : Store) (L : Lis
       let r = ends.within x y h₁ h₂ h₃ h₄ in
       record {
         given = integer r.0;
-        rule = mark-arithmetic;
+        rule = mark_arithmetic;
         applies =
-            subst (λ e. Rules.Table C E S L n mark-arithmetic (mark (operator_mark (arithmetic o))) (val (integer y) ∷ val (integer x) ∷ X) (pushed e C X E S L n))
+            subst (λ e. Rules.Table C E S L n mark_arithmetic (mark (operator_mark (arithmetic o))) (val (integer y) ∷ val (integer x) ∷ X) (pushed e C X E S L n))
             r.1 Rules.arithmetic_at;
         within = subst (ValueWithin (integer r.0)) (sym ends.is_numbers) (number_within r.2 r.3);
       }
@@ -140,7 +140,7 @@ module _ (C : List Item) (X : List Entry) (E : Environment) (S : Store) (L : Lis
   operator_gives p Eq x y v w (number_within {z = i} {a = a} {b = b} h₁ h₂) (number_within {z = j} {a = c} {b = d} h₃ h₄) =
       record {
         given = truth (equal_integers i j);
-        rule = mark-Eq;
+        rule = mark_Eq;
         applies = Rules.equal_at refl;
         within =
             just_within (carry_equal a b c d) (SomePair a b c d equal_integers) (comparisons_exact a b c d (order_trans h₁ h₂) (order_trans h₃ h₄)).1 (equal_integers i j)
@@ -150,13 +150,13 @@ module _ (C : List Item) (X : List Entry) (E : Environment) (S : Store) (L : Lis
   operator_gives p Eq x y v w (number_within h₁ h₂) location_within = tt
   operator_gives p Eq x y v w (truth_within h) (number_within h₃ h₄) = tt
   operator_gives p Eq x y v w (truth_within {w = s} {f = f} {t = t} h) (truth_within {w = r} {f = g} {t = u} k) =
-      record { given = truth (equal_truths s r); rule = mark-Eq; applies = Rules.equal_at refl; within = truth_within (choice_possible equal_truths s r f t g u h k) }
+      record { given = truth (equal_truths s r); rule = mark_Eq; applies = Rules.equal_at refl; within = truth_within (choice_possible equal_truths s r f t g u h k) }
   operator_gives p Eq x y v w (truth_within h) location_within = tt
   operator_gives p Eq x y v w location_within k = tt
   operator_gives p (order o) x y v w (number_within {z = i} {a = a} {b = b} h₁ h₂) (number_within {z = j} {a = c} {b = d} h₃ h₄) =
       record {
         given = truth (compare o i j);
-        rule = mark-order;
+        rule = mark_order;
         applies = Rules.order_at;
         within =
             just_within (carry_order o a b c d) (SomePair a b c d (compare o)) ((comparisons_exact a b c d (order_trans h₁ h₂) (order_trans h₃ h₄)).0 o) (compare o i j)
@@ -169,7 +169,7 @@ module _ (C : List Item) (X : List Entry) (E : Environment) (S : Store) (L : Lis
   operator_gives p (logic o) x y v w (number_within h₁ h₂) k = tt
   operator_gives p (logic o) x y v w (truth_within h) (number_within h₃ h₄) = tt
   operator_gives p (logic o) x y v w (truth_within {w = s} {f = f} {t = t} h) (truth_within {w = r} {f = g} {t = u} k) =
-      record { given = truth (combine o s r); rule = mark-logic; applies = Rules.logic_at; within = truth_within (choice_possible (combine o) s r f t g u h k) }
+      record { given = truth (combine o s r); rule = mark_logic; applies = Rules.logic_at; within = truth_within (choice_possible (combine o) s r f t g u h k) }
   operator_gives p (logic o) x y v w (truth_within h) location_within = tt
   operator_gives p (logic o) x y v w location_within k = tt
 
@@ -177,5 +177,5 @@ module _ (C : List Item) (X : List Entry) (E : Environment) (S : Store) (L : Lis
   unfolding carry_not
   negation_gives x v (number_within h k) = tt
   negation_gives x v (truth_within {w = w} {f = f} {t = t} h) =
-      record { given = truth (not w); rule = mark-Not; applies = Rules.not_at; within = truth_within (turned_possible w f t h) }
+      record { given = truth (not w); rule = mark_Not; applies = Rules.not_at; within = truth_within (turned_possible w f t h) }
   negation_gives x v location_within = tt

@@ -35,25 +35,25 @@ module _ (a : Passed) (r : ℕ) (C : List Item) (X : List Entry) (E : Environmen
 
   block_step : (b : Block) → BlockOk Γ b → SmallBlock b → ControlTyped a C Γ Θ → Here (command (block b))
   block_step b (Typing.blk {p = p} d c) s k =
-      opening_step p Rules.rule-Blk refl refl Rules.blk names cells types pending
+      opening_step p Rules.rule_Blk refl refl Rules.blk names cells types pending
       (declaration_typed d s.0 in_block (extend_mark_typed (command_typed c s.1 (leave_mark_typed k))))
       (λ entered. opened_on names same entered values) (λ M. tt)
 
   pub command_step : (c : Command) → CommandOk Γ c → SmallCommand c → ControlTyped a C Γ Θ → Here (command c)
   command_step c (Typing.assign g l q) s k =
-      same_store Rules.rule-Assign refl refl Rules.assign names cells types pending (expression_typed g s (assign_mark_typed l q k)) (name_on values) (λ M m. tt)
+      same_store Rules.rule_Assign refl refl Rules.assign names cells types pending (expression_typed g s (assign_mark_typed l q k)) (name_on values) (λ M m. tt)
   command_step c (Typing.loop g d) s k =
-      same_store Rules.rule-Loop refl refl Rules.loop names cells types pending
+      same_store Rules.rule_Loop refl refl Rules.loop names cells types pending
       (expression_typed g s.0 (loop_mark_typed g s.0 d s.1 k)) (testing_on values) (λ M m. tt)
   command_step c (Typing.cseq d₁ d₂) s k =
-      same_store Rules.rule-CSeq refl refl Rules.cseq names cells types pending (command_typed d₁ s.0 (command_typed d₂ s.1 k)) values (λ M m. tt)
+      same_store Rules.rule_CSeq refl refl Rules.cseq names cells types pending (command_typed d₁ s.0 (command_typed d₂ s.1 k)) values (λ M m. tt)
   command_step c (Typing.block_of {b = b} d) s k = block_step b d s k
   command_step c (Typing.call {p = p} {fs = fs} g q) s k =
-      opening_step p Rules.rule-Call refl refl Rules.call names cells types pending
+      opening_step p Rules.rule_Call refl refl Rules.call names cells types pending
       (put_actuals_typed g s (call_mark_typed q (same_count g) refl k))
       (λ entered. calling_on entered values) (λ M. tt)
   command_step c (Typing.conditional g d₁ d₂) s k =
-      same_store Rules.rule-Cond refl refl Rules.conditional names cells types pending
+      same_store Rules.rule_Cond refl refl Rules.conditional names cells types pending
       (expression_typed g s.0 (conditional_mark_typed d₁ s.1 d₂ s.2 k)) (testing_on values) (λ M m. tt)
 
   -- What a Bind binds goes on control, and leaves a value or closure of its meaning.
@@ -64,17 +64,17 @@ module _ (a : Passed) (r : ℕ) (C : List Item) (X : List Entry) (E : Environmen
 
   pub declaration_step : (d : Declaration) (Δ : Scope) → Gives Γ d Δ → SmallDeclaration d → Declaring Θ → ControlTyped a C Γ (declared Δ Θ) → Here (declaration d)
   declaration_step d Δ (Typing.bind {b = b} {m = m} g q) s t k =
-      same_store Rules.rule-Bind refl refl Rules.bind names cells types pending
+      same_store Rules.rule_Bind refl refl Rules.bind names cells types pending
       (bound_control b m g s (past_name t) _ (bind_mark_typed (subst (λ Ψ. ControlTyped a C Γ (declared Ψ Θ)) q k))) (name_on values) (λ M m. tt)
   declaration_step d Δ (Typing.dseq g₁ g₂ apart q) s t k =
-      same_store Rules.rule-DSeq refl refl Rules.dseq names cells types pending
+      same_store Rules.rule_DSeq refl refl Rules.dseq names cells types pending
       (declaration_typed g₁ s.0 t (dseq_extend_mark_typed (declaration_typed g₂ s.1 (past_saved t) (dseq_join_mark_typed (subst (λ Ψ. ControlTyped a C Γ (declared Ψ Θ)) q k)))))
       values (λ M m. tt)
 
   pub reference_step : (p c : ℕ) (e : Expression) → HasCode Γ e c → SmallExpression e → Declaring Θ → ControlTyped a C Γ (value_of (code (suc (suc c))) Θ) → Here (reference p e)
   reference_step p c e g s t k =
-      same_store Rules.rule-Ref refl refl Rules.ref names cells types pending (expression_typed g s (ref_mark_typed t k)) values (λ M m. tt)
+      same_store Rules.rule_Ref refl refl Rules.ref names cells types pending (expression_typed g s (ref_mark_typed t k)) values (λ M m. tt)
 
   pub abstraction_step : (p : ℕ) (fs : List Formal) (b : Block) → BlockOk (with_formals fs Γ) b → SmallBlock b → ControlTyped a C Γ (value_of (function fs) Θ) → Here (abstraction p fs b)
   abstraction_step p fs b g s k =
-      same_store Rules.rule-Abs refl refl Rules.abs names cells types pending k (value_on (closure_typed Γ names g s) values) (λ M m. tt)
+      same_store Rules.rule_Abs refl refl Rules.abs names cells types pending k (value_on (closure_typed Γ names g s) values) (λ M m. tt)

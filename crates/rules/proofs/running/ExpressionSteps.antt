@@ -69,26 +69,26 @@ module _ (a : Passed) (r : ℕ) (C : List Item) (X : List Entry) (E : Environmen
   holds_its_type l c q M m = subst (λ N. HoldsItsType N S l) (sym m) (cell_holds l c cells q)
 
   id_plain_step : (p x c : ℕ) (v : Value) → c < 2 → lookup x E ≡ some (value v) → ValueTyped W v c → ControlTyped a C Γ (value_of (code c) Θ) → Here (Id p x)
-  id_plain_step p x c v l f (integer_typed t) k = push Rules.rule-Id (Rules.id_plain tt f) (integer_typed t) k (λ M m. rw f tt)
-  id_plain_step p x c v l f truth_typed k = push Rules.rule-Id (Rules.id_plain tt f) truth_typed k (λ M m. rw f tt)
+  id_plain_step p x c v l f (integer_typed t) k = push Rules.rule_Id (Rules.id_plain tt f) (integer_typed t) k (λ M m. rw f tt)
+  id_plain_step p x c v l f truth_typed k = push Rules.rule_Id (Rules.id_plain tt f) truth_typed k (λ M m. rw f tt)
   id_plain_step p x c v l f (location_typed q) k = absurd (not-suc-le-zero (le_of_suc-le-suc (le_of_suc-le-suc l)))
 
   id_cell_step : (p x c : ℕ) → BoundCell W E x c → ControlTyped a C Γ (value_of (code c) Θ) → Here (Id p x)
   id_cell_step p x c b k =
       let f = find_typed b.cell c cells b.has_code in
-      push Rules.rule-Id (Rules.id_cell b.found f.found) f.typed k
+      push Rules.rule_Id (Rules.id_cell b.found f.found) f.typed k
       (λ M m. rw b.found (holds_its_type b.cell c b.has_code M m, tt))
 
   deref_step : (p x c : ℕ) (v : Value) → 2 ≤ c → lookup x E ≡ some (value v) → ValueTyped W v c → ControlTyped a C Γ (value_of (code c) Θ) → Here (DeRef p x)
   deref_step p x c v l f (integer_typed t) k = absurd (not-suc-le-zero l)
   deref_step p x c v l f truth_typed k = absurd (not-suc-le-zero (le_of_suc-le-suc l))
-  deref_step p x c v l f (location_typed q) k = push Rules.rule-DeRef (Rules.deref f) (location_typed q) k (λ M m. tt)
+  deref_step p x c v l f (location_typed q) k = push Rules.rule_DeRef (Rules.deref f) (location_typed q) k (λ M m. tt)
 
   valref_second : (p x c l : ℕ) (v : Value) → lookup x E ≡ some (value (location l)) → code_at l W ≡ some (suc (suc c)) → find l S ≡ some v → ValueTyped W v (suc (suc c)) →
       ControlTyped a C Γ (value_of (code c) Θ) → Here (ValRef p x)
   valref_second p x c l v f q g (location_typed {l = j} t) k =
       let o = find_typed j c cells t in
-      push Rules.rule-ValRef (Rules.valref f g o.found) o.typed k
+      push Rules.rule_ValRef (Rules.valref f g o.found) o.typed k
       (λ M m. rw (f, g) (holds_its_type l (suc (suc c)) q M m, (holds_its_type j c t M m, tt)))
 
   valref_step : (p x c : ℕ) → BoundCell W E x (suc (suc c)) → ControlTyped a C Γ (value_of (code c) Θ) → Here (ValRef p x)
@@ -99,12 +99,12 @@ module _ (a : Passed) (r : ℕ) (C : List Item) (X : List Entry) (E : Environmen
   binary_step : (p : ℕ) (o : Operator) (e₁ e₂ : Expression) (c₁ c₂ c : ℕ) → OperatorTyped o c₁ c₂ c → HasCode Γ e₁ c₁ → HasCode Γ e₂ c₂ →
       SmallExpression e₁ × SmallExpression e₂ → ControlTyped a C Γ (value_of (code c) Θ) → Here (Binary p o e₁ e₂)
   binary_step p o e₁ e₂ c₁ c₂ c t g₁ g₂ s k =
-      same_store Rules.rule-Binary refl refl Rules.binary names cells types pending
+      same_store Rules.rule_Binary refl refl Rules.binary names cells types pending
       (expression_typed g₁ s.0 (expression_typed g₂ s.1 (operator_mark_typed t k))) values (λ M m. tt)
 
   pub expression_step : (e : Expression) (c : ℕ) → HasCode Γ e c → SmallExpression e → ControlTyped a C Γ (value_of (code c) Θ) → Here e
-  expression_step e c (Typing.num {n = n}) s k = push Rules.rule-Num Rules.num (integer_typed (small_in_range n s)) k (λ M m. tt)
-  expression_step e c Typing.boo s k = push Rules.rule-Boo Rules.boo truth_typed k (λ M m. tt)
+  expression_step e c (Typing.num {n = n}) s k = push Rules.rule_Num Rules.num (integer_typed (small_in_range n s)) k (λ M m. tt)
+  expression_step e c Typing.boo s k = push Rules.rule_Boo Rules.boo truth_typed k (λ M m. tt)
   expression_step e c (Typing.id_plain {p = p} {x = x} l q) s k =
       let b = bound_value_typed x c names q in id_plain_step p x c b.what l b.found b.typed k
   expression_step e c (Typing.id_cell {p = p} {x = x} q) s k = id_cell_step p x c (bound_cell_typed x c names q) k
@@ -116,4 +116,4 @@ module _ (a : Passed) (r : ℕ) (C : List Item) (X : List Entry) (E : Environmen
   expression_step e c (Typing.equal_of {p = p} {c = d} {e₁ = e₁} {e₂ = e₂} l g₁ g₂) s k = binary_step p Eq e₁ e₂ d d 1 (equal_typed l) g₁ g₂ s k
   expression_step e c (Typing.logic_of {p = p} {o = o} {e₁ = e₁} {e₂ = e₂} g₁ g₂) s k = binary_step p (logic o) e₁ e₂ 1 1 1 logic_typed g₁ g₂ s k
   expression_step e c (Typing.not_of g) s k =
-      same_store Rules.rule-Not refl refl Rules.negation names cells types pending (expression_typed g s (not_mark_typed k)) values (λ M m. tt)
+      same_store Rules.rule_Not refl refl Rules.negation names cells types pending (expression_typed g s (not_mark_typed k)) values (λ M m. tt)

@@ -160,9 +160,9 @@ module _ (C : List Item) (E : Environment) (S : Store) (L : List ℕ) (n : ℕ) 
   located x l b q r = q ∙ ap {B = Option Bindable} some (is_bound_location b l r)
 
   id_sound : (p x : ℕ) (X : List Entry) (v w : Value) → lookup x E ≡ some (value v) → id_value S v ≡ some w →
-      Table C E S L n Rules.rule-Id (expression (Id p x)) X (goes (state C (val w ∷ X) E S L n))
-  id_sound p x X (integer z) w q r = subst (λ u. Table C E S L n Rules.rule-Id (expression (Id p x)) X (goes (state C (val u ∷ X) E S L n))) (some-injective (integer z) w r) (Rules.id_plain tt q)
-  id_sound p x X (truth b) w q r = subst (λ u. Table C E S L n Rules.rule-Id (expression (Id p x)) X (goes (state C (val u ∷ X) E S L n))) (some-injective (truth b) w r) (Rules.id_plain tt q)
+      Table C E S L n Rules.rule_Id (expression (Id p x)) X (goes (state C (val w ∷ X) E S L n))
+  id_sound p x X (integer z) w q r = subst (λ u. Table C E S L n Rules.rule_Id (expression (Id p x)) X (goes (state C (val u ∷ X) E S L n))) (some-injective (integer z) w r) (Rules.id_plain tt q)
+  id_sound p x X (truth b) w q r = subst (λ u. Table C E S L n Rules.rule_Id (expression (Id p x)) X (goes (state C (val u ∷ X) E S L n))) (some-injective (truth b) w r) (Rules.id_plain tt q)
   id_sound p x X (location l) w q r = Rules.id_cell q r
 
   expression_sound : (e : Expression) (X : List Entry) → At (expression e) X (fire_expression e C X E S L n)
@@ -221,7 +221,7 @@ module _ (C : List Item) (E : Environment) (S : Store) (L : List ℕ) (n : ℕ) 
   loop_sound false l X = Rules.loop_false
 
   conditional_sound : (t : Bool) (c : CondNode) (X : List Entry) →
-      Table C E S L n Rules.mark-Cond (mark conditional_mark) (val (truth t) ∷ node (cond_node c) ∷ X) (goes (state (command (chosen t c.first c.second) ∷ C) X E S L n))
+      Table C E S L n Rules.mark_Cond (mark conditional_mark) (val (truth t) ∷ node (cond_node c) ∷ X) (goes (state (command (chosen t c.first c.second) ∷ C) X E S L n))
   conditional_sound true c X = Rules.conditional_true
   conditional_sound false c X = Rules.conditional_false
 

@@ -112,7 +112,7 @@ module _ (a : Passed) (r : ℕ) (C : List Item) (E : Environment) (S : Store) (n
       ControlTyped a C (Δ ++ Γ) (frame p Γ Θ) → ValuesTyped r E W L X (declared Δ (opened p Γ Θ)) P →
       Progress a r (state (mark extend_mark ∷ C) X E S L n) h
   extend_mark_step p Δ L X Θ P pending k (declared_on d (opened_on e g entered values)) =
-      same_store Rules.mark-extend refl refl Rules.extend_at (join_typed d names) cells types pending k (frame_on e g entered values) (λ M m. tt)
+      same_store Rules.mark_extend refl refl Rules.extend_at (join_typed d names) cells types pending k (frame_on e g entered values) (λ M m. tt)
 
   -- The second mark restores what its block or call found.
   pub leave_mark_step : (p m : ℕ) (Γ₀ : Scope) (L : List ℕ) (X : List Entry) (Θ : StackShape) (P : List State) → open_states h.past ≡ P →
@@ -122,7 +122,7 @@ module _ (a : Passed) (r : ℕ) (C : List Item) (E : Environment) (S : Store) (n
       let newest = newest_open p h.past e Q pending entered.top in
       let cells' = remove_grown cells g in
       record {
-        rule = Rules.mark-leave;
+        rule = Rules.mark_leave;
         effect = _;
         applies = Rules.leave_at;
         cells_before = tt;
@@ -157,7 +157,7 @@ module _ (a : Passed) (r : ℕ) (C : List Item) (E : Environment) (S : Store) (n
   enter_step p x k fs b F Γ₁ L X Θ P pending found closed ok small counted control m =
       let called = calling_open m.rest_typed in
       record {
-        rule = Rules.mark-Call;
+        rule = Rules.mark_Call;
         effect = _;
         applies = Rules.call_at found (subst (λ j. match_formals j fs X F ≡ some m.matched) counted m.matches);
         cells_before = tt;

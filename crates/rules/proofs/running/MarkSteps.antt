@@ -75,7 +75,7 @@ module _ (a : Passed) (r : ℕ) (C : List Item) (E : Environment) (S : Store) (L
       ValuesTyped r E W L X (value_of (code 0) (value_of (code 0) Θ)) P → Here (mark (operator_mark (arithmetic o))) X
   arithmetic_step o X Θ k (value_on (value_typed (integer_typed {z = z} s)) (value_on {X = Y} (value_typed (integer_typed {z = y} t)) values)) =
       record {
-        rule = Rules.mark-arithmetic;
+        rule = Rules.mark_arithmetic;
         effect = _;
         applies = Rules.arithmetic_at;
         cells_before = tt;
@@ -88,19 +88,19 @@ module _ (a : Passed) (r : ℕ) (C : List Item) (E : Environment) (S : Store) (L
     where
       equal_values_step : (c : ℕ) {v w : Value} {Y : List Entry} → c < 2 → ValueTyped W v c → ValueTyped W w c → ValuesTyped r E W L Y Θ P →
           Here (mark (operator_mark Eq)) (val v ∷ val w ∷ Y)
-      equal_values_step c l (integer_typed s) (integer_typed t) values = same_store Rules.mark-Eq refl refl (Rules.equal_at refl) names cells types pending k (value_on (value_typed truth_typed) values) (λ M m. tt)
-      equal_values_step c l truth_typed truth_typed values = same_store Rules.mark-Eq refl refl (Rules.equal_at refl) names cells types pending k (value_on (value_typed truth_typed) values) (λ M m. tt)
+      equal_values_step c l (integer_typed s) (integer_typed t) values = same_store Rules.mark_Eq refl refl (Rules.equal_at refl) names cells types pending k (value_on (value_typed truth_typed) values) (λ M m. tt)
+      equal_values_step c l truth_typed truth_typed values = same_store Rules.mark_Eq refl refl (Rules.equal_at refl) names cells types pending k (value_on (value_typed truth_typed) values) (λ M m. tt)
       equal_values_step c l (location_typed s) t values = absurd (not-suc-le-zero (le_of_suc-le-suc (le_of_suc-le-suc l)))
 
   order_step : (o : _) (X : List Entry) (Θ : StackShape) → ControlTyped a C Γ (value_of (code 1) Θ) →
       ValuesTyped r E W L X (value_of (code 0) (value_of (code 0) Θ)) P → Here (mark (operator_mark (order o))) X
   order_step o X Θ k (value_on (value_typed (integer_typed s)) (value_on (value_typed (integer_typed t)) values)) =
-      same_store Rules.mark-order refl refl Rules.order_at names cells types pending k (value_on (value_typed truth_typed) values) (λ M m. tt)
+      same_store Rules.mark_order refl refl Rules.order_at names cells types pending k (value_on (value_typed truth_typed) values) (λ M m. tt)
 
   logic_step : (o : _) (X : List Entry) (Θ : StackShape) → ControlTyped a C Γ (value_of (code 1) Θ) →
       ValuesTyped r E W L X (value_of (code 1) (value_of (code 1) Θ)) P → Here (mark (operator_mark (logic o))) X
   logic_step o X Θ k (value_on (value_typed truth_typed) (value_on (value_typed truth_typed) values)) =
-      same_store Rules.mark-logic refl refl Rules.logic_at names cells types pending k (value_on (value_typed truth_typed) values) (λ M m. tt)
+      same_store Rules.mark_logic refl refl Rules.logic_at names cells types pending k (value_on (value_typed truth_typed) values) (λ M m. tt)
 
   pub operator_step : (o : Operator) (c₁ c₂ c : ℕ) (X : List Entry) (Θ : StackShape) → OperatorTyped o c₁ c₂ c → ControlTyped a C Γ (value_of (code c) Θ) →
       ValuesTyped r E W L X (value_of (code c₂) (value_of (code c₁) Θ)) P → Here (mark (operator_mark o)) X
@@ -111,7 +111,7 @@ module _ (a : Passed) (r : ℕ) (C : List Item) (E : Environment) (S : Store) (L
 
   pub not_step : (X : List Entry) (Θ : StackShape) → ControlTyped a C Γ (value_of (code 1) Θ) → ValuesTyped r E W L X (value_of (code 1) Θ) P → Here (mark not_mark) X
   not_step X Θ k (value_on (value_typed truth_typed) values) =
-      same_store Rules.mark-Not refl refl Rules.not_at names cells types pending k (value_on (value_typed truth_typed) values) (λ M m. tt)
+      same_store Rules.mark_Not refl refl Rules.not_at names cells types pending k (value_on (value_typed truth_typed) values) (λ M m. tt)
 
   pub loop_step : (p : ℕ) (e : Expression) (c : Command) (X : List Entry) (Θ : StackShape) → HasCode Γ e 1 → SmallExpression e → CommandOk Γ c → SmallCommand c →
       ControlTyped a C Γ Θ → ValuesTyped r E W L X (value_of (code 1) (testing (Loop p e c) Θ)) P → Here (mark loop_mark) X
@@ -123,24 +123,24 @@ module _ (a : Passed) (r : ℕ) (C : List Item) (E : Environment) (S : Store) (L
   pub conditional_step : (p : ℕ) (e : Expression) (c₁ c₂ : Command) (X : List Entry) (Θ : StackShape) → CommandOk Γ c₁ → SmallCommand c₁ → CommandOk Γ c₂ → SmallCommand c₂ →
       ControlTyped a C Γ Θ → ValuesTyped r E W L X (value_of (code 1) (testing (Cond p e c₁ c₂) Θ)) P → Here (mark conditional_mark) X
   conditional_step p e c₁ c₂ X Θ d₁ t₁ d₂ t₂ k (value_on (value_typed (truth_typed {b = true})) (testing_on values)) =
-      same_store Rules.mark-Cond refl refl Rules.conditional_true names cells types pending (command_typed d₁ t₁ k) values (λ M m. tt)
+      same_store Rules.mark_Cond refl refl Rules.conditional_true names cells types pending (command_typed d₁ t₁ k) values (λ M m. tt)
   conditional_step p e c₁ c₂ X Θ d₁ t₁ d₂ t₂ k (value_on (value_typed (truth_typed {b = false})) (testing_on values)) =
-      same_store Rules.mark-Cond refl refl Rules.conditional_false names cells types pending (command_typed d₂ t₂ k) values (λ M m. tt)
+      same_store Rules.mark_Cond refl refl Rules.conditional_false names cells types pending (command_typed d₂ t₂ k) values (λ M m. tt)
 
   pub bind_step : (x : ℕ) (m : Meaning) (X : List Entry) (Θ : StackShape) → ControlTyped a C Γ (declared (record { name = x; meaning = m } ∷ []) Θ) →
       ValuesTyped r E W L X (value_of m (name_of x Θ)) P → Here (mark bind_mark) X
   bind_step x m X Θ k (value_on b (name_on values)) =
-      same_store Rules.mark-Bind refl refl Rules.bind_at names cells types pending k (declared_on (one_name refl b no_names) values) (λ M m. tt)
+      same_store Rules.mark_Bind refl refl Rules.bind_at names cells types pending k (declared_on (one_name refl b no_names) values) (λ M m. tt)
 
   pub dseq_extend_step : (Δ₁ : Scope) (X : List Entry) (Θ : StackShape) → ControlTyped a C (Δ₁ ++ Γ) (saved Δ₁ Γ Θ) →
       ValuesTyped r E W L X (declared Δ₁ Θ) P → Here (mark dseq_extend_mark) X
   dseq_extend_step Δ₁ X Θ k (declared_on d₁ values) =
-      same_store Rules.mark-DSeq-extend refl refl Rules.dseq_extend_at (join_typed d₁ names) cells types pending k (saved_on d₁ names values) (λ M m. tt)
+      same_store Rules.mark_DSeq_extend refl refl Rules.dseq_extend_at (join_typed d₁ names) cells types pending k (saved_on d₁ names values) (λ M m. tt)
 
   pub dseq_join_step : (Δ₁ Δ₂ Γ₀ : Scope) (X : List Entry) (Θ : StackShape) → ControlTyped a C Γ₀ (declared (Δ₂ ++ Δ₁) Θ) →
       ValuesTyped r E W L X (declared Δ₂ (saved Δ₁ Γ₀ Θ)) P → Here (mark dseq_join_mark) X
   dseq_join_step Δ₁ Δ₂ Γ₀ X Θ k (declared_on d₂ (saved_on d₁ outer values)) =
-      same_store Rules.mark-DSeq-join refl refl Rules.dseq_join_at outer cells types pending k (declared_on (join_typed d₂ d₁) values) (λ M m. tt)
+      same_store Rules.mark_DSeq_join refl refl Rules.dseq_join_at outer cells types pending k (declared_on (join_typed d₂ d₁) values) (λ M m. tt)
 
   -- Assign's mark sets a live cell of code 0 or 1.
   store_step : (x c : ℕ) (v : Value) (X : List Entry) (Θ : StackShape) → c < 2 → BoundCell W E x c → ValueTyped W v c → ControlTyped a C Γ Θ → ValuesTyped r E W L X Θ P →
@@ -149,7 +149,7 @@ module _ (a : Passed) (r : ℕ) (C : List Item) (E : Environment) (S : Store) (L
       let f = find_typed b.cell c cells b.has_code in
       let cells' = store_at_typed b.cell c v cells b.has_code l t in
       record {
-        rule = Rules.mark-Assign;
+        rule = Rules.mark_Assign;
         effect = _;
         applies = Rules.assign_at b.found f.found;
         cells_before = rw b.found (subst (λ M. HoldsItsType M S b.cell) (sym types) (cell_holds b.cell c cells b.has_code), tt);

@@ -5,7 +5,7 @@ use Rattle.std.proofs.Math.Option.{Option, none, some}
 use Rattle.rules.specs.paper.Tree.{Operator, arithmetic, Eq, order, logic, Expression, Num, Boo, Id, DeRef, ValRef, Binary, Not, Formal, Command, Assign, Loop, CSeq, block, Call, Cond, Block, Blk, Declaration, Bind, DSeq}
 use Rattle.rules.specs.paper.Integers.{compute, compare, equal_integers, equal_truths, combine}
 use Rattle.rules.specs.paper.States.{Value, integer, truth, location, Bindable, value, closure, Environment, empty, bound, lookup, join, Store, find, store_at, remove, Entry, bindable, name, node, environment, locations, val, Mark, operator_mark, not_mark, assign_mark, loop_mark, conditional_mark, ref_mark, bind_mark, dseq_extend_mark, dseq_join_mark, extend_mark, leave_mark, call_mark, Item, expression, command, declaration, reference, abstraction, mark, bound_item, State, state}
-use Rattle.rules.specs.paper.Rules.{Rule, rule-Num, rule-Boo, rule-Id, rule-DeRef, rule-ValRef, rule-Binary, rule-Not, rule-Assign, rule-Loop, rule-CSeq, rule-Blk, rule-Call, rule-Cond, rule-Bind, rule-DSeq, rule-Ref, rule-Abs, mark-arithmetic, mark-Eq, mark-order, mark-logic, mark-Not, mark-Assign, mark_Loop, mark-Cond, mark_Ref, mark-Bind, mark-DSeq-extend, mark-DSeq-join, mark-extend, mark-leave, mark-Call, Effect, goes, pushed, equal_values, put_actuals, Matched, match_formals}
+use Rattle.rules.specs.paper.Rules.{Rule, rule_Num, rule_Boo, rule_Id, rule_DeRef, rule_ValRef, rule_Binary, rule_Not, rule_Assign, rule_Loop, rule_CSeq, rule_Blk, rule_Call, rule_Cond, rule_Bind, rule_DSeq, rule_Ref, rule_Abs, mark_arithmetic, mark_Eq, mark_order, mark_logic, mark_Not, mark_Assign, mark_Loop, mark_Cond, mark_Ref, mark_Bind, mark_DSeq_extend, mark_DSeq_join, mark_extend, mark_leave, mark_Call, Effect, goes, pushed, equal_values, put_actuals, Matched, match_formals}
 
 pub data Firing : Type 0 where
   stuck : Firing
@@ -160,93 +160,93 @@ chosen true c₁ c₂ = c₁
 chosen false c₁ c₂ = c₂
 
 unfoldable pub fire_expression : Expression → List Item → List Entry → Environment → Store → List ℕ → ℕ → Firing
-fire_expression (Num p k) C X E S L n = fires rule-Num (goes (state C (val (integer (pos k)) ∷ X) E S L n))
-fire_expression (Boo p b) C X E S L n = fires rule-Boo (goes (state C (val (truth b) ∷ X) E S L n))
+fire_expression (Num p k) C X E S L n = fires rule_Num (goes (state C (val (integer (pos k)) ∷ X) E S L n))
+fire_expression (Boo p b) C X E S L n = fires rule_Boo (goes (state C (val (truth b) ∷ X) E S L n))
 fire_expression (Id p x) C X E S L n =
     given (lookup x E) (λ b. given (bound_value b) (λ v. given (id_value S v) (λ w.
-    fires rule-Id (goes (state C (val w ∷ X) E S L n)))))
+    fires rule_Id (goes (state C (val w ∷ X) E S L n)))))
 fire_expression (DeRef p x) C X E S L n =
     given (lookup x E) (λ b. given (bound_location b) (λ l.
-    fires rule-DeRef (goes (state C (val (location l) ∷ X) E S L n))))
+    fires rule_DeRef (goes (state C (val (location l) ∷ X) E S L n))))
 fire_expression (ValRef p x) C X E S L n =
     given (lookup x E) (λ b. given (bound_location b) (λ l.
     given (find l S) (λ v. given (as_location v) (λ k. given (find k S) (λ w.
-    fires rule-ValRef (goes (state C (val w ∷ X) E S L n)))))))
+    fires rule_ValRef (goes (state C (val w ∷ X) E S L n)))))))
 fire_expression (Binary p o e₁ e₂) C X E S L n =
-    fires rule-Binary (goes (state (expression e₁ ∷ expression e₂ ∷ mark (operator_mark o) ∷ C) X E S L n))
-fire_expression (Not p e) C X E S L n = fires rule-Not (goes (state (expression e ∷ mark not_mark ∷ C) X E S L n))
+    fires rule_Binary (goes (state (expression e₁ ∷ expression e₂ ∷ mark (operator_mark o) ∷ C) X E S L n))
+fire_expression (Not p e) C X E S L n = fires rule_Not (goes (state (expression e ∷ mark not_mark ∷ C) X E S L n))
 
 unfoldable pub fire_command : Command → List Item → List Entry → Environment → Store → List ℕ → ℕ → Firing
 fire_command (Assign p x e) C X E S L n =
-    fires rule-Assign (goes (state (expression e ∷ mark assign_mark ∷ C) (name x ∷ X) E S L n))
+    fires rule_Assign (goes (state (expression e ∷ mark assign_mark ∷ C) (name x ∷ X) E S L n))
 fire_command (Loop p e c) C X E S L n =
-    fires rule-Loop (goes (state (expression e ∷ mark loop_mark ∷ C) (node (Loop p e c) ∷ X) E S L n))
-fire_command (CSeq p c₁ c₂) C X E S L n = fires rule-CSeq (goes (state (command c₁ ∷ command c₂ ∷ C) X E S L n))
+    fires rule_Loop (goes (state (expression e ∷ mark loop_mark ∷ C) (node (Loop p e c) ∷ X) E S L n))
+fire_command (CSeq p c₁ c₂) C X E S L n = fires rule_CSeq (goes (state (command c₁ ∷ command c₂ ∷ C) X E S L n))
 fire_command (block (Blk p d c)) C X E S L n =
-    fires rule-Blk (goes (state (declaration d ∷ mark extend_mark ∷ command c ∷ mark (leave_mark p n) ∷ C) (locations L ∷ X) E S [] n))
+    fires rule_Blk (goes (state (declaration d ∷ mark extend_mark ∷ command c ∷ mark (leave_mark p n) ∷ C) (locations L ∷ X) E S [] n))
 fire_command (Call p x es) C X E S L n =
-    fires rule-Call (goes (state (put_actuals es (mark (call_mark p x (length es)) ∷ C)) X E S L n))
+    fires rule_Call (goes (state (put_actuals es (mark (call_mark p x (length es)) ∷ C)) X E S L n))
 fire_command (Cond p e c₁ c₂) C X E S L n =
-    fires rule-Cond (goes (state (expression e ∷ mark conditional_mark ∷ C) (node (Cond p e c₁ c₂) ∷ X) E S L n))
+    fires rule_Cond (goes (state (expression e ∷ mark conditional_mark ∷ C) (node (Cond p e c₁ c₂) ∷ X) E S L n))
 
 abbrev pub fire_declaration : Declaration → List Item → List Entry → Environment → Store → List ℕ → ℕ → Firing
 fire_declaration (Bind p x b) C X E S L n =
-    fires rule-Bind (goes (state (bound_item b ∷ mark bind_mark ∷ C) (name x ∷ X) E S L n))
+    fires rule_Bind (goes (state (bound_item b ∷ mark bind_mark ∷ C) (name x ∷ X) E S L n))
 fire_declaration (DSeq p d₁ d₂) C X E S L n =
-    fires rule-DSeq (goes (state (declaration d₁ ∷ mark dseq_extend_mark ∷ declaration d₂ ∷ mark dseq_join_mark ∷ C) X E S L n))
+    fires rule_DSeq (goes (state (declaration d₁ ∷ mark dseq_extend_mark ∷ declaration d₂ ∷ mark dseq_join_mark ∷ C) X E S L n))
 
 unfoldable pub fire_operator : Operator → List Item → List Entry → Environment → Store → List ℕ → ℕ → Firing
 fire_operator (arithmetic o) C X E S L n =
-    take as_integer X (λ b Y. take as_integer Y (λ a Z. fires mark-arithmetic (pushed (compute o a b) C Z E S L n)))
+    take as_integer X (λ b Y. take as_integer Y (λ a Z. fires mark_arithmetic (pushed (compute o a b) C Z E S L n)))
 fire_operator Eq C X E S L n =
     take as_value X (λ b Y. take as_value Y (λ a Z. given (equal_values a b) (λ t.
-    fires mark-Eq (goes (state C (val (truth t) ∷ Z) E S L n)))))
+    fires mark_Eq (goes (state C (val (truth t) ∷ Z) E S L n)))))
 fire_operator (order o) C X E S L n =
     take as_integer X (λ b Y. take as_integer Y (λ a Z.
-    fires mark-order (goes (state C (val (truth (compare o a b)) ∷ Z) E S L n))))
+    fires mark_order (goes (state C (val (truth (compare o a b)) ∷ Z) E S L n))))
 fire_operator (logic o) C X E S L n =
     take as_truth X (λ b Y. take as_truth Y (λ a Z.
-    fires mark-logic (goes (state C (val (truth (combine o a b)) ∷ Z) E S L n))))
+    fires mark_logic (goes (state C (val (truth (combine o a b)) ∷ Z) E S L n))))
 
 unfoldable pub fire_mark : Mark → List Item → List Entry → Environment → Store → List ℕ → ℕ → Firing
 fire_mark (operator_mark o) C X E S L n = fire_operator o C X E S L n
-fire_mark not_mark C X E S L n = take as_truth X (λ a Y. fires mark-Not (goes (state C (val (truth (not a)) ∷ Y) E S L n)))
+fire_mark not_mark C X E S L n = take as_truth X (λ a Y. fires mark_Not (goes (state C (val (truth (not a)) ∷ Y) E S L n)))
 fire_mark assign_mark C X E S L n =
     take as_value X (λ v Y. take as_name Y (λ x Z.
     given (lookup x E) (λ b. given (bound_location b) (λ l. given (find l S) (λ w.
-    fires mark-Assign (goes (state C Z E (store_at l v S) L n)))))))
+    fires mark_Assign (goes (state C Z E (store_at l v S) L n)))))))
 fire_mark loop_mark C X E S L n =
     take as_truth X (λ t Y. take as_loop Y (λ l Z. fires mark_Loop (goes (state (after_test t l C) Z E S L n))))
 fire_mark conditional_mark C X E S L n =
-    take as_truth X (λ t Y. take as_cond Y (λ c Z. fires mark-Cond (goes (state (command (chosen t c.first c.second) ∷ C) Z E S L n))))
+    take as_truth X (λ t Y. take as_cond Y (λ c Z. fires mark_Cond (goes (state (command (chosen t c.first c.second) ∷ C) Z E S L n))))
 fire_mark ref_mark C X E S L n =
     take as_value X (λ v Y.
     fires mark_Ref (goes (state C (val (location (length S)) ∷ Y) E (record { where_at = length S; contents = v } ∷ S) (length S ∷ L) n)))
 fire_mark bind_mark C X E S L n =
     take as_bindable X (λ b Y. take as_name Y (λ x Z.
-    fires mark-Bind (goes (state C (environment (bound x b empty) ∷ Z) E S L (suc n)))))
+    fires mark_Bind (goes (state C (environment (bound x b empty) ∷ Z) E S L (suc n)))))
 fire_mark dseq_extend_mark C X E S L n =
-    take as_environment X (λ D₁ Y. fires mark-DSeq-extend (goes (state C (environment D₁ ∷ environment E ∷ Y) (join D₁ E) S L n)))
+    take as_environment X (λ D₁ Y. fires mark_DSeq_extend (goes (state C (environment D₁ ∷ environment E ∷ Y) (join D₁ E) S L n)))
 fire_mark dseq_join_mark C X E S L n =
     take as_environment X (λ D₂ Y. take as_environment Y (λ D₁ Z. take as_environment Z (λ F rest.
-    fires mark-DSeq-join (goes (state C (environment (join D₂ D₁) ∷ rest) F S L n)))))
+    fires mark_DSeq_join (goes (state C (environment (join D₂ D₁) ∷ rest) F S L n)))))
 fire_mark extend_mark C X E S L n =
-    take as_environment X (λ D Y. fires mark-extend (goes (state C (environment E ∷ Y) (join D E) S L n)))
+    take as_environment X (λ D Y. fires mark_extend (goes (state C (environment E ∷ Y) (join D E) S L n)))
 fire_mark (leave_mark p m) C X E S L n =
     take as_environment X (λ F Y. take as_locations Y (λ K Z.
-    fires mark-leave (goes (state C Z F (remove L S) K m))))
+    fires mark_leave (goes (state C Z F (remove L S) K m))))
 fire_mark (call_mark p x k) C X E S L n =
     given (lookup x E) (λ b. given (bound_closure b) (λ c.
     given (match_formals k c.formals X c.environment_of) (λ m.
-    fires mark-Call
+    fires mark_Call
     (goes (state (command (block c.body) ∷ mark (leave_mark p n) ∷ C) (environment E ∷ locations L ∷ m.rest) m.environment_with S [] (n + k))))))
 
 unfoldable pub fire_item : Item → List Item → List Entry → Environment → Store → List ℕ → ℕ → Firing
 fire_item (expression e) C X E S L n = fire_expression e C X E S L n
 fire_item (command c) C X E S L n = fire_command c C X E S L n
 fire_item (declaration d) C X E S L n = fire_declaration d C X E S L n
-fire_item (reference p e) C X E S L n = fires rule-Ref (goes (state (expression e ∷ mark ref_mark ∷ C) X E S L n))
-fire_item (abstraction p fs b) C X E S L n = fires rule-Abs (goes (state C (bindable (closure fs b E) ∷ X) E S L n))
+fire_item (reference p e) C X E S L n = fires rule_Ref (goes (state (expression e ∷ mark ref_mark ∷ C) X E S L n))
+fire_item (abstraction p fs b) C X E S L n = fires rule_Abs (goes (state C (bindable (closure fs b E) ∷ X) E S L n))
 fire_item (mark m) C X E S L n = fire_mark m C X E S L n
 
 unfoldable pub fire : State → Firing

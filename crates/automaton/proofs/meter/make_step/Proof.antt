@@ -43,15 +43,15 @@ use denote.Exit.{yes}
 use denote.Signature.{plain}
 use Rattle.machine.specs.declared.Machine.{Machine}
 use Rattle.machine.specs.contracts.Machine as machine
-use Rattle.machine.proofs.Machine.TheLaws as machine-laws
+use Rattle.machine.proofs.Machine.TheLaws as machine_laws
 use Rattle.machine.specs.contracts.Stepped as stepped
-use Rattle.machine.proofs.Stepped.TheLaws as stepped-laws
+use Rattle.machine.proofs.Stepped.TheLaws as stepped_laws
 use Rattle.automaton.specs.Runs.{Enabled, StepsFrom}
 use Rattle.automaton.specs.Meter.{after_step, Covers, MeteredStep}
 use Rattle.automaton.specs.declared.meter.HighMarks.{HighMarks}
 use Rattle.automaton.specs.declared.meter.Metered.{Metered}
 use Rattle.automaton.specs.contracts.meter.HighMarks as marks
-use Rattle.automaton.proofs.meter.HighMarks.TheLaws as marks-laws
+use Rattle.automaton.proofs.meter.HighMarks.TheLaws as marks_laws
 use Rattle.automaton.specs.contracts.meter.Metered as metered
 use Rattle.automaton.proofs.meter.Metered.TheLaws as metered_laws
 use Rattle.automaton.proofs.run_laws.MeterValues.{machine_value, marks_value, stepped_values, metered_value, metered_told, metered_stepped, metered_marks}
@@ -101,8 +101,8 @@ module _ {M : Type 1} {𝓤 : Ura M} (𝓛 : Logic 𝓤) (at_mem : Memory → SP
       ent 𝓤 (sep 𝓤 (A.lft κ q) (sem 𝓛 ((MutSlice (named 0) κ u64).own_val work (slice ∷ [])))) ((MeteredStepContract 𝓛 at_mem run).pre to_metered_step)
   goes h_is asked =
       qed 𝓛 (‵ (flft κ q) ∷ ‵ ((MutSlice (named 0) κ u64).own_val work (slice ∷ [])) ∷ []) ∵ says ! asked $ nothing ! $ move ! (1 ∷ 0 ∷ []) $ join ! $ frame ! $
-      nothing ! $ owned ! marks.the_row (Is marks.the_row) (struct_laws.makes marks.the_type marks-laws.the_plain 𝓛) h _ h_is $ fjoin ! $
-      owned ! machine.the_row (Is machine.the_row) (struct_laws.makes machine.the_type machine-laws.the_plain 𝓛) m _ m_is $ fjoin ! $ move ! (1 ∷ 0 ∷ []) $ fjoin ! $ done !
+      nothing ! $ owned ! marks.the_row (Is marks.the_row) (struct_laws.makes marks.the_type marks_laws.the_plain 𝓛) h _ h_is $ fjoin ! $
+      owned ! machine.the_row (Is machine.the_row) (struct_laws.makes machine.the_type machine_laws.the_plain 𝓛) m _ m_is $ fjoin ! $ move ! (1 ∷ 0 ∷ []) $ fjoin ! $ done !
 
   exits : (r : Metered) (after : List ℕ) → Is metered.the_row r (metered_value r.stepped r.marks ∷ []) → MeteredStep words m h r after → length after ≡ length words →
       ent 𝓤 (⋆ 𝓛 (‵ (fobs γ' ((marks.the_row).coded.code r.marks)) ∷ ‵ (fbor κ' (Body (mem marks.the_row) b' o' γ')) ∷ ‵ (flft κ' q') ∷ (‵ (flft κ q) ⊛ ‵ ftrue) ∷ ‵ (finally u64 γ after) ∷ [])) (Post (only (stepped_values r.stepped)))
@@ -112,8 +112,8 @@ module _ {M : Type 1} {𝓤 : Ura M} (𝓛 : Logic 𝓤) (at_mem : Memory → SP
       says ! (e.steps, e.marks_are) $
       move ! (3 ∷ []) $ split ! $ move ! (4 ∷ 1 ∷ []) $ join ! $ move ! (1 ∷ 0 ∷ []) $ join ! $ frame ! $
       feq_i ! (List Val) (vptr b' o' ∷ []) (vptr b' o' ∷ []) refl $ fjoin3 ! $ nothing ! $ move ! (1 ∷ 0 ∷ []) $ fjoin ! $
-      owned ! machine.the_row (Is machine.the_row) (struct_laws.makes machine.the_type machine-laws.the_plain 𝓛) m _ m_is $ fjoin ! $ move ! (1 ∷ 0 ∷ []) $ fjoin ! $
-      owned ! stepped.the_row (Is stepped.the_row) (enum_laws.makes stepped.the_type stepped-laws.the_plain 𝓛) r.stepped _ (metered_stepped r is) $ move ! (1 ∷ 0 ∷ []) $ done !
+      owned ! machine.the_row (Is machine.the_row) (struct_laws.makes machine.the_type machine_laws.the_plain 𝓛) m _ m_is $ fjoin ! $ move ! (1 ∷ 0 ∷ []) $ fjoin ! $
+      owned ! stepped.the_row (Is stepped.the_row) (enum_laws.makes stepped.the_type stepped_laws.the_plain 𝓛) r.stepped _ (metered_stepped r is) $ move ! (1 ∷ 0 ∷ []) $ done !
 
   module _ (C : Calls 𝓤 H) (Λ : Loops 𝓤 H) (fm : FmC 𝓤 H 𝓛.laws C) (known : Triple 𝓤 (C #metered-step) (MeteredStepContract 𝓛 at_mem run)) where
     walk : Room u64 (length words) → Enabled words m × Covers h m → ent 𝓤 (on_entry 𝓛 make_step.signature (κ, (κ', tt)) (q, (q', tt)) arguments values) (WpFn 𝓤 H C Λ code.function (slice ∷ machine_value m ∷ vptr b' o' ∷ []) Post)
@@ -122,18 +122,18 @@ module _ {M : Type 1} {𝓤 : Ura M} (𝓛 : Logic 𝓤) (at_mem : Memory → SP
         enter ! C Λ code.function (slice ∷ machine_value m ∷ vptr b' o' ∷ []) _ $
         alloc1 ! (λ l₀. alloc1 ! (λ l₁. alloc1 ! (λ l₂. alloc1 ! (λ l₃. alloc1 ! (λ l₄. alloc1 ! (λ l₅. alloc1 ! (λ l₆. alloc1 ! (λ l₇. alloc0 ! $ params1 ! $
         pass1 ! (init ! 12 refl (tt, (tt, (record { fits = room.0 }, tt)))) $
-        pass1 ! (init ! 10 refl ((struct_laws.lawful machine.the_type machine-laws.the_laws 𝓛).typed m _ m_is).0) $
+        pass1 ! (init ! 10 refl ((struct_laws.lawful machine.the_type machine_laws.the_laws 𝓛).typed m _ m_is).0) $
         pass1 ! (init ! 8 refl (tt, tt)) $ pass0 ! $
         -- [_7; …; _6; …; _5; …; _4; …; _3; …; _2; …; _1; …; room for _0; …; the tokens; what work, m and meter own]
         move ! (17 ∷ []) $ fsplit ! $ move ! (1 ∷ []) $ fsplit ! $ move ! (1 ∷ []) $ fsplit ! $ fsplit3 ! $ drop ! $
         -- [obs; the meter's borrow; true; what m owns; what work owns; _7; …; room for _0; …; the tokens]
         move ! (21 ∷ []) $ split ! $ move ! (1 ∷ []) $ split ! $ move ! (3 ∷ 4 ∷ 0 ∷ []) $
-        opens ! tt marks.the_row {h = h} b' o' (λ vs. spelt ! marks.the_row (Is marks.the_row) (shows 𝓛 marks.the_row) (struct_laws.vals marks.the_type marks-laws.the_laws) (struct_laws.tells marks.the_type marks-laws.the_laws) full_share h vs b' o' $
+        opens ! tt marks.the_row {h = h} b' o' (λ vs. spelt ! marks.the_row (Is marks.the_row) (shows 𝓛 marks.the_row) (struct_laws.vals marks.the_type marks_laws.the_laws) (struct_laws.tells marks.the_type marks_laws.the_laws) full_share h vs b' o' $
         move ! (1 ∷ []) $ peeks ! marks.the_row (Is marks.the_row) (shows 𝓛 marks.the_row) h (marks_value h ∷ []) (λ h_is. move ! (1 ∷ 0 ∷ []) $
         -- [the meter's cell; what the marks own; the open borrow; obs; auth; true; the token of work; true; what m owns; what work owns; _7; …; _6; …; _5; …; _4; …; _3; …; _2; …; _1; …; room for _0; …]
         assigns ! (addr ! (from ! (fld ! refl (hop ! (look_in ! 22 (sub ! 0 refl (whole !))) (stop !))))) (from ! (stop !)) (init ! 14 refl (tt, tt)) $
         assigns ! (agg ! (and_then ! (load ! (from ! (stop !)) (look ! 14 refl)) (and_then ! (load ! (from ! (fld ! refl (stop !))) (look_in ! 22 (sub ! 1 refl (whole !)))) (no_more !)))) (from ! (stop !)) (init ! 12 refl (tt, (tt, (record { fits = room.0 }, tt)))) $
-        assigns ! (of_opd ! (load ! (from ! (hop ! (look ! 18 refl) (stop !))) (look_raw ! 0 refl))) (from ! (stop !)) (init ! 10 refl ((struct_laws.lawful marks.the_type marks-laws.the_laws 𝓛).typed h _ h_is).0) $
+        assigns ! (of_opd ! (load ! (from ! (hop ! (look ! 18 refl) (stop !))) (look_raw ! 0 refl))) (from ! (stop !)) (init ! 10 refl ((struct_laws.lawful marks.the_type marks_laws.the_laws 𝓛).typed h _ h_is).0) $
         -- the call
         move ! (6 ∷ 9 ∷ []) $ use2 𝓛 (raw ((MeteredStepContract 𝓛 at_mem run).pre to_metered_step)) (goes h_is asked) $
         calls_at ! fm (MeteredStepContract 𝓛 at_mem run) known to_metered_step (and_then ! (load ! (from ! (stop !)) (look ! 11 refl)) (and_then ! (load ! (from ! (stop !)) (look ! 19 refl)) (and_then ! (load ! (from ! (stop !)) (look ! 9 refl)) (no_more !)))) (λ w.
@@ -145,9 +145,9 @@ module _ {M : Type 1} {𝓤 : Ura M} (𝓛 : Logic 𝓤) (at_mem : Memory → SP
         land ! (from ! (stop !)) (init ! 18 refl ((struct_laws.lawful metered.the_type metered_laws.the_laws 𝓛).typed r _ told).0) $
         rewrite ! 18 (λ (u : Val). ‵ (fat full_share metered_laws.mir l₄ 0 u)) (ap only (struct_laws.tells metered.the_type metered_laws.the_laws r _ told)) refl $
         -- the marks are stored where the meter lies, and the borrow is closed at them
-        assigns ! (of_opd ! (load ! (from ! (fld ! refl (stop !))) (look_in ! 18 (sub ! 1 refl (whole !))))) (from ! (hop ! (look ! 20 refl) (stop !))) (store_raw ! 4 refl ((struct_laws.lawful marks.the_type marks-laws.the_laws 𝓛).typed r.marks _ (metered_marks r (metered_told r w told))).0) $
-        assigns ! (of_opd ! (load ! (from ! (fld ! refl (stop !))) (look_in ! 18 (sub ! 0 refl (whole !))))) (from ! (stop !)) (init ! 26 refl ((enum_laws.lawful stepped.the_type stepped-laws.the_laws 𝓛 tt).typed r.stepped _ (metered_stepped r (metered_told r w told))).0) $
-        move ! (5 ∷ []) $ drop ! $ owned ! marks.the_row (Is marks.the_row) (struct_laws.makes marks.the_type marks-laws.the_plain 𝓛) r.marks _ (metered_marks r (metered_told r w told)) $
+        assigns ! (of_opd ! (load ! (from ! (fld ! refl (stop !))) (look_in ! 18 (sub ! 1 refl (whole !))))) (from ! (hop ! (look ! 20 refl) (stop !))) (store_raw ! 4 refl ((struct_laws.lawful marks.the_type marks_laws.the_laws 𝓛).typed r.marks _ (metered_marks r (metered_told r w told))).0) $
+        assigns ! (of_opd ! (load ! (from ! (fld ! refl (stop !))) (look_in ! 18 (sub ! 0 refl (whole !))))) (from ! (stop !)) (init ! 26 refl ((enum_laws.lawful stepped.the_type stepped_laws.the_laws 𝓛 tt).typed r.stepped _ (metered_stepped r (metered_told r w told))).0) $
+        move ! (5 ∷ []) $ drop ! $ owned ! marks.the_row (Is marks.the_row) (struct_laws.makes marks.the_type marks_laws.the_plain 𝓛) r.marks _ (metered_marks r (metered_told r w told)) $
         move ! (5 ∷ 0 ∷ 6 ∷ 7 ∷ 8 ∷ []) $ closes ! tt marks.the_row r.marks (marks_value r.marks ∷ []) b' o' $
         -- [obs; the meter's borrow; its token; what the result owns; the token of work; the last words; true; true; true; what m owns; _7; …; room for _0; …]
         returns ! (look ! 24 refl) $ forget ! 10 refl $ forget ! 12 refl $ forget ! 14 refl $ forget ! 16 refl $ forget ! 18 refl $ forget ! 20 refl $ forget ! 22 refl $ forget ! 24 refl $
@@ -159,7 +159,7 @@ module _ {M : Type 1} {𝓤 : Ura M} (𝓛 : Logic 𝓤) (at_mem : Memory → SP
 
   make_step_walks : (C : Calls 𝓤 H) (Λ : Loops 𝓤 H) → FmC 𝓤 H 𝓛.laws C → Triple 𝓤 (C #metered-step) (MeteredStepContract 𝓛 at_mem run) → Walks 𝓛 make_step.ended stayed (WpFn 𝓤 H C Λ code.function) (make_step.clauses 𝓛 at_mem run)
   make_step_walks C Λ fm known = walked 𝓛 make_step.ended stayed (make_step.clauses 𝓛 at_mem run) (WpFn 𝓤 H C Λ code.function)
-      (λ κs. (mut_slice_vals, (struct_laws.vals machine.the_type machine-laws.the_laws, (mut_vals, tt)))) (λ κs. (mut_slice_Tells (named 0) κs.0 u64, (struct_laws.tells machine.the_type machine-laws.the_laws, (mut_Tells (named 1) κs.1.0 marks.the_row, tt))))
+      (λ κs. (mut_slice_vals, (struct_laws.vals machine.the_type machine_laws.the_laws, (mut_vals, tt)))) (λ κs. (mut_slice_Tells (named 0) κs.0 u64, (struct_laws.tells machine.the_type machine_laws.the_laws, (mut_Tells (named 1) κs.1.0 marks.the_row, tt))))
       (λ κs qs bounds a g are. needs 𝓤 (Enabled a.0.now a.1.0 × Covers a.1.1.0.now a.1.0) _
       (walk 𝓛 at_mem run κs.0 κs.1.0 qs.0 qs.1.0 a.0.ref_ptr.0 a.0.ref_ptr.1 a.0.ghost_name a.0.now a.1.0 a.1.1.0.ref_ptr.0 a.1.1.0.ref_ptr.1 a.1.1.0.ghost_name a.1.1.0.now are.1.0 C Λ fm known are.0.0.1))
 

@@ -117,3 +117,7 @@ returns-in-41 c = row_known abs _ _ c.in-41.is refl
 pub returns-in-42 : goal.returns-in-42
 unfolding row_word
 returns-in-42 c = row_known formal _ _ c.in-42.is refl
+
+pub returns-in_default : goal.returns-in_default
+unfolding every_kind
+returns-in_default c = row_unknown _ c.in_default.in_default-own.rest
