@@ -2,43 +2,13 @@
 -- children keeps what was read so far (SiblingLaws.antt), and its measure is how many are left.
 -- In a need's answer, `start` is where the function begins; `row`, `fault`, `count`, `sort` and `child` are where the calls of row,
 -- node_fault, child_count, child_sort and read_node have returned, `loop` where the loop's test is reached.
-use Prim.Native.Nat.{ℕ, ◌+◌, ◌-◌, ◌<◌}
+use Prim.Native.Nat.{◌+◌}
 use native.Mathlib.Omega.{arith}
 use mathlib.Core.Path.{refl, sym, ◌∙◌, subst}
 use lib.ListN.{length-set}
-use borrow.Author.Rules.{rules}
-use borrow.Fn.Kinds.{In}
-use borrow.Fn.PlainCycle.{Measures, is, falls, and}
-use Rattle.reader.proofs.ReadLaws.{NodeOutcome, kind_at, operand_at, node_sorts, missing_node, faulty_node, deep_node, node_refused, node_next, kind_low, count_there, sort_there, child_readable}
-use Rattle.reader.proofs.SiblingLaws.{ReadSoFar, none_read, all_read, one_refused, one_read}
-use Rattle.reader.proofs.+read_node.{statement}
+use Rattle.reader.proofs.ReadLaws.{NodeOutcome, kind_at, operand_at, missing_node, faulty_node, deep_node, node_refused, node_next, kind_low, count_there, sort_there, child_readable}
+use Rattle.reader.proofs.SiblingLaws.{none_read, all_read, one_refused, one_read}
 use Rattle.reader.proofs.+read_node.Goals as goal
-
-abbrev μ-read-node : Measures 2 read-node-kinds.ps ℕ
-μ-read-node κs a = a.1.1.1.1.1.0
-
-abbrev read-node-at : ℕ → In 2 read-node-kinds.ps
-read-node-at t = and 2 read-node-kinds.ps (is 2 read-node-kinds.ps μ-read-node t) read-node.Pre
-
-abbrev read-node-below : ℕ → In 2 read-node-kinds.ps
-read-node-below t =
-    and 2 read-node-kinds.ps (falls 2 read-node-kinds.ps ◌<◌ μ-read-node t) read-node.Pre
-
-abbrev read-node-calls : ℕ → read-node-lts.Claims
-read-node-calls t = (
-  row_reads.Asked,
-  row_reads.Learnt,
-  node-fault-reads.Asked,
-  node-fault-reads.Learnt,
-  child-count-reads.Asked,
-  child-count-reads.Learnt,
-  child-sort-reads.Asked,
-  child-sort-reads.Learnt,
-  read-node-below t,
-  read-node.Post,
-  node-word-reads.Asked,
-  node-word-reads.Learnt,
-)
 
 pub returns-then-n-at : goal.returns-then-n-at
 returns-then-n-at t c =
@@ -103,15 +73,15 @@ loop-left-init t c =
 pub child_sort-child_sort-requires : goal.child_sort-child_sort-requires
 child_sort-child_sort-requires t c = omega arith
 
-pub read_node-child-requires : goal.read_node-child-requires
-read_node-child-requires t c =
-    (omega (arith, c.requires.MEASURE, c.if-levels-eq0.false), (c.loop-left.invariant.readable, ((sort_there c.args.sort (kind_at c.args.image.now c.args.at) (operand_at c.args.image.now c.args.n c.args.at) (sym (c.node_fault-fault.ensures _ c.row-row.ensures) ∙ c.if-fault-ne0.false) _ _ _ c.row-row.ensures c.child_sort-child_sort.ensures c.loop-left.invariant.few).low, omega (arith, c.requires.levels_le_most_depth))))
-
 pub returns-in_default : goal.returns-in_default
 returns-in_default t c =
     subst (λ r. NodeOutcome c.args.image.now c.args.n c.args.at c.args.sort c.args.levels r c.args.work.now c.read_node-child.new.work) (sym c.in_default.is)
     (node_refused _ _ _ _ _ _ _ _ c.requires.readable c.if-n-at.false (sym (c.node_fault-fault.ensures _ c.row-row.ensures) ∙ c.if-fault-ne0.false) c.if-levels-eq0.false
     (one_refused _ _ _ _ _ _ _ _ _ c.loop-left.invariant _ _ _ (sort_there c.args.sort (kind_at c.args.image.now c.args.at) (operand_at c.args.image.now c.args.n c.args.at) (sym (c.node_fault-fault.ensures _ c.row-row.ensures) ∙ c.if-fault-ne0.false) _ _ _ c.row-row.ensures c.child_sort-child_sort.ensures c.loop-left.invariant.few) c.read_node-child.ensures _ _ c.in_default.is) _ _ refl)
+
+pub read_node-child-requires : goal.read_node-child-requires
+read_node-child-requires t c =
+    (omega (arith, c.decreases, c.if-levels-eq0.false), (c.loop-left.invariant.readable, ((sort_there c.args.sort (kind_at c.args.image.now c.args.at) (operand_at c.args.image.now c.args.n c.args.at) (sym (c.node_fault-fault.ensures _ c.row-row.ensures) ∙ c.if-fault-ne0.false) _ _ _ c.row-row.ensures c.child_sort-child_sort.ensures c.loop-left.invariant.few).low, omega (arith, c.requires.levels_le_most_depth))))
 
 pub loop-left-preserved : goal.loop-left-preserved
 loop-left-preserved t c =

@@ -5,7 +5,6 @@ use Prim.Native.Nat.{◌≤◌}
 use mathlib.Core.Path.{◌≡◌, sym, ◌∙◌}
 use mathlib.Core.Bool.{true}
 use native.Mathlib.Omega.{arith}
-use borrow.Author.Tests.{not-true, not-false}
 use lib.ListN.{get_or}
 use Rattle.rules.specs.paper.Limits.{most_nodes}
 use Rattle.rules.specs.paper.Reader.{size_fits}
@@ -31,43 +30,43 @@ returns-then-not-size_fits c =
 pub overflow_mul-n : goal.overflow_mul-n
 overflow_mul-n c =
     let sized : size_fits (get_or c.args.image.now 0 0) (get_or c.args.image.now 1 0) ≡ true =
-        sym c.size_fits.ensures ∙ c.if-not-size_fits.false in
+    sym c.size_fits.ensures ∙ c.if-not-size_fits.false in
     let few : get_or c.args.image.now 0 0 ≤ most_nodes =
-        few_nodes (get_or c.args.image.now 0 0) (get_or c.args.image.now 1 0) (sized) in
+    few_nodes (get_or c.args.image.now 0 0) (get_or c.args.image.now 1 0) (sized) in
     record { fits = omega (arith, few) }
 
 pub overflow_add-n : goal.overflow_add-n
 overflow_add-n c =
     let sized : size_fits (get_or c.args.image.now 0 0) (get_or c.args.image.now 1 0) ≡ true =
-        sym c.size_fits.ensures ∙ c.if-not-size_fits.false in
+    sym c.size_fits.ensures ∙ c.if-not-size_fits.false in
     let few : get_or c.args.image.now 0 0 ≤ most_nodes =
-        few_nodes (get_or c.args.image.now 0 0) (get_or c.args.image.now 1 0) (sized) in
+    few_nodes (get_or c.args.image.now 0 0) (get_or c.args.image.now 1 0) (sized) in
     record { fits = omega (arith, few) }
 
 pub returns-then-image-n : goal.returns-then-image-n
 returns-then-image-n c =
     let sized : size_fits (get_or c.args.image.now 0 0) (get_or c.args.image.now 1 0) ≡ true =
-        sym c.size_fits.ensures ∙ c.if-not-size_fits.false in
+    sym c.size_fits.ensures ∙ c.if-not-size_fits.false in
     refuse_length c.args.image.now c.args.work.now c.if-image-lt2.false (sized) c.if-image-n.true
 
 pub returns-then-n-eq0 : goal.returns-then-n-eq0
 returns-then-n-eq0 c =
     let sized : size_fits (get_or c.args.image.now 0 0) (get_or c.args.image.now 1 0) ≡ true =
-        sym c.size_fits.ensures ∙ c.if-not-size_fits.false in
+    sym c.size_fits.ensures ∙ c.if-not-size_fits.false in
     absent_image c.args.image.now c.args.work.now c.if-image-lt2.false (sized) c.if-image-n.false c.if-n-eq0.true
 
 pub read_node-root-requires : goal.read_node-root-requires
 read_node-root-requires c =
     let sized : size_fits (get_or c.args.image.now 0 0) (get_or c.args.image.now 1 0) ≡ true =
-        sym c.size_fits.ensures ∙ c.if-not-size_fits.false in
+    sym c.size_fits.ensures ∙ c.if-not-size_fits.false in
     let few : get_or c.args.image.now 0 0 ≤ most_nodes =
-        few_nodes (get_or c.args.image.now 0 0) (get_or c.args.image.now 1 0) (sized) in
+    few_nodes (get_or c.args.image.now 0 0) (get_or c.args.image.now 1 0) (sized) in
     let at_most = few in search rules
 
 pub returns-then-end-n : goal.returns-then-end-n
 returns-then-end-n c =
     let sized : size_fits (get_or c.args.image.now 0 0) (get_or c.args.image.now 1 0) ≡ true =
-        sym c.size_fits.ensures ∙ c.if-not-size_fits.false in
+    sym c.size_fits.ensures ∙ c.if-not-size_fits.false in
     whole_image c.args.image.now c.args.work.now c.read_node-root.new.work c.read_node-root.result
     c.if-image-lt2.false (sized) c.if-image-n.false c.if-n-eq0.false
     c.in-Next.end c.in-Next.is c.if-end-n.true c.read_node-root.ensures
@@ -75,7 +74,7 @@ returns-then-end-n c =
 pub returns-else-end-n : goal.returns-else-end-n
 returns-else-end-n c =
     let sized : size_fits (get_or c.args.image.now 0 0) (get_or c.args.image.now 1 0) ≡ true =
-        sym c.size_fits.ensures ∙ c.if-not-size_fits.false in
+    sym c.size_fits.ensures ∙ c.if-not-size_fits.false in
     left_over c.args.image.now c.args.work.now c.read_node-root.new.work c.read_node-root.result
     c.if-image-lt2.false (sized) c.if-image-n.false c.if-n-eq0.false
     c.in-Next.end c.in-Next.is c.if-end-n.false c.read_node-root.ensures
@@ -83,7 +82,7 @@ returns-else-end-n c =
 pub returns-in-Refused : goal.returns-in-Refused
 returns-in-Refused c =
     let sized : size_fits (get_or c.args.image.now 0 0) (get_or c.args.image.now 1 0) ≡ true =
-        sym c.size_fits.ensures ∙ c.if-not-size_fits.false in
+    sym c.size_fits.ensures ∙ c.if-not-size_fits.false in
     refused_image c.args.image.now c.args.work.now c.read_node-root.new.work c.read_node-root.result
     c.if-image-lt2.false (sized) c.if-image-n.false c.if-n-eq0.false
     c.in-Refused.number c.in-Refused.place c.in-Refused.is c.read_node-root.ensures

@@ -1,6 +1,5 @@
 -- `tables::child_count` answers how many children a node has.
 use Rattle.reader.proofs.Children.{child_count, child_count_low}
-use borrow.Author.Rules.{rules}
 use Rattle.reader.proofs.tables.child_count.Goals as goal
 
 pub overflow_add-result : goal.overflow_add-result

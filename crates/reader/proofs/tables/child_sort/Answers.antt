@@ -1,6 +1,5 @@
 -- `tables::child_sort` answers the number of a child's sort, by how many children are left.
 use Rattle.reader.proofs.Children.{sorted_near, sorted_far}
-use borrow.Author.Rules.{rules}
 use Rattle.reader.proofs.tables.child_sort.Goals as goal
 
 pub returns-then-left-gt-LAST_CHILDREN : goal.returns-then-left-gt-LAST_CHILDREN

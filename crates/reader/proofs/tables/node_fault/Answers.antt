@@ -1,6 +1,5 @@
 -- `tables::node_fault` answers a node's first fault but its depth: kind, sort, operand, or 0.
 use Rattle.reader.proofs.Faults.{fault_kind, fault_sort, fault_operand, fault_free}
-use borrow.Author.Rules.{rules}
 use Rattle.reader.proofs.tables.node_fault.Goals as goal
 
 pub returns-then-row-eq-NO_KIND : goal.returns-then-row-eq-NO_KIND
