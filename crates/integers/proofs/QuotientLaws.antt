@@ -1,5 +1,5 @@
 -- The quotient rounded down is that of the magnitudes, negative where the signs differ, and where it is negative its magnitude is rounded up.
-use Rattle.std.proofs.Common.{◌≡◌, ℕ, zero, suc, ◌+◌, ◌-◌, ◌/◌, ◌^◌, ◌<◌, Bool, true, false, ℤ, pos, negsuc, nat_abs, sym, refl, ap, ◌∙◌, add-one, arith}
+use Rattle.std.proofs.Common.{◌≡◌, ℕ, zero, suc, ◌+◌, ◌/◌, ◌^◌, ◌<◌, Bool, true, false, ℤ, pos, negsuc, nat_abs, sym, refl, ap, ◌∙◌, add-one, arith}
 use native.Mathlib.Nat.{add-div_right, div-eq_of_lt, zero-div}
 use Rattle.rules.specs.paper.Refusals.{reason_number}
 use Rattle.rules.specs.paper.Tree.{Div}

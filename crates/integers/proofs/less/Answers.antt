@@ -1,6 +1,5 @@
 -- `less` answers the order of the integers.
 use Rattle.integers.proofs.OrderLaws.{order_by_place}
-use Rattle.std.proofs.Common.{rules}
 use Rattle.integers.proofs.less.Goals as goal
 
 pub returns : goal.returns

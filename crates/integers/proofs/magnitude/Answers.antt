@@ -1,6 +1,5 @@
 -- `magnitude` answers how far an integer is from zero.
 use Rattle.integers.proofs.SignedLaws.{magnitude_low, magnitude_high}
-use Rattle.std.proofs.Common.{rules}
 use Rattle.integers.proofs.magnitude.Goals as goal
 
 pub returns-then-word-lt-LEAST : goal.returns-then-word-lt-LEAST

@@ -1,6 +1,6 @@
 -- `product` answers what the rules compute.
 -- The magnitudes, once both are known and the signs are compared.
-use Rattle.std.proofs.Common.{◌≡◌, ℕ, ◌*◌, rules}
+use Rattle.std.proofs.Common.{◌≡◌, ℕ, ◌*◌}
 use Rattle.rules.specs.paper.Tree.{Mul}
 use Rattle.rules.specs.paper.Integers.{compute, ranged}
 use Rattle.integers.specs.Words.{integer_of, computed, signed}

@@ -1,5 +1,5 @@
 -- `quotient` answers what the rules compute.
-use Rattle.std.proofs.Common.{◌<◌, rules}
+use Rattle.std.proofs.Common.{◌<◌}
 use Rattle.integers.proofs.SignedLaws.{magnitude_positive}
 use Rattle.integers.proofs.QuotientLaws.{quotient_answered, quotient_by_zero, sum_fits}
 use Rattle.integers.proofs.quotient.Goals as goal

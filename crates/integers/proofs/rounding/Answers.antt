@@ -1,6 +1,5 @@
 -- `rounding` answers what is added to a dividend before it is divided.
 use Rattle.integers.specs.Words.{rounding}
-use Rattle.std.proofs.Common.{rules}
 use Rattle.integers.proofs.rounding.Goals as goal
 
 pub returns-then-negative : goal.returns-then-negative

@@ -1,7 +1,6 @@
 -- `sum` answers what the rules compute.
 use Rattle.integers.proofs.SignTest.{passed, refused}
 use Rattle.integers.proofs.SumLaws.{sum_answered}
-use Rattle.std.proofs.Common.{rules}
 use Rattle.integers.proofs.sum.Goals as goal
 
 pub returns-then-less-second : goal.returns-then-less-second

@@ -1,6 +1,5 @@
 -- `with_sign` answers what the integer of a sign and a magnitude comes to.
 use Rattle.integers.proofs.SignedLaws.{negative_kept, negative_out, other_kept, other_out}
-use Rattle.std.proofs.Common.{rules}
 use Rattle.integers.proofs.with_sign.Goals as goal
 
 pub returns-then-magnitude-le-LEAST : goal.returns-then-magnitude-le-LEAST

@@ -1,10 +1,6 @@
 -- The bytes of the values one by one.
-use Prim.Native.Nat.{◌-◌, ◌*◌, ◌≤◌}
-use mathlib.Core.Path.{◌≡◌, refl, ◌∙◌}
+use mathlib.Core.Path.{refl, ◌∙◌}
 use native.Mathlib.Omega.{arith}
-use lib.ListN.{length, drop}
-use lib.Seq.{sets}
-use Rattle.little_endian.specs.Numbers.{bytes_of_words}
 use Rattle.little_endian.proofs.LoopLaws.{pack_starts, pack_next, pack_ends}
 use Rattle.little_endian.proofs.pack_values.Goals as goal
 
@@ -34,12 +30,11 @@ pub loop-i-smaller : goal.loop-i-smaller
 loop-i-smaller c = omega (arith, c.loop-i-test.true)
 
 pub loop-i-preserved : goal.loop-i-preserved
-loop-i-preserved c =
-    (
-      omega (arith, c.loop-i-test.true),
-      c.put_value.auto.bytes ∙ c.loop-i.invariant.1,
-      pack_next c.loop-i.i _ c.args.values.now c.loop-i.bytes _ _ c.loop-i-test.true refl c.put_value.ensures c.loop-i.invariant.2,
-    )
+loop-i-preserved c = (
+  omega (arith, c.loop-i-test.true),
+  c.put_value.auto.bytes ∙ c.loop-i.invariant.1,
+  pack_next c.loop-i.i _ c.args.values.now c.loop-i.bytes _ _ c.loop-i-test.true refl c.put_value.ensures c.loop-i.invariant.2,
+)
 
 pub shape_of-bytes : goal.shape_of-bytes
 shape_of-bytes c = c.loop-i.invariant.1

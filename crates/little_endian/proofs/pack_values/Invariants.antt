@@ -1,11 +1,9 @@
 -- The bytes of the values one by one.
 use Prim.Native.Nat.{◌-◌, ◌*◌, ◌≤◌}
-use mathlib.Core.Path.{◌≡◌, refl, ◌∙◌}
-use native.Mathlib.Omega.{arith}
+use mathlib.Core.Path.{◌≡◌}
 use lib.ListN.{length, drop}
 use lib.Seq.{sets}
 use Rattle.little_endian.specs.Numbers.{bytes_of_words}
-use Rattle.little_endian.proofs.LoopLaws.{pack_starts, pack_next, pack_ends}
 use Rattle.little_endian.proofs.pack_values.Given as goal
 
 abbrev pub invariant-loop-i : goal.invariant-loop-i

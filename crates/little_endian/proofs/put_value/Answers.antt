@@ -1,9 +1,9 @@
 -- The bytes of a value one by one.
-use Prim.Native.Nat.{◌+◌, ◌-◌, ◌≤◌}
-use mathlib.Core.Path.{◌≡◌, refl, ap, ◌∙◌}
+use Prim.Native.Nat.{◌+◌}
+use mathlib.Core.Path.{refl, ap, ◌∙◌}
 use native.Mathlib.Omega.{arith}
 use native.Mathlib.Nat.{add-zero, mod-lt}
-use lib.ListN.{length, length-set}
+use lib.ListN.{length-set}
 use lib.Seq.{sets}
 use Rattle.little_endian.specs.Numbers.{bytes_of}
 use Rattle.little_endian.proofs.LoopLaws.{put_next, put_ends}
@@ -28,12 +28,11 @@ pub loop-i-smaller : goal.loop-i-smaller
 loop-i-smaller c = omega (arith, c.loop-i-test.true)
 
 pub loop-i-preserved : goal.loop-i-preserved
-loop-i-preserved c =
-    (
-      omega (arith, c.loop-i-test.true),
-      length-set c.loop-i.bytes (c.args.at + c.loop-i.i) _ ∙ c.loop-i.invariant.1,
-      put_next c.args.at c.loop-i.i c.loop-i.rest _ c.loop-i.bytes _ c.loop-i-test.true refl c.loop-i.invariant.2,
-    )
+loop-i-preserved c = (
+  omega (arith, c.loop-i-test.true),
+  length-set c.loop-i.bytes (c.args.at + c.loop-i.i) _ ∙ c.loop-i.invariant.1,
+  put_next c.args.at c.loop-i.i c.loop-i.rest _ c.loop-i.bytes _ c.loop-i-test.true refl c.loop-i.invariant.2,
+)
 
 pub shape_of-bytes : goal.shape_of-bytes
 shape_of-bytes c = c.loop-i.invariant.1

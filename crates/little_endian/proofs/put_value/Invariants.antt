@@ -1,12 +1,9 @@
 -- The bytes of a value one by one.
 use Prim.Native.Nat.{◌+◌, ◌-◌, ◌≤◌}
-use mathlib.Core.Path.{◌≡◌, refl, ap, ◌∙◌}
-use native.Mathlib.Omega.{arith}
-use native.Mathlib.Nat.{add-zero, mod-lt}
-use lib.ListN.{length, length-set}
+use mathlib.Core.Path.{◌≡◌}
+use lib.ListN.{length}
 use lib.Seq.{sets}
 use Rattle.little_endian.specs.Numbers.{bytes_of}
-use Rattle.little_endian.proofs.LoopLaws.{put_next, put_ends}
 use Rattle.little_endian.proofs.put_value.Given as goal
 
 abbrev pub invariant-loop-i : goal.invariant-loop-i

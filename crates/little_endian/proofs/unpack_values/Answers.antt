@@ -1,11 +1,11 @@
 -- The values one by one, from a place on.
-use Prim.Native.Nat.{ℕ, ◌+◌, ◌-◌, ◌*◌, ◌≤◌}
+use Prim.Native.Nat.{ℕ, ◌+◌, ◌*◌}
 use mathlib.Core.Path.{◌≡◌, refl, sym, ap, ◌∙◌}
 use mathlib.Core.List.{List}
 use native.Mathlib.Omega.{arith}
 use lib.ListN.{length, take, drop, length-set}
-use lib.Seq.{sets, drop-drop}
-use Rattle.little_endian.specs.Numbers.{little_endian, numbers}
+use lib.Seq.{drop-drop}
+use Rattle.little_endian.specs.Numbers.{little_endian}
 use Rattle.little_endian.proofs.LoopLaws.{unpack_starts, unpack_next, unpack_ends}
 use Rattle.little_endian.proofs.unpack_values.Goals as goal
 
@@ -42,12 +42,11 @@ pub loop-i-smaller : goal.loop-i-smaller
 loop-i-smaller c = omega (arith, c.loop-i-test.true, c.loop-i.invariant.1)
 
 pub loop-i-preserved : goal.loop-i-preserved
-loop-i-preserved c =
-    (
-      omega (arith, c.loop-i-test.true, c.loop-i.invariant.1),
-      length-set c.loop-i.values c.loop-i.i c.value_at.result ∙ c.loop-i.invariant.1,
-      unpack_next 8 (length c.args.values.now) c.loop-i.i c.value_at.result (drop c.args.from c.args.bytes.now) c.loop-i.values _ (omega (arith, c.loop-i-test.true, c.loop-i.invariant.1)) (c.value_at.ensures ∙ behind c.args.bytes.now c.args.from c.loop-i.i) c.loop-i.invariant.2,
-    )
+loop-i-preserved c = (
+  omega (arith, c.loop-i-test.true, c.loop-i.invariant.1),
+  length-set c.loop-i.values c.loop-i.i c.value_at.result ∙ c.loop-i.invariant.1,
+  unpack_next 8 (length c.args.values.now) c.loop-i.i c.value_at.result (drop c.args.from c.args.bytes.now) c.loop-i.values _ (omega (arith, c.loop-i-test.true, c.loop-i.invariant.1)) (c.value_at.ensures ∙ behind c.args.bytes.now c.args.from c.loop-i.i) c.loop-i.invariant.2,
+)
 
 pub shape_of-values : goal.shape_of-values
 shape_of-values c = c.loop-i.invariant.1

@@ -1,12 +1,9 @@
 -- The values one by one, from a place on.
-use Prim.Native.Nat.{ℕ, ◌+◌, ◌-◌, ◌*◌, ◌≤◌}
-use mathlib.Core.Path.{◌≡◌, refl, sym, ap, ◌∙◌}
-use mathlib.Core.List.{List}
-use native.Mathlib.Omega.{arith}
-use lib.ListN.{length, take, drop, length-set}
-use lib.Seq.{sets, drop-drop}
-use Rattle.little_endian.specs.Numbers.{little_endian, numbers}
-use Rattle.little_endian.proofs.LoopLaws.{unpack_starts, unpack_next, unpack_ends}
+use Prim.Native.Nat.{◌-◌, ◌*◌, ◌≤◌}
+use mathlib.Core.Path.{◌≡◌}
+use lib.ListN.{length, drop}
+use lib.Seq.{sets}
+use Rattle.little_endian.specs.Numbers.{numbers}
 use Rattle.little_endian.proofs.unpack_values.Given as goal
 
 abbrev pub invariant-loop-i : goal.invariant-loop-i

@@ -1,10 +1,7 @@
 -- The words one by one.
-use Prim.Native.Nat.{◌-◌, ◌*◌, ◌≤◌}
-use mathlib.Core.Path.{◌≡◌, refl, ◌∙◌}
+use mathlib.Core.Path.{refl, ◌∙◌}
 use native.Mathlib.Omega.{arith}
-use lib.ListN.{length, drop, length-set}
-use lib.Seq.{sets}
-use Rattle.little_endian.specs.Numbers.{numbers}
+use lib.ListN.{length, length-set}
 use Rattle.little_endian.proofs.LoopLaws.{unpack_starts, unpack_next, unpack_ends}
 use Rattle.little_endian.proofs.unpack_words.Goals as goal
 
@@ -34,12 +31,11 @@ pub loop-i-smaller : goal.loop-i-smaller
 loop-i-smaller c = omega (arith, c.loop-i-test.true, c.loop-i.invariant.1)
 
 pub loop-i-preserved : goal.loop-i-preserved
-loop-i-preserved c =
-    (
-      omega (arith, c.loop-i-test.true, c.loop-i.invariant.1),
-      length-set c.loop-i.words c.loop-i.i c.word_at.result ∙ c.loop-i.invariant.1,
-      unpack_next 4 (length c.args.words.now) c.loop-i.i c.word_at.result c.args.bytes.now c.loop-i.words _ (omega (arith, c.loop-i-test.true, c.loop-i.invariant.1)) c.word_at.ensures c.loop-i.invariant.2,
-    )
+loop-i-preserved c = (
+  omega (arith, c.loop-i-test.true, c.loop-i.invariant.1),
+  length-set c.loop-i.words c.loop-i.i c.word_at.result ∙ c.loop-i.invariant.1,
+  unpack_next 4 (length c.args.words.now) c.loop-i.i c.word_at.result c.args.bytes.now c.loop-i.words _ (omega (arith, c.loop-i-test.true, c.loop-i.invariant.1)) c.word_at.ensures c.loop-i.invariant.2,
+)
 
 pub shape_of-words : goal.shape_of-words
 shape_of-words c = c.loop-i.invariant.1

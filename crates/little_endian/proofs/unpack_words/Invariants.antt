@@ -1,11 +1,9 @@
 -- The words one by one.
 use Prim.Native.Nat.{◌-◌, ◌*◌, ◌≤◌}
-use mathlib.Core.Path.{◌≡◌, refl, ◌∙◌}
-use native.Mathlib.Omega.{arith}
-use lib.ListN.{length, drop, length-set}
+use mathlib.Core.Path.{◌≡◌}
+use lib.ListN.{length, drop}
 use lib.Seq.{sets}
 use Rattle.little_endian.specs.Numbers.{numbers}
-use Rattle.little_endian.proofs.LoopLaws.{unpack_starts, unpack_next, unpack_ends}
 use Rattle.little_endian.proofs.unpack_words.Given as goal
 
 abbrev pub invariant-loop-i : goal.invariant-loop-i

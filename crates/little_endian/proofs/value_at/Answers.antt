@@ -1,6 +1,5 @@
 -- The eight bytes as one number.
 use Rattle.little_endian.proofs.LoopLaws.{eight_bytes}
-use borrow.Author.Rules.{rules}
 use Rattle.little_endian.proofs.value_at.Goals as goal
 
 pub returns : goal.returns

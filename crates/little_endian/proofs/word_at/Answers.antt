@@ -2,7 +2,6 @@
 use Prim.Native.Nat.{◌+◌}
 use native.Mathlib.Omega.{arith}
 use Rattle.little_endian.proofs.LoopLaws.{four_bytes}
-use borrow.Author.Rules.{rules}
 use Rattle.little_endian.proofs.word_at.Goals as goal
 
 pub overflow_cast-first : goal.overflow_cast-first
