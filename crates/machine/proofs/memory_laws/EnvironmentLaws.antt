@@ -85,14 +85,14 @@ pub record Cut (l p k : ℕ) (words : List ℕ) (older : List Slot) (n : ℕ) : 
   pub are : older ≡ slots l p n words
   pub within : n ≤ k
 
-pub cut : (l p k : ℕ) (words : List ℕ) (older rows : List Slot) (n : ℕ) → rows ≡ slots l p k words → Extends older rows → length older ≡ n → Cut l p k words older n
+pub cut : (l p : ℕ) (words : List ℕ) (older : List Slot) (k : ℕ) (rows : List Slot) (n : ℕ) → rows ≡ slots l p k words → Extends older rows → length older ≡ n → Cut l p k words older n
 unfolding slots
-cut l p k words older rows n e no_more q = let same = sym q ∙ ap (λ r. length r) e ∙ slots_length l p k words in record { are = e ∙ ap (λ j. slots l p j words) (sym same); within = omega (arith, same) }
-cut l p zero words older rows n e (one_more {rows = below} x) q = absurd (none_left (length below) (ap (λ r. length r) e))
+cut l p words older k rows n e no_more q = let same = sym q ∙ ap (λ r. length r) e ∙ slots_length l p k words in record { are = e ∙ ap (λ j. slots l p j words) (sym same); within = omega (arith, same) }
+cut l p words older zero rows n e (one_more {rows = below} x) q = absurd (none_left (length below) (ap (λ r. length r) e))
   where
     none_left : (j : ℕ) → suc j ≡ 0 → ⊥
     none_left j h = omega arith
-cut l p (suc k) words older rows n e (one_more x) q = let c = cut l p k words older _ n (ap tail e) x q in record { are = c.are; within = omega (arith, c.within) }
+cut l p words older (suc k) rows n e (one_more x) q = let c = cut l p words older k _ n (ap tail e) x q in record { are = c.are; within = omega (arith, c.within) }
   where
     tail : List Slot → List Slot
     tail [] = []
