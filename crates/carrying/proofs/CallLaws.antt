@@ -7,7 +7,7 @@ use mathlib.Core.Option.{Option, none, some}
 use native.Mathlib.Omega.{arith}
 use lib.ListN.{length, get_or}
 use Rattle.rules.specs.paper.Limits.{most_nodes, most_bindings, most_cells, names}
-use Rattle.rules.proofs.Basics.{missing}
+use Rattle.rules.specs.proofs.Basics.{missing}
 use Rattle.rules.specs.paper.Tree.{Expression, Formal, Call, Block, Bound, Abs}
 use Rattle.rules.specs.paper.Needs.{Need, Needs, nothing, in_turn, need_of, over_formals, function_need, command_need, block_need}
 use Rattle.rules.specs.paper.Carried.{Carried, Carrying, carried, unsafe, unfit, ◌>>=◌, fitting}
