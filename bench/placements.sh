@@ -22,7 +22,7 @@ bench=$(dirname "$(realpath "$0")")
 archives=()
 for archive in "$@"; do
     if [ ! -f "$archive" ]; then
-        echo "there is no archive $archive; to build it: rt staticlib engine
+        echo "there is no archive $archive; to build it: tools/build.sh
 usage: bench/placements.sh [ARCHIVE..]" >&2
         exit 2
     fi

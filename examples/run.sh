@@ -34,7 +34,7 @@ none_run() { # WHAT IS MISSING
 # How the program is built, by the end of its path.
 how_to_build() { # PROGRAM
     case $1 in
-    *pirun) echo 'rt check pirun (about 4 minutes the first time)' ;;
+    *pirun) echo 'tools/build.sh (some minutes the first time)' ;;
     *second) echo 'cargo build --offline --release --manifest-path tests/second/Cargo.toml' ;;
     esac
 }

@@ -7,7 +7,7 @@
  * made. The static library needs nothing but the C library's memory functions. To make it, and to
  * compile and link the program below:
  *
- *     rt staticlib engine
+ *     tools/build.sh
  *     cc -std=c99 -Iinclude examples/embed.c target/staticlib/libengine.a -o embed
  *
  * A complete program (examples/embed.c):

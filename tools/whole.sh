@@ -64,7 +64,7 @@ case ${1-} in
 esac
 
 [ $# -gt 0 ] || set -- "$(dirname "$0")/../target/bin/pirun"
-command -v "$1" >/dev/null || fail 2 "there is no program $1; \`rt check pirun\` makes target/bin/pirun"
+command -v "$1" >/dev/null || fail 2 "there is no program $1; \`tools/build.sh\` makes target/bin/pirun"
 made=$(mktemp -d) || fail 1 'no room for the answer'
 trap 'rm -rf "$made"' EXIT
 

@@ -1,6 +1,6 @@
 #!/usr/bin/env bash
 # Runs the program on each stored case, NAME.in, and compares what it writes with NAME.out, byte for byte.
-# The program is target/bin/pirun, which `rt check pirun` makes. A file without the other of its pair has failed.
+# The program is target/bin/pirun, which `tools/build.sh` makes. A file without the other of its pair has failed.
 # The last line counts: 'N passed, M failed'; the exit status is 0 only when M is 0 and N is not.
 set -u
 case ${1-} in
@@ -20,7 +20,7 @@ program=../../target/bin/pirun
 passed=0
 failed=0
 if [ ! -x "$program" ]; then
-    echo 'all: FAILED, there is no program target/bin/pirun; to build it: rt check pirun (about 4 minutes the first time)'
+    echo 'all: FAILED, there is no program target/bin/pirun; to build it: tools/build.sh (some minutes the first time)'
     echo '0 passed, 1 failed'
     exit 1
 fi

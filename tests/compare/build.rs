@@ -1,4 +1,4 @@
-//! Links the engine's static library, which `rt staticlib engine` writes.
+//! Links the engine's static library, which `tools/build.sh` writes.
 //!
 //! ENGINE_ARCHIVE names another archive to link in its place; a relative path
 //! starts at this folder.
@@ -14,7 +14,7 @@ fn main() {
         Some(named) => (folder.join(named), "see ENGINE_ARCHIVE"),
         None => (
             folder.join("../../target/staticlib/libengine.a"),
-            "run `rt staticlib engine` first, or name another archive in ENGINE_ARCHIVE",
+            "run `tools/build.sh` first, or name another archive in ENGINE_ARCHIVE",
         ),
     };
     let parts = (archive.parent(), archive.file_name());

@@ -139,7 +139,7 @@ usage_says() {
     done
     echo 'no archive'
     "$script" "$built/no_archive" >"$built/output" 2>"$built/faults"
-    [ $? -eq 1 ] && grep -q 'rt staticlib engine' "$built/output" &&
+    [ $? -eq 1 ] && grep -q 'tools/build.sh' "$built/output" &&
         [ "$(tail -n 1 "$built/output")" = '0 passed, 1 failed' ] && diff /dev/null "$built/faults"
 }
 

@@ -10,7 +10,7 @@ tests/host/run.sh: holds the engine's static library to what include/pi_engine.h
 
 $usage
 
-  ARCHIVE   the static library; \`rt staticlib engine\` makes target/staticlib/libengine.a
+  ARCHIVE   the static library; \`tools/build.sh\` makes target/staticlib/libengine.a
   COUNT     so many images of each sort are made by chance, 2,000 if it is left out; at most
             50 of them under valgrind
   SEED      what they are made from, 1 if it is left out
@@ -48,7 +48,7 @@ seed=${3:-1}
 [[ $count =~ ^[0-9]{1,15}$ ]] || bad_usage "COUNT must be a whole number of at most 15 digits, not $count"
 [[ $seed =~ ^[0-9]+$ ]] || bad_usage "SEED must be a whole number, not $seed"
 if [ ! -f "$1" ]; then
-    echo "all: FAILED, there is no archive $1; \`rt staticlib engine\` makes target/staticlib/libengine.a"
+    echo "all: FAILED, there is no archive $1; \`tools/build.sh\` makes target/staticlib/libengine.a"
     echo '0 passed, 1 failed'
     exit 1
 fi

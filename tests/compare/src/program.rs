@@ -41,7 +41,7 @@ pub enum End {
 }
 
 impl Program {
-    /// The program that PIRUN names, or the one that `rt check pirun` writes; or
+    /// The program that PIRUN names, or the one that `tools/build.sh` writes; or
     /// what to do if it is not there. A relative path starts at this crate's folder.
     pub fn found() -> Result<Program, String> {
         let folder = PathBuf::from(env!("CARGO_MANIFEST_DIR"));
@@ -49,7 +49,7 @@ impl Program {
             Some(named) => (folder.join(named), "see PIRUN"),
             None => (
                 folder.join("../../target/bin/pirun"),
-                "run `rt check pirun` first, or name another program in PIRUN",
+                "run `tools/build.sh` first, or name another program in PIRUN",
             ),
         };
         match path.is_file() {

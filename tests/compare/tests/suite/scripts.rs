@@ -61,11 +61,11 @@ fn what_is_missing_is_said() {
         (
             "examples/run.sh",
             "no/pirun",
-            "there is no program no/pirun; to build it: rt check pirun",
+            "there is no program no/pirun; to build it: tools/build.sh",
         ),
         ("examples/run.sh", "no/second", "there is no program no/second; to build it: cargo build"),
         ("examples/run.sh", "no/other", "there is no program no/other\n"),
-        ("tests/host/run.sh", "no/libengine.a", "rt staticlib engine"),
+        ("tests/host/run.sh", "no/libengine.a", "tools/build.sh"),
     ] {
         let (output, errors, status) = script(name, &[missing]);
         assert!(format!("{output}{errors}").contains(said), "{output}{errors}");

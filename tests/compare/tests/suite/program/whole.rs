@@ -110,7 +110,7 @@ fn anything_else_is_said() {
     said(&["sh", "-c", "printf 'none\\nsteps 3'"], 1, "no whole answer from sh");
     said(&["true"], 1, "no whole answer from true");
     said(&["sh", "-c", "kill -9 $$"], 1, "sh ended with status 137");
-    said(&["no_such_program"], 2, "there is no program no_such_program; `rt check pirun` makes");
+    said(&["no_such_program"], 2, "there is no program no_such_program; `tools/build.sh` makes");
     said(&["--whole"], 2, "no option --whole; see --help");
     said(&["--test", "one"], 2, "wrong arguments for --test; see --help");
     said(&["--test", "/", "/no/file"], 2, "/ cannot be read");
