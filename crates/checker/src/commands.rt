@@ -105,7 +105,7 @@ fn call(work: &[u64], registers: usize, scope: usize, node: usize) -> Answer
 }
 
 // The command at a node in the scope at a pointer: 0, or its first fault.
-#[cycle(block_bound_command_conditional_declaration)]
+#[cycle(judgement)]
 pub(crate) fn command(work: &mut [u64], registers: usize, scope: usize, node: usize) -> Answer
     requires rows_end_in_bounds { rows_end ≤ length work.old }
     requires scope_le_node { scope ≤ node }
@@ -152,7 +152,7 @@ pub(crate) fn command(work: &mut [u64], registers: usize, scope: usize, node: us
 
 // The Cond at a node: its test, then both commands, taken or not; that the test is a truth is judged last. Both commands' answers stand in
 // one local: this function becomes a part of `command`, whose frame each level of the tree has on the stack.
-#[cycle(block_bound_command_conditional_declaration)]
+#[cycle(judgement)]
 fn conditional(work: &mut [u64], registers: usize, scope: usize, node: usize) -> Answer
     requires rows_end_in_bounds { rows_end ≤ length work.old }
     requires scope_le_node { scope ≤ node }
@@ -179,7 +179,7 @@ fn conditional(work: &mut [u64], registers: usize, scope: usize, node: usize) ->
 }
 
 // The block at a node: its declaration, then its command in the scope with the names that this gives.
-#[cycle(block_bound_command_conditional_declaration)]
+#[cycle(judgement)]
 fn block(work: &mut [u64], registers: usize, scope: usize, node: usize) -> Answer
     requires rows_end_in_bounds { rows_end ≤ length work.old }
     requires scope_le_node { scope ≤ node }
@@ -199,7 +199,7 @@ fn block(work: &mut [u64], registers: usize, scope: usize, node: usize) -> Answe
 
 // The declaration at a node in the scope at a pointer: rows for its names, linked to that scope, and the pointer of the newest. So the
 // second declaration of a DSeq sees the names of the first.
-#[cycle(block_bound_command_conditional_declaration)]
+#[cycle(judgement)]
 fn declaration(work: &mut [u64], registers: usize, scope: usize, node: usize) -> Answer
     requires rows_end_in_bounds { rows_end ≤ length work.old }
     requires scope_le_node { scope ≤ node }
@@ -235,7 +235,7 @@ fn declaration(work: &mut [u64], registers: usize, scope: usize, node: usize) ->
 }
 
 // What a Bind's child means.
-#[cycle(block_bound_command_conditional_declaration)]
+#[cycle(judgement)]
 fn bound(work: &mut [u64], registers: usize, scope: usize, node: usize) -> Answer
     requires rows_end_in_bounds { rows_end ≤ length work.old }
     requires scope_le_node { scope ≤ node }

@@ -1,5 +1,5 @@
 -- Blocks: the declaration's names, then the command in the scope with them.
-use Prim.Native.Nat.{ℕ, suc, ◌+◌, ◌<◌, ◌≤◌}
+use Prim.Native.Nat.{ℕ, zero, suc, ◌+◌, ◌<◌, ◌≤◌}
 use mathlib.Core.Path.{◌≡◌, refl, sym, ◌∙◌, subst}
 use mathlib.Core.List.{List, ◌++◌}
 use native.Mathlib.Omega.{arith}
@@ -52,6 +52,7 @@ pub block_parts : (words : List ℕ) (node : ℕ) (b : Block) → BlockAt words 
 block_parts words node b at = by at.stored
   where
     by : {d j : ℕ} {b : Block} → StoredBlock words d node j b → BlockParts words node b
+    by {d = zero} {j = j} x = elim x [ ]
     by {d = suc d} (blk {j = j} {k = m} {dec = dec} {c = c} h a b) =
         let moved : StoredDeclaration words d (node + 1) j dec = subst (λ i. StoredDeclaration words d i j dec) (after_node node) a in
         let end : packed_end (get_or words (node + 1) 0) ≡ j = declaration_end moved in

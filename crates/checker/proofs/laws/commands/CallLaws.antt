@@ -117,7 +117,8 @@ module _ (words : List ℕ) (registers scope node word : ℕ) (known : word ≡ 
 
     module _ (number pointer : ℕ) (bound : found ≡ Bound number pointer) where
       pub call_no_function : (number ≡ function_number → ⊥) → CallJudgedAt words registers scope node (Fault 14 node)
-      call_no_function n = after (Fault 14 node) (λ x es cs Γ f s a k packed. unfold after_actuals in (by cs (meaning_of x Γ) found f bound))
+      unfolding after_actuals
+      call_no_function n = after (Fault 14 node) (λ x es cs Γ f s a k packed. by cs (meaning_of x Γ) found f bound)
         where
           at : {k : ℕ} {m : Meaning} (cs : List ℕ) → MeaningAt words k m → (meaning_number m ≡ function_number → ⊥) → Fault 14 node ≡ fine_answer (called node m >>= after_function node cs)
           at cs (code_at l) n = unfold refusal_number in refl

@@ -1,5 +1,5 @@
 -- Cond: where its test and its two commands stand, and what it is judged from their judgements.
-use Prim.Native.Nat.{ℕ, suc, ◌+◌, ◌<◌}
+use Prim.Native.Nat.{ℕ, zero, suc, ◌+◌, ◌<◌}
 use mathlib.Core.Path.{◌≡◌, sym, ap, ◌∙◌, subst}
 use mathlib.Core.List.{List}
 use native.Mathlib.Omega.{arith}
@@ -36,7 +36,8 @@ pub record ConditionalParts (words : List ℕ) (node : ℕ) (e : Expression) (c�
 pub conditional_parts : (words : List ℕ) (node : ℕ) (e : Expression) (c₁ c₂ : Command) → CommandAt words node (Cond node e c₁ c₂) → ConditionalParts words node e c₁ c₂
 conditional_parts words node e c₁ c₂ at = by at.stored
   where
-    by : {d l : ℕ} → StoredCommand words d node l (Cond node e c₁ c₂) → ConditionalParts words node e c₁ c₂
+    by : {d l m : ℕ} → StoredCommand words d node l (Cond m e c₁ c₂) → ConditionalParts words node e c₁ c₂
+    by {d = zero} {l = l} x = elim x [ ]
     by {d = suc d} (Stored.conditional {j = j} {k = k} {l = l} h a b c) =
         let test : StoredExpression words d (node + 1) j e = subst (λ i. StoredExpression words d i j e) (after_node node) a in
         let end : second_place words node ≡ j = expression_end test in

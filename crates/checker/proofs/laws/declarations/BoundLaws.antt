@@ -195,7 +195,7 @@ module _ (words : List ℕ) (registers scope node which : ℕ) (known : which �
           subst (λ d. parameters ≡ meaning_answer (bound_means Γ d)) (sym a.same)
           (by (distinct [] a.formals) (with_formals a.formals []) (λ done. block_ok (with_formals a.formals Γ) a.body >>= λ inside. fine (function a.formals)) (formals_judged b a) q)
         where
-          by : {n : ℕ} {r : Answer} (j : Judged Fine) (Δ : Scope) (rest : Fine → Judged Meaning) → NamesFrom words₁ scope n (j >>= λ done. fine Δ) r → r ≡ Fault x p → r ≡ meaning_answer (j >>= rest)
+          by : {n : ℕ} (j : Judged Fine) {r : Answer} (Δ : Scope) (rest : Fine → Judged Meaning) → NamesFrom words₁ scope n (j >>= λ done. fine Δ) r → r ≡ Fault x p → r ≡ meaning_answer (j >>= rest)
           by (fault y z) Δ rest names_fault e = refl
           by (fine d) Δ rest (names_from {t = t} r l) e = absurd (two_answers (Is t) t x p refl e)
 
@@ -203,7 +203,7 @@ module _ (words : List ℕ) (registers scope node which : ℕ) (known : which �
         formals_fine : (b : Bound) (a : AbsAt words node count b) → (done : Fine) × (distinct [] a.formals ≡ fine done) × Rows words₁ inner scope (with_formals a.formals []) × (inner ≤ node + 1 + count)
         formals_fine b a = by (distinct [] a.formals) (with_formals a.formals []) (formals_judged b a) got
           where
-            by : {n : ℕ} {r : Answer} (j : Judged Fine) (Δ : Scope) → NamesFrom words₁ scope n (j >>= λ done. fine Δ) r → r ≡ Is inner → (done : Fine) × (j ≡ fine done) × Rows words₁ inner scope Δ × (inner ≤ n)
+            by : {n : ℕ} (j : Judged Fine) {r : Answer} (Δ : Scope) → NamesFrom words₁ scope n (j >>= λ done. fine Δ) r → r ≡ Is inner → (done : Fine) × (j ≡ fine done) × Rows words₁ inner scope Δ × (inner ≤ n)
             by (fault y z) Δ (names_fault {r = r} {p = p}) e = absurd (two_answers (Fault (refusal_number r) p) inner (refusal_number r) p e refl)
             by {n = n} (fine d) Δ (names_from {t = t} r l) e =
                 let same : t ≡ inner = same_is (Is t) t inner refl e in

@@ -1,6 +1,6 @@
 -- Declarations by the kind of their node: a Bind gives one row, for what its child means; a DSeq gives the rows of its first
 -- declaration and then those of its second, judged in the scope with the first's names, unless a name comes in both.
-use Prim.Native.Nat.{ℕ, suc, ◌+◌, ◌<◌, ◌≤◌}
+use Prim.Native.Nat.{ℕ, zero, suc, ◌+◌, ◌<◌, ◌≤◌}
 use mathlib.Core.Path.{◌≡◌, refl, sym, ap, ◌∙◌, subst}
 use mathlib.Core.Bool.{Bool, true, false, cond}
 use mathlib.Core.List.{List, [], ◌∷◌, ◌++◌}
@@ -62,6 +62,7 @@ seen_declaration words node which next d known at = by at.stored
     of_kind {n} {d} q s = subst (λ w. SeenDeclaration words node next w d) (sym (known ∙ q)) s
 
     by : {t : ℕ} {d : Declaration} → StoredDeclaration words t node next d → SeenDeclaration words node next which d
+    by {t = zero} x = elim x [ ]
     by {t = suc t} (bind {x = x} {b = b} l w h) =
         of_kind (kind_is w (omega arith))
         (seen_bind
