@@ -1,7 +1,6 @@
 -- and: just the truths that some choice gives.
 use mathlib.Core.Bool.{◌||◌}
 use Rattle.intervals.proofs.ChoiceLaws.{false_word, true_word, and_made}
-use borrow.Author.Rules.{rules}
 use Rattle.intervals.proofs.choices.and.Goals as goal
 
 pub returns : goal.returns

@@ -1,7 +1,6 @@
 -- or: just the truths that some choice gives.
 use mathlib.Core.Bool.{◌||◌}
 use Rattle.intervals.proofs.ChoiceLaws.{false_word, true_word, or_made}
-use borrow.Author.Rules.{rules}
 use Rattle.intervals.proofs.choices.or.Goals as goal
 
 pub returns : goal.returns

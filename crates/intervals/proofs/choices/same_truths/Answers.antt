@@ -1,6 +1,5 @@
 -- same_truths: just the truths that some choice gives.
 use Rattle.intervals.proofs.ChoiceLaws.{false_word, true_word, same_made}
-use borrow.Author.Rules.{rules}
 use Rattle.intervals.proofs.choices.same_truths.Goals as goal
 
 pub returns : goal.returns

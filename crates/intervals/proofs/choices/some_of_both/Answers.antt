@@ -1,6 +1,5 @@
 -- some_of_both: some of two that are each both of two.
 use mathlib.Core.Bool.{◌&&◌}
-use borrow.Author.Rules.{rules}
 use Rattle.intervals.proofs.choices.some_of_both.Goals as goal
 
 pub returns : goal.returns

@@ -1,6 +1,5 @@
 -- compared: by the operator's number.
 use Rattle.intervals.proofs.OperatorNumbers.{is_below, is_at_most, is_above, is_at_least}
-use borrow.Author.Rules.{rules}
 use Rattle.intervals.proofs.ends.compared.Goals as goal
 
 pub returns-then-which-eq-LT : goal.returns-then-which-eq-LT

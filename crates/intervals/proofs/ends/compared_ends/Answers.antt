@@ -1,6 +1,5 @@
 -- compared_ends: the truths by the outer and the inner ends.
 use Rattle.intervals.proofs.OperatorNumbers.{below_carried, above_carried}
-use borrow.Author.Rules.{rules}
 use Rattle.intervals.proofs.ends.compared_ends.Goals as goal
 
 pub returns-then-which-lt-GT : goal.returns-then-which-lt-GT

@@ -1,6 +1,5 @@
 -- higher: the second where the first is less.
 use Rattle.intervals.proofs.EndLaws.{higher_second, higher_first}
-use borrow.Author.Rules.{rules}
 use Rattle.intervals.proofs.ends.higher.Goals as goal
 
 pub returns-then-less : goal.returns-then-less

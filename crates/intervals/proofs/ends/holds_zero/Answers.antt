@@ -1,6 +1,5 @@
 -- holds_zero: 0 is neither below the lowest nor above the highest.
 use Rattle.intervals.proofs.EndLaws.{zero_below, zero_not_below}
-use borrow.Author.Rules.{rules}
 use Rattle.intervals.proofs.ends.holds_zero.Goals as goal
 
 pub returns-then-less : goal.returns-then-less

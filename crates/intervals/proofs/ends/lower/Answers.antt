@@ -1,6 +1,5 @@
 -- lower: the first where it is less.
 use Rattle.intervals.proofs.EndLaws.{lower_first, lower_second}
-use borrow.Author.Rules.{rules}
 use Rattle.intervals.proofs.ends.lower.Goals as goal
 
 pub returns-then-less : goal.returns-then-less

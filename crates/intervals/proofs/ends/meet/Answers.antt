@@ -1,6 +1,5 @@
 -- meet: neither range is below the other.
 use Rattle.intervals.proofs.EndLaws.{first_above, first_not_above}
-use borrow.Author.Rules.{rules}
 use Rattle.intervals.proofs.ends.meet.Goals as goal
 
 pub returns-then-less : goal.returns-then-less

@@ -1,6 +1,5 @@
 -- result: by the operator's number.
 use Rattle.intervals.proofs.OperatorNumbers.{is_sum, is_difference, is_product, is_quotient}
-use borrow.Author.Rules.{rules}
 use Rattle.intervals.proofs.ends.result.Goals as goal
 
 pub returns-then-which-eq-SUM : goal.returns-then-which-eq-SUM

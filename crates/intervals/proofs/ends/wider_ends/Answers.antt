@@ -1,6 +1,5 @@
 -- wider_ends: the lower of the lowest ends and the higher of the highest.
 use Rattle.intervals.proofs.EndLaws.{ends_made}
-use borrow.Author.Rules.{rules}
 use Rattle.intervals.proofs.ends.wider_ends.Goals as goal
 
 pub returns : goal.returns

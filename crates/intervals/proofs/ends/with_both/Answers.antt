@@ -4,7 +4,6 @@ use Rattle.rules.specs.paper.Integers.{compute}
 use Rattle.integers.specs.Words.{integer_of}
 use Rattle.integers.specs.WordLaws.{computed_number}
 use Rattle.intervals.proofs.SpanLaws.{first_failed, second_failed, two_numbers}
-use borrow.Author.Rules.{rules}
 use Rattle.intervals.proofs.ends.with_both.Goals as goal
 
 pub returns-in_default : goal.returns-in_default

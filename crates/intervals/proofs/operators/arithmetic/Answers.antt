@@ -1,7 +1,6 @@
 -- arithmetic: the ends, or the node.
 use mathlib.Core.Path.{sym, ◌∙◌}
 use Rattle.intervals.proofs.SpanLaws.{not_carried, is_carried}
-use borrow.Author.Rules.{rules}
 use Rattle.intervals.proofs.operators.arithmetic.Goals as goal
 
 pub returns-in_default : goal.returns-in_default

@@ -1,6 +1,5 @@
 -- combined: by the operator's number.
 use Rattle.intervals.proofs.OperatorNumbers.{is_and, is_or}
-use borrow.Author.Rules.{rules}
 use Rattle.intervals.proofs.operators.combined.Goals as goal
 
 pub returns-then-which-eq-AND : goal.returns-then-which-eq-AND

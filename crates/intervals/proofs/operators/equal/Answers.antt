@@ -1,6 +1,5 @@
 -- equal: by the first value's sort.
 use Rattle.intervals.proofs.OperatorLaws.{equal_numbers, equal_others}
-use borrow.Author.Rules.{rules}
 use Rattle.intervals.proofs.operators.equal.Goals as goal
 
 pub returns-then-first-eq-NUMBERS : goal.returns-then-first-eq-NUMBERS

@@ -1,6 +1,5 @@
 -- operator: by the operator's number.
 use Rattle.intervals.proofs.OperatorLaws.{by_arithmetic, by_equal, by_order, by_logic}
-use borrow.Author.Rules.{rules}
 use Rattle.intervals.proofs.operators.operator.Goals as goal
 
 pub returns-then-which-lt-EQ : goal.returns-then-which-lt-EQ

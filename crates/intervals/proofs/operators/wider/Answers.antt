@@ -1,6 +1,5 @@
 -- wider: by the first value's sort.
 use Rattle.intervals.proofs.OperatorLaws.{wider_numbers, wider_location, wider_truths}
-use borrow.Author.Rules.{rules}
 use Rattle.intervals.proofs.operators.wider.Goals as goal
 
 pub returns-then-first-eq-NUMBERS : goal.returns-then-first-eq-NUMBERS
