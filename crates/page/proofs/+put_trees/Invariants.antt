@@ -1,0 +1,15 @@
+-- The proof of `put_trees`, which calls itself for the children of each root. The measure is how many nodes there are, and falls from a tree
+-- to its children.
+use Prim.Native.Nat.{ℕ, ◌-◌, ◌<◌}
+use native.Mathlib.Omega.{arith}
+use Rattle.page.proofs.TreeLaws.{line_put_length, SoFar, none_put, so_far_length, within, node_low, depth_low, line_here, end_within, children_here, one_more_put, all_put}
+use Rattle.page.proofs.+put_trees.Given as goal
+
+abbrev pub invariant-loop-node : goal.invariant-loop-node
+invariant-loop-node l = SoFar l.work l.initial.page l.depth l.first l.next l.node l.page
+
+abbrev pub decreases-loop-node : goal.decreases-loop-node
+decreases-loop-node l = l.next - l.node
+
+abbrev pub decreases-put_trees : goal.decreases-put_trees
+decreases-put_trees l = l.next - l.first
