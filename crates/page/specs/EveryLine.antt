@@ -6,7 +6,6 @@ use Rattle.std.proofs.Math.ListN.{length, get_or, length-replicate}
 use Rattle.rules.proofs.Basics.{by_order, append_assoc}
 use Rattle.rules.specs.paper.Limits.{most_nodes, most_depth}
 use Rattle.rules.specs.paper.Tree.{Root}
-use Rattle.rules.specs.paper.Engine.{passed}
 use Rattle.rules.specs.claims.Image.{IsImage}
 use Rattle.rules.specs.claims.Listing.{node_of, root_nodes, image_words}
 use Rattle.rules.proofs.checking.ImageExact.{check_exact}

@@ -1,5 +1,5 @@
 -- The line of a node: its parts one behind the other, each of which fits its columns, and so how long it is.
-use Rattle.std.specs.Prelude.{ℕ, ◌+◌, ◌-◌, ◌<◌, ◌≤◌, ◌≡◌, List, [], ◌∷◌, ◌++◌, T, leb, length}
+use Rattle.std.specs.Prelude.{ℕ, ◌-◌, ◌<◌, ◌≤◌, ◌≡◌, List, [], ◌∷◌, ◌++◌, T, leb, length}
 use Rattle.std.proofs.Common.{ap, ◌∙◌, arith, leb→le, length-append}
 use Rattle.std.proofs.lemmas.List.{length-replicate}
 use Rattle.rules.proofs.Basics.{append_assoc}

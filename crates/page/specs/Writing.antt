@@ -1,5 +1,5 @@
 -- What the functions that write a page do: texts put over its bytes from a place on.
-use Rattle.std.specs.Prelude.{ℕ, ◌+◌, ◌*◌, ◌≤◌, ◌≡◌, List, [], ◌∷◌, ◌++◌, drop}
+use Rattle.std.specs.Prelude.{ℕ, ◌*◌, ◌≤◌, ◌≡◌, List, [], ◌∷◌, ◌++◌, drop}
 use Rattle.rules.specs.paper.Limits.{most_depth}
 use Rattle.rules.specs.paper.Tree.{Root}
 use Rattle.rules.specs.paper.Kinds.{Kind, kind_number}

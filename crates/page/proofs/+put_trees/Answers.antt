@@ -1,8 +1,7 @@
 -- The proof of `put_trees`, which calls itself for the children of each root. The measure is how many nodes there are, and falls from a tree
 -- to its children.
-use Prim.Native.Nat.{ℕ, ◌-◌, ◌<◌}
 use native.Mathlib.Omega.{arith}
-use Rattle.page.proofs.TreeLaws.{line_put_length, SoFar, none_put, so_far_length, within, node_low, depth_low, line_here, end_within, children_here, one_more_put, all_put}
+use Rattle.page.proofs.TreeLaws.{line_put_length, none_put, so_far_length, within, node_low, depth_low, line_here, end_within, children_here, one_more_put, all_put}
 use Rattle.page.proofs.+put_trees.Goals as goal
 
 pub loop-node-init : goal.loop-node-init
@@ -17,10 +16,10 @@ end-after-requires t c =
 
 pub put_line-requires : goal.put_line-requires
 put_line-requires t c = record {
-      most_nodes_in_bounds = c.requires.most_nodes_in_bounds;
-      line_bytes_in_bounds = omega (arith, c.loop-node-test.true, c.requires.next_in_bounds, so_far_length c.loop-node.invariant c.requires.some_trees);
-      some_line = line_here c.loop-node.invariant c.requires.some_trees c.loop-node-test.true _ c.end-after.ensures;
-    }
+  most_nodes_in_bounds = c.requires.most_nodes_in_bounds;
+  line_bytes_in_bounds = omega (arith, c.loop-node-test.true, c.requires.next_in_bounds, so_far_length c.loop-node.invariant c.requires.some_trees);
+  some_line = line_here c.loop-node.invariant c.requires.some_trees c.loop-node-test.true _ c.end-after.ensures;
+}
 
 pub overflow_add-depth : goal.overflow_add-depth
 overflow_add-depth t c =

@@ -1,8 +1,7 @@
 -- The proof of `put_trees`, which calls itself for the children of each root. The measure is how many nodes there are, and falls from a tree
 -- to its children.
-use Prim.Native.Nat.{ℕ, ◌-◌, ◌<◌}
-use native.Mathlib.Omega.{arith}
-use Rattle.page.proofs.TreeLaws.{line_put_length, SoFar, none_put, so_far_length, within, node_low, depth_low, line_here, end_within, children_here, one_more_put, all_put}
+use Prim.Native.Nat.{◌-◌}
+use Rattle.page.proofs.TreeLaws.{SoFar}
 use Rattle.page.proofs.+put_trees.Given as goal
 
 abbrev pub invariant-loop-node : goal.invariant-loop-node

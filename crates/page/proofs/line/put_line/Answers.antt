@@ -6,21 +6,21 @@ use Rattle.page.proofs.line.put_line.Goals as goal
 
 pub put_number-requires : goal.put_number-requires
 put_number-requires c = record {
-      columns_in_bounds = search rules;
-      number_len_bound = node_fits _ c.requires.some_line.2.place_low;
-    }
+  columns_in_bounds = search rules;
+  number_len_bound = node_fits _ c.requires.some_line.2.place_low;
+}
 
 pub put_number-requires-2 : goal.put_number-requires-2
 put_number-requires-2 c = record {
-      columns_in_bounds = search rules;
-      number_len_bound = depth_fits _ c.requires.some_line.3;
-    }
+  columns_in_bounds = search rules;
+  number_len_bound = depth_fits _ c.requires.some_line.3;
+}
 
 pub put_number-requires-3 : goal.put_number-requires-3
 put_number-requires-3 c = record {
-      columns_in_bounds = search rules;
-      number_len_bound = some_operand_fits _ c.operand.ensures c.requires.some_line;
-    }
+  columns_in_bounds = search rules;
+  number_len_bound = some_operand_fits _ c.operand.ensures c.requires.some_line;
+}
 
 pub returns : goal.returns
 returns c =
@@ -29,6 +29,6 @@ returns c =
 
 pub put_number-requires-4 : goal.put_number-requires-4
 put_number-requires-4 c = record {
-      columns_in_bounds = search rules;
-      number_len_bound = end_fits _ c.requires.some_line.2.end_low;
-    }
+  columns_in_bounds = search rules;
+  number_len_bound = end_fits _ c.requires.some_line.2.end_low;
+}

@@ -4,7 +4,7 @@ use mathlib.Core.Path.{◌∙◌}
 use native.Mathlib.Omega.{arith}
 use lib.ListN.{length-set}
 use borrow.Author.Rules.{rules}
-use Rattle.page.proofs.NameLaws.{LettersFrom, letters_length, no_letter, letter_written, name_written}
+use Rattle.page.proofs.NameLaws.{letters_length, no_letter, letter_written, name_written}
 use Rattle.page.proofs.names.put_name.Goals as goal
 
 pub name-letters-requires : goal.name-letters-requires

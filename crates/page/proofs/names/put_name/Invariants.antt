@@ -1,10 +1,5 @@
 -- The letters of a kind's name, from the last one to the first, and a blank behind them.
-use Prim.Native.Nat.{◌+◌}
-use mathlib.Core.Path.{◌∙◌}
-use native.Mathlib.Omega.{arith}
-use lib.ListN.{length-set}
-use borrow.Author.Rules.{rules}
-use Rattle.page.proofs.NameLaws.{LettersFrom, letters_length, no_letter, letter_written, name_written}
+use Rattle.page.proofs.NameLaws.{LettersFrom}
 use Rattle.page.proofs.names.put_name.Given as goal
 
 abbrev pub invariant-loop-column : goal.invariant-loop-column

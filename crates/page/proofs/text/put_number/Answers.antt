@@ -4,7 +4,7 @@ use mathlib.Core.Path.{◌∙◌}
 use native.Mathlib.Omega.{arith}
 use lib.ListN.{length-set}
 use borrow.Author.Rules.{rules}
-use Rattle.page.proofs.NumberLaws.{DigitsFrom, no_digit, digit_room, digit_low, digits_length, digit_written, BlanksFrom, no_blank, blanks_length, blank_written, number_written}
+use Rattle.page.proofs.NumberLaws.{no_digit, digit_room, digit_low, digits_length, digit_written, no_blank, blanks_length, blank_written, number_written}
 use Rattle.page.proofs.text.put_number.Goals as goal
 
 pub overflow_add-column : goal.overflow_add-column

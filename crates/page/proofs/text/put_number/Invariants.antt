@@ -1,10 +1,5 @@
 -- A number in its columns: a byte behind them, its digits from the last one on, then blanks.
-use Prim.Native.Nat.{◌+◌, ◌-◌}
-use mathlib.Core.Path.{◌∙◌}
-use native.Mathlib.Omega.{arith}
-use lib.ListN.{length-set}
-use borrow.Author.Rules.{rules}
-use Rattle.page.proofs.NumberLaws.{DigitsFrom, no_digit, digit_room, digit_low, digits_length, digit_written, BlanksFrom, no_blank, blanks_length, blank_written, number_written}
+use Rattle.page.proofs.NumberLaws.{DigitsFrom, BlanksFrom}
 use Rattle.page.proofs.text.put_number.Given as goal
 
 abbrev pub invariant-loop-left : goal.invariant-loop-left
