@@ -1,5 +1,5 @@
 -- Declarations by the kind of their node: what stands there, its figures from its parts', and the names that it gives.
-use Prim.Native.Nat.{ℕ, suc, ◌+◌, ◌<◌, ◌≤◌}
+use Prim.Native.Nat.{ℕ, zero, suc, ◌+◌, ◌<◌, ◌≤◌}
 use mathlib.Core.Path.{◌≡◌, refl, sym, ap, ◌∙◌, subst}
 use mathlib.Core.List.{List, ◌∷◌, ◌++◌}
 use native.Mathlib.Omega.{arith}
@@ -48,6 +48,7 @@ module _ (words : List ℕ) (node which : ℕ) (known : which ≡ packed_kind (g
       of_kind {n} {j} {c} q s = subst (λ w. SeenDeclaration words node j w c) (sym (known ∙ q)) s
 
       by : {d j : ℕ} {c : Declaration} → StoredDeclaration words d node j c → SeenDeclaration words node j which c
+      by {d = zero} x = elim x [ ]
       by {d = suc d} {j = j} (Stored.bind {b = b} l h a) =
           of_kind (kind_is h (omega arith)) (seen_bind l (operand_is h (omega arith)) (omega (arith, bound_later a)) (subst (λ i. StoredBound words d i j b) (after_node node) a))
       by {d = suc d} (Stored.dseq {j = m} {d₁ = d₁} h a b) = of_kind (kind_is h (omega arith)) (seen_sequence (subst (λ i. StoredDeclaration words d i m d₁) (after_node node) a) b)

@@ -1,5 +1,5 @@
 -- A Call's need from its actuals' and its function's, and the Formals' names.
-use Prim.Native.Nat.{ℕ, suc, ◌+◌, ◌-◌, ◌/◌, ◌%◌, ◌<◌, ◌≤◌}
+use Prim.Native.Nat.{ℕ, zero, suc, ◌+◌, ◌-◌, ◌/◌, ◌%◌, ◌<◌, ◌≤◌}
 use mathlib.Core.Path.{◌≡◌, sym, ap, ◌∙◌, subst}
 use mathlib.Core.List.{List, ◌∷◌}
 use native.Mathlib.Omega.{arith}
@@ -22,25 +22,30 @@ use Rattle.estimator.proofs.EntryLaws.{entries_nodes, entries_same, entries_then
 
 module _ (words : List ℕ) (node word : ℕ) (known : word ≡ packed_operand (get_or words node 0)) where
   pub call_actuals : SomeCall words node → (word / names ≤ most_parameters) × SomeActuals words (node + 1) (word / names)
-  call_actuals s = by s.4
+  call_actuals s = by known s.4
     where
-      by : {d j x : ℕ} {es : List Expression} → StoredCommand words d node j (Call node x es) → (word / names ≤ most_parameters) × SomeActuals words (node + 1) (word / names)
-      by {d = suc d} {j = j} {x = x} {es = es} (call l few w a) =
-          let count : word / names ≡ length es = ap (λ o. o / names) (known ∙ operand_is w (omega arith)) ∙ operand_number x (length es) l in
-          (omega (arith, few, count), (d, j, es, subst (λ i. StoredActuals words d i j es) (after_node node) a, sym count))
+      by : {d n j m x : ℕ} {es : List Expression} → word ≡ packed_operand (get_or words n 0) → StoredCommand words d n j (Call m x es) → (word / names ≤ most_parameters) × SomeActuals words (n + 1) (word / names)
+      by {d = zero} is_packed stored = elim stored [ ]
+      by {d = suc d} {n = n} {j = j} {x = x} {es = es} is_packed (call l few w a) =
+          let count : word / names ≡ length es = ap (λ o. o / names) (is_packed ∙ operand_is w (omega arith)) ∙ operand_number x (length es) l in
+          (omega (arith, few, count), (d, j, es, subst (λ i. StoredActuals words d i j es) (after_node n) a, sym count))
 
   pub call_needs : (scope : ℕ) (given function r : Need) → ActualsNeed words (node + 1) (word / names) given → NeedFoundAt words scope (word % names) function →
       r ≡ called_figures given (word / names) function → CallNeeds words scope node r
   unfolding command_need
-  call_needs scope given function r first found q d j x es N (call {d = c} l few w a) s =
-      let whole = known ∙ operand_is w (omega arith) in
-      let count : word / names ≡ length es = ap (λ o. o / names) whole ∙ operand_number x (length es) l in
-      let name : word % names ≡ x = ap (λ o. o % names) whole ∙ operand_name x (length es) l in
-      q
-      ∙ ap (λ k. called_figures given k function) count
-      ∙ (called_law (length es) (omega (arith, few)) (record { equal = first c j es (subst (λ i. StoredActuals words c i j es) (after_node node) a) (sym count) })
-      (record { equal = found N s ∙ ap (λ y. figures (need_of y N)) name })
-      ).equal
+  call_needs scope given function r first found q d j x es N stored s = by known first stored
+    where
+      by : {d n j m : ℕ} {es : List Expression} → word ≡ packed_operand (get_or words n 0) → ActualsNeed words (n + 1) (word / names) given → StoredCommand words d n j (Call m x es) → r ≡ figures (command_need N (Call m x es))
+      by {d = zero} is_packed actuals stored = elim stored [ ]
+      by {d = suc c} {n = n} {j = j} {es = es} is_packed actuals (call l few w a) =
+          let whole = is_packed ∙ operand_is w (omega arith) in
+          let count : word / names ≡ length es = ap (λ o. o / names) whole ∙ operand_number x (length es) l in
+          let name : word % names ≡ x = ap (λ o. o % names) whole ∙ operand_name x (length es) l in
+          q
+          ∙ ap (λ k. called_figures given k function) count
+          ∙ (called_law (length es) (omega (arith, few)) (record { equal = actuals c j es (subst (λ i. StoredActuals words c i j es) (after_node n) a) (sym count) })
+          (record { equal = found N s ∙ ap (λ y. figures (need_of y N)) name })
+          ).equal
 
 -- ---- Formals.
 

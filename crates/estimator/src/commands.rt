@@ -57,7 +57,7 @@ fn call(work: &[u64], scope: usize, node: usize) -> Need
 
 // The need of the command at a node in the scope at a pointer. Each level of the tree has this frame on the stack, so the needs of its parts
 // stand in the same locals whatever it is, and an Assign's value is asked for where a test is.
-#[cycle(command_declaration)]
+#[cycle(needs)]
 pub(crate) fn command(work: &mut [u64], scope: usize, node: usize) -> Need
     requires entries_end_in_bounds { entries_end ≤ length work.old }
     requires scope_le_node { scope ≤ node }
@@ -103,7 +103,7 @@ pub(crate) fn command(work: &mut [u64], scope: usize, node: usize) -> Need
 }
 
 // The need of the declaration at a node in the scope at a pointer, and entries for its names. A function's need is worked out here, once.
-#[cycle(command_declaration)]
+#[cycle(needs)]
 fn declaration(work: &mut [u64], scope: usize, node: usize) -> Declared
     requires entries_end_in_bounds { entries_end ≤ length work.old }
     requires scope_le_node { scope ≤ node }
