@@ -1,5 +1,5 @@
 -- What a look-up in the rows is asked and what it finds.
-use Rattle.std.specs.Prelude.{ℕ, ◌+◌, ◌<◌, ◌≤◌, ◌≡◌, List, length, get_or}
+use Rattle.std.specs.Prelude.{ℕ, ◌+◌, ◌<◌, ◌≡◌, List, length, get_or}
 use Rattle.std.proofs.Math.Option.{some}
 use Rattle.rules.specs.paper.States.{Bindable, Environment, lookup}
 use Rattle.rules.specs.paper.Limits.{names}

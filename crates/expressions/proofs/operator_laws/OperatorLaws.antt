@@ -7,7 +7,7 @@ use mathlib.Core.Option.{some, some-injective}
 use native.Mathlib.Omega.{arith}
 use lib.Dec.{eqb}
 use lib.ListN.{get_or}
-use Rattle.rules.proofs.Basics.{missing}
+use Rattle.rules.specs.proofs.Basics.{missing}
 use Rattle.rules.specs.paper.Tree.{Arithmetic, Order, Logic, Operator, arithmetic, Eq, order, logic}
 use Rattle.rules.specs.claims.Listing.{truth_word}
 use Rattle.rules.specs.paper.Refusals.{Reason, Steps, ZeroDivisor, OutOfRange, Cells, Bindings, ValueEntries, ControlEntries, reason_number}

@@ -3,16 +3,16 @@ use Prim.Native.Nat.{ℕ, zero, suc, ◌<◌, ◌≤◌}
 use mathlib.Core.Path.{◌≡◌, refl, sym, ap, ◌∙◌, subst}
 use mathlib.Core.Bool.{Bool, true, false, cond}
 use mathlib.Core.List.{List, [], ◌∷◌}
-use mathlib.Core.Option.{Option, none, some}
+use mathlib.Core.Option.{some}
 use native.Mathlib.Omega.{arith}
 use lib.Dec.{T, eqb, eqb→eq, eqb_refl}
 use lib.ListN.{length}
 use Rattle.rules.proofs.Basics.{missing, true_test, false_test, passed_test}
 use Rattle.rules.specs.paper.Limits.{names}
-use Rattle.rules.specs.paper.States.{Bindable, Environment, empty, bound, join, Cell, Store, in_set, remove, Entry}
+use Rattle.rules.specs.paper.States.{Bindable, Environment, bound, join, Store, in_set, remove, Entry}
 use Rattle.machine.specs.Layout.{link}
 use Rattle.machine.specs.Regions.{Slot, slot, slots, slot_at}
-use Rattle.machine.specs.Represents.{SegmentAs, no_row, one_row, BindableAs, value_as, closure_as, StoreAs, no_cell, one_cell, Since, none_since, one_since, Extends, no_more, one_more, Mode, running, declaring, ValuesAs, nothing_on, bindable_on, name_on, node_on, declared_on, saved_on, opened_on, frame_on}
+use Rattle.machine.specs.Represents.{SegmentAs, no_row, one_row, BindableAs, value_as, closure_as, StoreAs, no_cell, one_cell, Since, none_since, one_since, Extends, no_more, one_more, Mode, running, ValuesAs, nothing_on, bindable_on, name_on, node_on, declared_on, saved_on, opened_on, frame_on}
 use Rattle.machine.proofs.memory_laws.RegionLaws.{slots_length}
 
 -- ---- Rows.

@@ -1,14 +1,14 @@
 -- A look-up along the rows of an environment.
-use Prim.Native.Nat.{ℕ, zero, suc, ◌+◌, ◌-◌, ◌*◌, ◌/◌, ◌%◌, ◌<◌, ◌≤◌}
+use Prim.Native.Nat.{ℕ, zero, suc, ◌+◌, ◌-◌, ◌/◌, ◌%◌, ◌<◌, ◌≤◌}
 use mathlib.Core.Path.{◌≡◌, refl, sym, ap, ◌∙◌, subst}
 use mathlib.Core.Bool.{Bool, true, false, cond}
-use mathlib.Core.List.{List, [], ◌∷◌}
-use mathlib.Core.Option.{Option, none, some, some-injective}
+use mathlib.Core.List.{List}
+use mathlib.Core.Option.{some, some-injective}
 use native.Mathlib.Omega.{arith}
 use lib.Dec.{T, eqb, eqb→eq, eqb_refl}
 use lib.ListN.{length, get_or}
-use Rattle.rules.proofs.Basics.{missing, true_test, false_test, passed_test, failed_test}
-use Rattle.rules.specs.paper.States.{Bindable, Environment, empty, bound, lookup}
+use Rattle.rules.proofs.Basics.{missing, passed_test, failed_test}
+use Rattle.rules.specs.paper.States.{Bindable, Environment, lookup}
 use Rattle.machine.specs.Layout.{row_labels, row_payloads, row_at_pointer, link}
 use Rattle.machine.specs.Regions.{Slot, slot, slots, slot_at}
 use Rattle.machine.specs.Represents.{SegmentAs, no_row, one_row, BindableAs}

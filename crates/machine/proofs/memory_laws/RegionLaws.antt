@@ -1,17 +1,16 @@
 -- Writing a word of one region leaves the others as they are; and what the top of a stack is.
-use Prim.Native.Nat.{ℕ, zero, suc, ◌+◌, ◌-◌, ◌<◌, ◌≤◌}
+use Prim.Native.Nat.{ℕ, zero, suc, ◌+◌, ◌<◌}
 use mathlib.Core.Path.{◌≡◌, refl, sym, ap, ◌∙◌, subst}
-use mathlib.Core.Bool.{Bool, true, false, cond}
-use mathlib.Core.List.{List, [], ◌∷◌}
-use mathlib.Core.Option.{Option, none, some}
+use mathlib.Core.Bool.{Bool, true, false}
+use mathlib.Core.List.{List, ◌∷◌}
 use native.Mathlib.Omega.{arith}
 use lib.Dec.{T, eqb, eqb→eq, eqb_refl}
-use lib.ListN.{length, get_or, set, take, drop, length-set}
+use lib.ListN.{length, get_or, set, length-set}
 use lib.Seq.{get_or-set_same, get_or-set_other, take-set-le, drop-set-lt}
-use Rattle.rules.proofs.Basics.{true_test, false_test, passed_test, failed_test}
+use Rattle.rules.proofs.Basics.{passed_test, failed_test}
 use Rattle.rules.specs.paper.Limits.{most_nodes, most_cells, most_bindings, most_value_entries, most_control_entries, work_words}
 use Rattle.machine.specs.Layout.{control_from, value_payloads, value_labels, row_labels, row_payloads, cell_payloads, cell_labels}
-use Rattle.machine.specs.Regions.{stack, Slot, slot, slots, slot_at, set_slot, Regions, regions, Fits, with_control, with_values, with_row, with_cells, raised_control, raised_values, raised_rows, raised_cells}
+use Rattle.machine.specs.Regions.{stack, Slot, slot, slots, set_slot, regions, Fits, with_control, with_values, with_row, with_cells, raised_control, raised_values, raised_rows, raised_cells}
 use Rattle.machine.specs.declared.Machine.{Machine}
 
 -- ---- One stack.

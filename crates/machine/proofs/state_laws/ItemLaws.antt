@@ -1,9 +1,8 @@
 -- The item on top of control, where it is a command, a declaration or what a Bind binds: where its tree stands, in which mode, and the state
 -- under it.
-use Prim.Native.Nat.{ℕ, suc, ◌+◌, ◌<◌}
+use Prim.Native.Nat.{ℕ}
 use mathlib.Core.Path.{◌≡◌}
 use mathlib.Core.List.{List, ◌∷◌}
-use native.Mathlib.Omega.{arith}
 use lib.ListN.{get_or}
 use Rattle.rules.specs.paper.Tree.{Expression, Formal, Command, Block, Declaration, Ref, Abs}
 use Rattle.rules.specs.paper.States.{Environment, Store, Entry, Item, command, declaration, reference, abstraction}

@@ -1,20 +1,20 @@
 -- The heights of the machine are the sizes of the state it holds; and a state that a step leaves, put together from its parts.
-use Prim.Native.Nat.{ℕ, zero, suc, ◌+◌, ◌<◌, ◌≤◌}
+use Prim.Native.Nat.{ℕ, suc, ◌≤◌}
 use mathlib.Core.Path.{◌≡◌, refl, sym, ap, ◌∙◌, subst}
 use mathlib.Core.Bool.{false}
-use mathlib.Core.List.{List, [], ◌∷◌}
+use mathlib.Core.List.{List}
 use native.Mathlib.Omega.{arith}
-use lib.ListN.{length, take, drop}
+use lib.ListN.{length}
 use Rattle.rules.specs.paper.Refusals.{Reason, reason_number}
-use Rattle.rules.specs.paper.States.{Environment, Store, Entry, Item, State, state}
+use Rattle.rules.specs.paper.States.{Environment, Store, Entry, Item, state}
 use Rattle.rules.specs.paper.Rules.{goes}
-use Rattle.rules.specs.paper.Run.{Verdict, made, withheld, judge}
+use Rattle.rules.specs.paper.Run.{Verdict, withheld, judge}
 use Rattle.rules.specs.paper.Limits.{most_cells, most_bindings, most_value_entries, most_control_entries}
 use Rattle.machine.specs.Layout.{control_from, value_payloads, value_labels, row_labels, row_payloads, cell_payloads, cell_labels}
 use Rattle.machine.specs.Room.{reason_of_room}
-use Rattle.machine.specs.Regions.{stack, Slot, slots, Regions, regions, Fits}
+use Rattle.machine.specs.Regions.{Slot, Regions, regions, Fits}
 use Rattle.machine.specs.Represents.{StoreAs, no_cell, one_cell, Mode, ControlAs, nothing_left, expression_on, command_on, declaration_on, reference_on, abstraction_on, operator_on, not_on, assign_on, loop_on, conditional_on, ref_on, bind_on, dseq_extend_on, dseq_join_on, extend_on, leave_on, call_on, ValuesAs, nothing_on, bindable_on, name_on, node_on, declared_on, saved_on, opened_on, frame_on, Beside, Models}
-use Rattle.machine.specs.Steps.{Stands, Untouched, IsMade, IsWithheld, StepAnswer}
+use Rattle.machine.specs.Steps.{Untouched, StepAnswer}
 use Rattle.machine.specs.declared.Machine.{Machine}
 use Rattle.machine.specs.declared.Stepped.{Stepped}
 use Rattle.machine.specs.declared.Stepped.TheVariants.{Made, Withheld}

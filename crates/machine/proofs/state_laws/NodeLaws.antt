@@ -1,15 +1,14 @@
 -- The reader's word of a node that stands in the machine's tree is the work word; and the item on top of control.
-use Prim.Native.Nat.{ℕ, zero, suc, ◌+◌, ◌<◌, ◌≤◌}
-use mathlib.Core.Path.{◌≡◌, refl, sym, ap, ◌∙◌, subst}
-use mathlib.Core.List.{List, [], ◌∷◌}
-use lib.ListN.{get_or, take}
+use Prim.Native.Nat.{ℕ}
+use mathlib.Core.Path.{◌≡◌, refl, sym, ◌∙◌, subst}
+use mathlib.Core.List.{List, ◌∷◌}
 use lib.Seq.{get_or-take}
-use Rattle.rules.specs.paper.Tree.{Expression, Command, Declaration}
-use Rattle.rules.specs.paper.States.{Environment, Store, Entry, Item, expression, command, declaration}
+use Rattle.rules.specs.paper.Tree.{Expression}
+use Rattle.rules.specs.paper.States.{Environment, Store, Entry, Item, expression}
 use Rattle.rules.specs.paper.Limits.{most_nodes}
-use Rattle.reader.specs.Stored.{HasWord, StoredExpression, StoredCommand, StoredDeclaration}
+use Rattle.reader.specs.Stored.{HasWord, StoredExpression}
 use Rattle.machine.specs.Regions.{Regions, regions, with_control}
-use Rattle.machine.specs.Represents.{Mode, ControlAs, expression_on, command_on, declaration_on, Models}
+use Rattle.machine.specs.Represents.{Mode, ControlAs, expression_on, Models}
 use Rattle.machine.specs.declared.Machine.{Machine}
 
 pub node_word : (words : List ℕ) (m : Machine) {i k w e : ℕ} → HasWord (regions words m).nodes i k w e → HasWord words i k w e

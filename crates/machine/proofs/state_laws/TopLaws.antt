@@ -1,16 +1,16 @@
 -- The top of the value stack: its entries by their slots, the words in which these stand, and the stack without them.
 use Prim.Native.Nat.{ℕ, zero, suc, ◌+◌, ◌-◌, ◌<◌, ◌≤◌}
-use mathlib.Core.Path.{◌≡◌, refl, sym, ap, ◌∙◌, subst}
+use mathlib.Core.Path.{◌≡◌, refl, ap, ◌∙◌, subst}
 use mathlib.Core.List.{List, [], ◌∷◌}
 use native.Mathlib.Omega.{arith}
-use lib.ListN.{length, get_or}
+use lib.ListN.{get_or}
 use Rattle.rules.specs.paper.Tree.{Command}
 use Rattle.rules.specs.paper.Limits.{names}
-use Rattle.rules.specs.paper.States.{Bindable, Environment, Entry, bindable, name, node, environment, locations}
+use Rattle.rules.specs.paper.States.{Bindable, Environment, Entry, bindable, name, node}
 use Rattle.machine.specs.Layout.{value_payloads, value_labels, top_payload, second_payload, top_label, second_label}
 use Rattle.reader.specs.Stored.{StoredCommand}
-use Rattle.machine.specs.Regions.{Slot, slot, slots, Regions, regions, with_values}
-use Rattle.machine.specs.Represents.{BindableAs, SegmentAs, Since, Extends, Mode, running, declaring, ValuesAs, nothing_on, bindable_on, name_on, node_on, declared_on, opened_on, frame_on}
+use Rattle.machine.specs.Regions.{Slot, slots, regions, with_values}
+use Rattle.machine.specs.Represents.{BindableAs, Mode, ValuesAs, bindable_on, name_on, node_on}
 use Rattle.machine.specs.declared.Machine.{Machine}
 
 -- ---- In words.

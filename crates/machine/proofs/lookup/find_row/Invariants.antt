@@ -1,16 +1,14 @@
 -- find_row: along the chain, until the name is found.
-use Prim.Native.Nat.{ℕ, ◌+◌, ◌-◌, ◌*◌, ◌/◌, ◌%◌, ◌<◌, ◌≤◌}
-use mathlib.Core.Path.{◌≡◌, refl, sym, ap, ◌∙◌, subst}
+use Prim.Native.Nat.{ℕ, ◌+◌}
+use mathlib.Core.Path.{◌≡◌}
 use mathlib.Core.List.{List}
 use mathlib.Core.Option.{some}
-use native.Mathlib.Omega.{arith}
-use lib.ListN.{length, get_or}
+use lib.ListN.{get_or}
 use Rattle.rules.specs.paper.States.{Bindable, Environment, lookup}
 use Rattle.machine.specs.Layout.{row_labels, row_payloads, row_at_pointer}
 use Rattle.machine.specs.Regions.{slots}
 use Rattle.machine.specs.Represents.{SegmentAs}
-use Rattle.machine.specs.Lookup.{RowOf}
-use Rattle.machine.proofs.memory_laws.LookupLaws.{FirstRow, first_row, row_low, row_found, row_further, row_falls}
+use Rattle.machine.proofs.memory_laws.LookupLaws.{FirstRow}
 use Rattle.machine.proofs.lookup.find_row.Given as goal
 
 -- Wherever the name is found in the whole environment it is found in what is left of it.

@@ -1,14 +1,10 @@
 -- put_control: the regions after the writes.
 use mathlib.Core.Path.{refl}
-use native.Mathlib.Omega.{arith}
-use Prim.Native.Nat.{◌+◌}
-use lib.ListN.{length-set}
 use Rattle.machine.proofs.memory_laws.RegionLaws.{control_put}
-use borrow.Author.Rules.{rules}
 use Rattle.machine.proofs.memory.put_control.Goals as goal
 
 pub returns : goal.returns
 returns c = record {
-      value = refl;
-      m_after = control_put c.args.work.now c.args.m c.requires.fits c.args.item c.requires.control_lt_most_control_entries;
-    }
+  value = refl;
+  m_after = control_put c.args.work.now c.args.m c.requires.fits c.args.item c.requires.control_lt_most_control_entries;
+}

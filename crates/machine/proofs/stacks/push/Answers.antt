@@ -1,10 +1,6 @@
 -- push: a value more, or 35.
-use Prim.Native.Nat.{◌<◌, ◌≤◌}
-use mathlib.Core.Path.{◌≡◌, ap, ◌∙◌}
 use native.Mathlib.Omega.{arith}
-use Rattle.machine.specs.Regions.{Fits}
 use Rattle.machine.proofs.stack_laws.SharedLaws.{push_withheld, push_made}
-use borrow.Author.Rules.{rules}
 use Rattle.machine.proofs.stacks.push.Goals as goal
 
 pub returns-then-m-eq-MOST_VALUE_ENTRIES : goal.returns-then-m-eq-MOST_VALUE_ENTRIES
