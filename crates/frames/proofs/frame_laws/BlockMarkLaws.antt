@@ -80,7 +80,7 @@ module _ (words : List ℕ) (m : Machine) where
     pub control_as : ControlAs κ.nodes (running (opened ∷ outer)) κ.control C
     pub values_as : ValuesAs κ.nodes κ.rows κ.base κ.declared κ.environment E (declaring (at_end at_block) opened outer) κ.values (environment declared_names ∷ locations outer_locations ∷ rest)
 
-  first_by : (w : ℕ) {C : List Item} {E : Environment} {S : Store} {L : List ℕ} {n : ℕ} {r : Rule} {e : Effect} (D : Environment) (K : List ℕ) (Y : List Entry) (mode : Mode) →
+  first_by : (w : ℕ) {C : List Item} {E : Environment} {S : Store} {L : List ℕ} {n : ℕ} {r : Rule} (D : Environment) (K : List ℕ) (Y : List Entry) {e : Effect} (mode : Mode) →
       Table C E S L n r (mark extend_mark) (environment D ∷ locations K ∷ Y) e → ControlAs κ.nodes mode (w ∷ κ.control) (mark extend_mark ∷ C) →
       ValuesAs κ.nodes κ.rows κ.base κ.declared κ.environment E mode κ.values (environment D ∷ locations K ∷ Y) → FirstTop C E S L n e
   first_by w D K Y mode extend_at (extend_on {m = k} {ms = ms} q h) v = record { declared_names = D; outer_locations = K; rest = Y; opened = k; outer = ms; effect_is = refl; control_as = h; values_as = v }
@@ -216,7 +216,7 @@ module _ (words : List ℕ) (m : Machine) where
       two = two_on_top words m frame.top frame.second frame.rest frame.are
 
       rows_are : Cut row_labels row_payloads m.bindings words frame.older k
-      rows_are = cut row_labels row_payloads m.bindings words frame.older κ.rows k rows_of frame.extends frame.height
+      rows_are = cut row_labels row_payloads words frame.older m.bindings κ.rows k rows_of frame.extends frame.height
 
       number : w / carried_unit ≡ k
       number = omega (arith, top.word_is)
