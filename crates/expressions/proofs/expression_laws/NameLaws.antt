@@ -7,7 +7,7 @@ use mathlib.Core.Option.{some, some-injective}
 use native.Mathlib.Omega.{arith}
 use lib.Dec.{eqb}
 use lib.ListN.{length, get_or}
-use Rattle.rules.specs.proofs.Basics.{missing}
+use Rattle.rules.proofs.Basics.{missing}
 use Rattle.rules.specs.paper.Tree.{Expression, Id, DeRef, ValRef}
 use Rattle.rules.specs.paper.States.{Value, location, Bindable, value, Environment, lookup, Store, find, Entry, Item, expression}
 use Rattle.rules.specs.paper.Rules.{Rule, Effect, IsPlain, Table, id_plain, id_cell, deref, valref}

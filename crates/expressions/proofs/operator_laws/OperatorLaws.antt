@@ -7,7 +7,7 @@ use mathlib.Core.Option.{some, some-injective}
 use native.Mathlib.Omega.{arith}
 use lib.Dec.{eqb}
 use lib.ListN.{get_or}
-use Rattle.rules.specs.proofs.Basics.{missing}
+use Rattle.rules.proofs.Basics.{missing}
 use Rattle.rules.specs.paper.Tree.{Arithmetic, Order, Logic, Operator, arithmetic, Eq, order, logic}
 use Rattle.rules.specs.claims.Listing.{truth_word}
 use Rattle.rules.specs.paper.Refusals.{Reason, Steps, ZeroDivisor, OutOfRange, Cells, Bindings, ValueEntries, ControlEntries, reason_number}
@@ -72,7 +72,7 @@ pub record OperandsThere (words : List ℕ) (m : Machine) : Type 0 where
 pub operands_there : {words : List ℕ} {m : Machine} {w : ℕ} {o : Operator} → Applicable words m w (mark (operator_mark o)) → OperandsThere words m
 operands_there {words} {m} {o = o} a = record { fits = a.ready.fits; two_there = by o a.ready.applies (operator_taken a.ready.models) }
   where
-    by : {C : List Item} {E : Environment} {S : Store} {L : List ℕ} {n : ℕ} {r : Rule} {X : List Entry} {e : Effect} (o : Operator) →
+    by : (o : Operator) {C : List Item} {E : Environment} {S : Store} {L : List ℕ} {n : ℕ} {r : Rule} {X : List Entry} {e : Effect} →
         Table C E S L n r (mark (operator_mark o)) X e → Models (regions words m) C X E S L n → 2 ≤ m.values
     by (arithmetic o) arithmetic_at μ = (two_values words m μ).some_values
     by Eq (equal_at q) μ = (two_values words m μ).some_values
