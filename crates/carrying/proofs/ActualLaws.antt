@@ -4,7 +4,7 @@ use mathlib.Core.Path.{◌≡◌, refl, sym, ap, ◌∙◌, subst}
 use mathlib.Core.List.{List, [], ◌∷◌}
 use mathlib.Core.Option.{some-injective}
 use native.Mathlib.Omega.{arith}
-use Rattle.rules.specs.proofs.Basics.{missing}
+use Rattle.rules.proofs.Basics.{missing}
 use lib.ListN.{get_or}
 use Rattle.rules.specs.paper.Limits.{most_nodes, most_bindings, most_cells, names}
 use Rattle.rules.specs.paper.Tree.{Expression, Formal}

@@ -7,8 +7,8 @@ use mathlib.Core.Option.{Option, none, some}
 use native.Mathlib.Omega.{arith}
 use lib.ListN.{length, get_or}
 use Rattle.rules.specs.paper.Limits.{most_nodes, most_bindings, most_cells, names}
-use Rattle.rules.specs.proofs.Basics.{missing}
-use Rattle.rules.specs.paper.Tree.{Expression, Formal, Call, Block, Bound, Abs}
+use Rattle.rules.proofs.Basics.{missing}
+use Rattle.rules.specs.paper.Tree.{Expression, Formal, Command, Call, Block, Bound, Abs}
 use Rattle.rules.specs.paper.Needs.{Need, Needs, nothing, in_turn, need_of, over_formals, function_need, command_need, block_need}
 use Rattle.rules.specs.paper.Carried.{Carried, Carrying, carried, unsafe, unfit, ◌>>=◌, fitting}
 use Rattle.rules.specs.paper.Carrying.{CarriedCells, CarriedMeaning, a_value, a_function, CarriedNames, carried_meaning, carry_formals, carry_actuals, carry_call, carry_command, carry_block}
@@ -156,16 +156,26 @@ module _ (words : List ℕ) (held : Held) (node word : ℕ) (read : word ≡ pac
     name_is : word % names ≡ x
     count_is : word / names ≡ length es
 
-  call_parts : {d j x : ℕ} {es : List Expression} → StoredCommand words d node j (Call node x es) → CallParts x es
-  call_parts {j = j} {x = x} {es = es} (Stored.call {d = d} l few w a) =
-      let is : word ≡ x + names * length es = read ∙ operand_is w (omega arith) in
+  calling_parts : {d j x : ℕ} {es : List Expression} {c : Command} → c ≡ Call node x es → StoredCommand words d node j c → CallParts x es
+  calling_parts q (Stored.assign l w a) = let clash : ◌≡◌ {A = ℕ} 0 1 = cc in absurd (omega arith)
+  calling_parts q (Stored.loop w a b) = let clash : ◌≡◌ {A = ℕ} 0 1 = cc in absurd (omega arith)
+  calling_parts q (Stored.cseq w a b) = let clash : ◌≡◌ {A = ℕ} 0 1 = cc in absurd (omega arith)
+  calling_parts q (Stored.block_of a) = let clash : ◌≡◌ {A = ℕ} 0 1 = cc in absurd (omega arith)
+  calling_parts q (Stored.conditional w a b c) = let clash : ◌≡◌ {A = ℕ} 0 1 = cc in absurd (omega arith)
+  calling_parts {j = j} {x = x} {es = es} q (Stored.call {d = d} {x = y} {es = fs} l few w a) =
+      let same_name : y ≡ x = cc in
+      let same_actuals : fs ≡ es = cc in
+      let is : word ≡ y + names * length fs = read ∙ operand_is w (omega arith) in
       record {
         depth = d;
         next = j;
-        tree = subst (λ i. StoredActuals words d i j es) (after_node node) a;
-        name_is = ap (λ n. n % names) is ∙ operand_name x (length es) l;
-        count_is = ap (λ n. n / names) is ∙ operand_number x (length es) l;
+        tree = subst (StoredActuals words d (node + 1) j) same_actuals (subst (λ i. StoredActuals words d i j fs) (after_node node) a);
+        name_is = ap (λ n. n % names) is ∙ operand_name y (length fs) l ∙ same_name;
+        count_is = ap (λ n. n / names) is ∙ operand_number y (length fs) l ∙ ap length same_actuals;
       }
+
+  call_parts : {d j x : ℕ} {es : List Expression} → StoredCommand words d node j (Call node x es) → CallParts x es
+  call_parts t = calling_parts refl t
 
   actuals_of : (x : ℕ) (es : List Expression) (A : CarriedNames) (N : Needs) (K : CarriedCells) → CommandThere words held node (Call node x es) A N K →
       ActualsThere words held.environment (node + 1) (word / names) held.bindings es A K

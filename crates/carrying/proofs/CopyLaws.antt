@@ -9,7 +9,7 @@ use lib.Dec.{eqb}
 use lib.ListN.{length, get_or, set, length-set}
 use lib.Seq.{get_or-set_same, get_or-set_other}
 use Rattle.rules.specs.paper.Limits.{most_bindings, most_cells}
-use Rattle.rules.specs.proofs.Basics.{by_order, missing}
+use Rattle.rules.proofs.Basics.{by_order, missing}
 use Rattle.rules.specs.paper.Carried.{Carried, numbers, truths, location, wider}
 use Rattle.intervals.specs.Values.{HoldsValue, holds_numbers, holds_truths, holds_location}
 use Rattle.intervals.specs.declared.values.Value.{Value}

@@ -99,10 +99,11 @@ value_named {words} {words'} held {x} {next} {limit} {value} {v} {A} {N} put few
 
 module _ (words : List ℕ) (held : Held) (node : ℕ) where
   bind_parts : SomeBind words held node → (packed_kind (get_or words node 0) ≡ bind_number) × (packed_operand (get_or words node 0) < names) × (node + 1 < most_nodes)
-  bind_parts s = by s.6.tree
+  bind_parts s = by refl s.6.tree
     where
-      by : {d next x : ℕ} {b : Bound} → StoredDeclaration words d node next (Bind node x b) → (packed_kind (get_or words node 0) ≡ bind_number) × (packed_operand (get_or words node 0) < names) × (node + 1 < most_nodes)
-      by (Stored.bind l h a) = (kind_is h (omega arith), omega (arith, operand_is h (omega arith), l), omega (arith, bound_low a))
+      by : {d next x : ℕ} {b : Bound} {c : Declaration} → c ≡ Bind node x b → StoredDeclaration words d node next c → (packed_kind (get_or words node 0) ≡ bind_number) × (packed_operand (get_or words node 0) < names) × (node + 1 < most_nodes)
+      by q (Stored.dseq h a b) = let clash : ◌≡◌ {A = ℕ} 0 1 = cc in absurd (omega arith)
+      by q (Stored.bind l h a) = (kind_is h (omega arith), omega (arith, operand_is h (omega arith), l), omega (arith, bound_low a))
 
   pub bind_low : SomeBind words held node → node + 1 < most_nodes
   bind_low s = (bind_parts s).2
@@ -162,16 +163,17 @@ module _ (words : List ℕ) (held : Held) (node : ℕ) where
     module _ (is_ref : which ≡ ref_number) where
       pub referent_there : SomeBind words held node → SomeExpression words held.environment (node + 2) × (held.cells < most_cells)
       unfolding carry_declaration carry_bound
-      referent_there s = by s.2 s.6.tree s.6.room s.7
+      referent_there s = by s.6.tree s.6.room s.7
         where
-          by : {d : ℕ} (b : Bound) → StoredDeclaration words d node s.0 (Bind node s.1 b) → Room held (declaration_need s.4 (Bind node s.1 b)) → Fits (carry_declaration s.3 s.5 (Bind node s.1 b)) →
+          by : {d : ℕ} {c : Declaration} → StoredDeclaration words d node s.0 c → Room held (declaration_need s.4 c) → Fits (carry_declaration s.3 s.5 c) →
               SomeExpression words held.environment (node + 2) × (held.cells < most_cells)
-          by b (Stored.bind l h (Stored.plain_of a)) room fits = absurd (omega (arith, is_ref, known_bound, stored_expression_kind a))
-          by b (Stored.bind l h (Stored.ref {d = e} {e = v} w a)) room fits = (
+          by (Stored.dseq h a b) room fits = absurd (omega (arith, (bind_parts s).0, kind_is h (omega arith)))
+          by (Stored.bind l h (Stored.plain_of a)) room fits = absurd (omega (arith, is_ref, known_bound, stored_expression_kind a))
+          by (Stored.bind {x = x} l h (Stored.ref {d = e} {e = v} w a)) room fits = (
             (v, s.3, s.5, record { depth = e; next = s.0; tree = subst (λ i. StoredExpression words e i s.0 v) (omega arith) a; sees = state_seen (bind_row s).3 s.6.state }, first_fits (carry_expression s.3 s.5 v) _ (first_fits _ _ fits)),
-            omega (arith, (bind_room s.4 node s.1 b room).1),
+            omega (arith, (bind_room s.4 node x (Ref (suc node) v) room).1),
           )
-          by b (Stored.bind l h (Stored.abs k w f a)) room fits = absurd (omega (arith, is_ref, known_bound, kind_is w (omega arith)))
+          by (Stored.bind l h (Stored.abs k w f a)) room fits = absurd (omega (arith, is_ref, known_bound, kind_is w (omega arith)))
 
       module _ (given : Expressed) (expressed : ExpressionCarried words held.environment (node + 2) given) where
         -- The cell made, and its location put on the names.
@@ -250,13 +252,14 @@ module _ (words : List ℕ) (held : Held) (node : ℕ) where
     module _ (not_abs : which ≡ abs_number → ⊥) (not_ref : which ≡ ref_number → ⊥) where
       pub value_there : SomeBind words held node → SomeExpression words held.environment (node + 1)
       unfolding carry_declaration carry_bound
-      value_there s = by s.2 s.6.tree s.7
+      value_there s = by s.6.tree s.7
         where
-          by : {d : ℕ} (b : Bound) → StoredDeclaration words d node s.0 (Bind node s.1 b) → Fits (carry_declaration s.3 s.5 (Bind node s.1 b)) → SomeExpression words held.environment (node + 1)
-          by b (Stored.bind l h (Stored.plain_of {d = e} {e = v} a)) fits =
+          by : {d : ℕ} {c : Declaration} → StoredDeclaration words d node s.0 c → Fits (carry_declaration s.3 s.5 c) → SomeExpression words held.environment (node + 1)
+          by (Stored.dseq h a b) fits = absurd (omega (arith, (bind_parts s).0, kind_is h (omega arith)))
+          by (Stored.bind l h (Stored.plain_of {d = e} {e = v} a)) fits =
               (v, s.3, s.5, record { depth = e; next = s.0; tree = subst (λ i. StoredExpression words e i s.0 v) (omega arith) a; sees = state_seen (bind_row s).3 s.6.state }, first_fits (carry_expression s.3 s.5 v) _ (first_fits _ _ fits))
-          by b (Stored.bind l h (Stored.ref w a)) fits = absurd (not_ref (known_bound ∙ kind_is w (omega arith)))
-          by b (Stored.bind l h (Stored.abs k w f a)) fits = absurd (not_abs (known_bound ∙ kind_is w (omega arith)))
+          by (Stored.bind l h (Stored.ref w a)) fits = absurd (not_ref (known_bound ∙ kind_is w (omega arith)))
+          by (Stored.bind l h (Stored.abs k w f a)) fits = absurd (not_abs (known_bound ∙ kind_is w (omega arith)))
 
       module _ (given : Expressed) (expressed : ExpressionCarried words held.environment (node + 1) given) where
         module _ (value : Value) (is_value : given ≡ Is value) where

@@ -6,7 +6,7 @@ use mathlib.Core.List.{List, ◌++◌}
 use native.Mathlib.Omega.{arith}
 use lib.ListN.{get_or}
 use Rattle.rules.specs.paper.Limits.{most_nodes}
-use Rattle.rules.specs.proofs.Basics.{append_assoc}
+use Rattle.rules.proofs.Basics.{append_assoc}
 use Rattle.rules.specs.paper.Tree.{Declaration, DSeq}
 use Rattle.rules.specs.paper.Needs.{Needs, cells_left, bindings_left, declaration_need, names_given}
 use Rattle.rules.specs.paper.Carried.{Carrying, carried, unsafe, unfit, ◌>>=◌}

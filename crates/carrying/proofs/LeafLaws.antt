@@ -10,7 +10,7 @@ use lib.IntN.{pos}
 use lib.ListN.{get_or}
 use Rattle.rules.specs.paper.Limits.{most_cells, most_bindings}
 use Rattle.rules.specs.paper.Limits as Limits
-use Rattle.rules.specs.proofs.Basics.{missing}
+use Rattle.rules.proofs.Basics.{missing}
 use Rattle.rules.specs.paper.Integers.{in_range, range_bound}
 use Rattle.rules.specs.paper.Tree.{Expression, Id, DeRef, ValRef}
 use Rattle.rules.specs.paper.Needs.{Needs}

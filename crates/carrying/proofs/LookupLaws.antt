@@ -9,7 +9,7 @@ use lib.Dec.{T, eqb, eqb→eq, eqb_refl}
 use lib.ListN.{get_or}
 use Rattle.rules.specs.paper.Limits.{most_bindings, names}
 use Rattle.rules.specs.paper.Needs.{Need, Needs, nothing, need_of}
-use Rattle.rules.specs.proofs.Basics.{missing, true_test, false_test}
+use Rattle.rules.proofs.Basics.{missing, true_test, false_test}
 use Rattle.rules.specs.paper.Carrying.{CarriedMeaning, CarriedName, CarriedNames, carried_meaning}
 use Rattle.reader.specs.StandingLaws.{bound_on}
 use Rattle.intervals.specs.declared.values.Value.{Value}

@@ -9,7 +9,7 @@ use lib.Dec.{eqb, eqb→eq}
 use lib.ListN.{length, get_or, drop}
 use Rattle.rules.specs.paper.Limits.{most_bindings, most_cells, names}
 use Rattle.rules.specs.paper.Needs.{Needs}
-use Rattle.rules.specs.proofs.Basics.{missing, passed_test}
+use Rattle.rules.proofs.Basics.{missing, passed_test}
 use Rattle.rules.specs.paper.Carried.{Carried, wider}
 use Rattle.rules.specs.paper.Carrying.{CarriedCells, CarriedNames, carried_at, carry_to, oldest_cells, wider_cells, one_cell_more, same_sort}
 use Rattle.reader.specs.StoredLaws.{same_bound}

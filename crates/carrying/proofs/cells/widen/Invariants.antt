@@ -1,0 +1,11 @@
+-- The cells are widened one by one.
+use Prim.Native.Nat.{◌-◌}
+use native.Mathlib.Omega.{arith}
+use Rattle.carrying.proofs.CopyLaws.{WidenedSoFar, none_widened, widened_by, one_more_widened, all_widened}
+use Rattle.carrying.proofs.cells.widen.Given as goal
+
+abbrev pub invariant-loop-at : goal.invariant-loop-at
+invariant-loop-at l = WidenedSoFar l.initial.work l.work l.kept l.at l.cells
+
+abbrev pub decreases-loop-at : goal.decreases-loop-at
+decreases-loop-at l = l.cells - l.at
