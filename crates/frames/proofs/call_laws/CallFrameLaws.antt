@@ -1,29 +1,28 @@
 -- Call's mark: the frame that it saves, and the state that it leaves.
-use Prim.Native.Nat.{ℕ, zero, suc, ◌+◌, ◌-◌, ◌*◌, ◌/◌, ◌%◌, ◌<◌, ◌≤◌}
-use mathlib.Core.Path.{◌≡◌, refl, sym, ap, ◌∙◌, subst}
+use Prim.Native.Nat.{ℕ, ◌+◌, ◌-◌, ◌/◌, ◌<◌, ◌≤◌}
+use mathlib.Core.Path.{◌≡◌, sym, ap, ◌∙◌, subst}
 use mathlib.Core.Bool.{false}
 use mathlib.Core.List.{List, [], ◌∷◌}
 use mathlib.Core.Option.{some, some-injective}
 use native.Mathlib.Omega.{arith}
 use lib.ListN.{length, get_or}
 use Rattle.rules.specs.paper.Tree.{Formal, block}
-use Rattle.rules.specs.paper.States.{Environment, Store, Entry, environment, locations, call_mark, leave_mark, Item, command, mark, State, state}
+use Rattle.rules.specs.paper.States.{Environment, Store, Entry, environment, locations, call_mark, leave_mark, Item, command, mark}
 use Rattle.rules.specs.paper.Rules.{Rule, Effect, Matched, match_formals}
 use Rattle.rules.specs.paper.Run.{judge}
 use Rattle.rules.specs.paper.Limits.{most_bindings, most_value_entries, most_control_entries}
 use Rattle.machine.specs.Layout.{row_payloads, closure_unit, count_unit, leave_word}
 use Rattle.reader.specs.Stored.{StoredCommand, block_of}
-use Rattle.machine.specs.Regions.{Slot, slot, slots, Regions, regions, Fits, with_control, with_values, raised_control, raised_values}
+use Rattle.machine.specs.Regions.{Slot, slot, Regions, regions, Fits, with_control, with_values, raised_control, raised_values}
 use Rattle.machine.specs.Represents.{SegmentAs, Since, none_since, Extends, Mode, running, ControlAs, command_on, leave_on, ValuesAs, frame_on, Models}
 use Rattle.machine.specs.Steps.{StepAnswer, Ready}
 use Rattle.frames.specs.Formals.{with_bound, machine_with_formals, Binding, Binds, framed, with_frame}
 use Rattle.machine.specs.declared.Machine.{Machine}
 use Rattle.machine.specs.declared.Stepped.TheVariants.{Made}
-use Rattle.machine.proofs.memory_laws.RegionLaws.{slots_length}
 use Rattle.machine.proofs.state_laws.ModelLaws.{step_made, fits_still}
-use Rattle.machine.proofs.stack_laws.SharedLaws.{Put, put_regions, put_fits, value_fits}
+use Rattle.machine.proofs.stack_laws.SharedLaws.{Put, put_regions, value_fits}
 use Rattle.frames.proofs.frame_laws.FrameLaws.{with_pointers, environment_is, base_is, cells_height, answered, rows_height}
-use Rattle.frames.proofs.call_laws.FormalsLaws.{formals_end, counted}
+use Rattle.frames.proofs.call_laws.FormalsLaws.{formals_end}
 use Rattle.frames.proofs.call_laws.CallMarkLaws.{CallTop, call_top, call_numbers, RowFound, formal_first, called, regions_called, ClosureAt, called_closure, block_is, call_binding}
 
 -- ---- put_frame.

@@ -1,7 +1,7 @@
 -- The loop that binds a call's Formals: what holds each time around.
-use Prim.Native.Nat.{ℕ, zero, suc, ◌+◌, ◌-◌, ◌*◌, ◌%◌, ◌<◌, ◌≤◌}
+use Prim.Native.Nat.{ℕ, ◌+◌, ◌-◌, ◌*◌, ◌%◌, ◌<◌, ◌≤◌}
 use mathlib.Core.Path.{◌≡◌, refl, sym, ap, ◌∙◌, subst}
-use mathlib.Core.List.{List, [], ◌∷◌}
+use mathlib.Core.List.{List}
 use native.Mathlib.Omega.{arith}
 use lib.ListN.{length, get_or}
 use Rattle.rules.specs.paper.States.{Environment}
@@ -9,12 +9,12 @@ use Rattle.rules.specs.paper.Rules.{Matched}
 use Rattle.rules.specs.paper.Limits.{most_bindings}
 use Rattle.machine.specs.Layout.{top_payload, top_label}
 use Rattle.reader.specs.Pack.{packed_operand}
-use Rattle.machine.specs.Regions.{Slot, slot, Regions, regions, Fits, with_row, raised_rows}
+use Rattle.machine.specs.Regions.{slot, regions, Fits, with_row, raised_rows}
 use Rattle.machine.specs.Represents.{Mode}
 use Rattle.frames.specs.Formals.{machine_with_formals, Binding, CanBind, Binds}
 use Rattle.machine.specs.declared.Machine.{Machine}
 use Rattle.machine.proofs.state_laws.ModelLaws.{fits_still}
-use Rattle.frames.proofs.call_laws.FormalsLaws.{Numbers, formals_end, NextFormal, next_formal, formal_numbers, formal_link, one_bound, formal_bound}
+use Rattle.frames.proofs.call_laws.FormalsLaws.{Numbers, formals_end, next_formal, formal_numbers, formal_link, formal_bound}
 
 build : (c v e d s b n : ℕ) → Machine
 build c v e d s b n = record { control = c; values = v; environment = e; declared = d; cells = s; base = b; bindings = n }

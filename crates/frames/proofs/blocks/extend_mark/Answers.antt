@@ -1,6 +1,5 @@
 -- extend_mark: the environment is saved and the declared names join it.
 use Rattle.frames.proofs.frame_laws.BlockMarkLaws.{first_some, first_made}
-use borrow.Author.Rules.{rules}
 use Rattle.frames.proofs.blocks.extend_mark.Goals as goal
 
 pub overflow_sub-m : goal.overflow_sub-m

@@ -1,6 +1,5 @@
 -- leave_mark: what was saved is taken back.
 use Rattle.frames.proofs.frame_laws.BlockMarkLaws.{second_some, second_made}
-use borrow.Author.Rules.{rules}
 use Rattle.frames.proofs.blocks.leave_mark.Goals as goal
 
 pub overflow_sub-m : goal.overflow_sub-m

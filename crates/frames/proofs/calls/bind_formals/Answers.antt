@@ -1,9 +1,6 @@
 -- bind_formals: a row for each Formal.
-use Prim.Native.Nat.{◌+◌, ◌-◌, ◌*◌, ◌<◌, ◌≤◌}
 use native.Mathlib.Omega.{arith}
-use borrow.Author.Rules.{rules}
-use Rattle.frames.proofs.call_laws.FormalsLaws.{Numbers}
-use Rattle.frames.proofs.call_laws.FormalsLoopLaws.{Around, around_first, around_numbers, some_rows_left, around_again, around_last}
+use Rattle.frames.proofs.call_laws.FormalsLoopLaws.{around_first, around_numbers, some_rows_left, around_again, around_last}
 use Rattle.frames.proofs.calls.bind_formals.Goals as goal
 
 pub loop-formal-init : goal.loop-formal-init
@@ -26,9 +23,9 @@ overflow_add-name-in-loop-formal c = let k = around_numbers _ _ _ _ c.requires.c
 
 pub put_row-m-requires : goal.put_row-m-requires
 put_row-m-requires c = record {
-      fits = c.loop-formal.invariant.fits;
-      bindings_lt_most_bindings = some_rows_left _ _ _ _ c.requires.can_bind _ _ _ c.loop-formal.invariant c.loop-formal-test.true c.requires.first_bound;
-    }
+  fits = c.loop-formal.invariant.fits;
+  bindings_lt_most_bindings = some_rows_left _ _ _ _ c.requires.can_bind _ _ _ c.loop-formal.invariant c.loop-formal-test.true c.requires.first_bound;
+}
 
 pub overflow_sub-m : goal.overflow_sub-m
 overflow_sub-m c = (around_numbers _ _ _ _ c.requires.can_bind _ _ _ c.loop-formal.invariant c.loop-formal-test.true).some_values

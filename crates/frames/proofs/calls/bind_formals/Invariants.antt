@@ -1,9 +1,6 @@
 -- bind_formals: a row for each Formal.
-use Prim.Native.Nat.{◌+◌, ◌-◌, ◌*◌, ◌<◌, ◌≤◌}
-use native.Mathlib.Omega.{arith}
-use borrow.Author.Rules.{rules}
-use Rattle.frames.proofs.call_laws.FormalsLaws.{Numbers}
-use Rattle.frames.proofs.call_laws.FormalsLoopLaws.{Around, around_first, around_numbers, some_rows_left, around_again, around_last}
+use Prim.Native.Nat.{◌-◌}
+use Rattle.frames.proofs.call_laws.FormalsLoopLaws.{Around}
 use Rattle.frames.proofs.calls.bind_formals.Given as goal
 
 abbrev pub invariant-loop-formal : goal.invariant-loop-formal

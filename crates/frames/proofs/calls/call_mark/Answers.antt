@@ -1,13 +1,9 @@
 -- call_mark: the closure's block with its Formals bound, or 34, 36, 35.
-use Prim.Native.Nat.{◌+◌, ◌-◌, ◌/◌, ◌≤◌}
 use mathlib.Core.Path.{sym, ◌∙◌}
 use native.Mathlib.Omega.{arith}
-use Rattle.rules.specs.paper.Limits.{most_bindings, most_value_entries, most_control_entries}
-use Rattle.machine.specs.Layout.{count_unit}
 use Rattle.machine.proofs.state_laws.JudgeLaws.{room_left}
 use Rattle.frames.proofs.call_laws.CallMarkLaws.{call_actuals, call_withheld, called_fits, call_looked, row_low, call_can_bind}
 use Rattle.frames.proofs.call_laws.CallFrameLaws.{call_formed, call_made}
-use borrow.Author.Rules.{rules}
 use Rattle.frames.proofs.calls.call_mark.Goals as goal
 
 pub overflow_sub-m : goal.overflow_sub-m
@@ -18,9 +14,9 @@ returns-then-reason-ne0 c = call_withheld _ _ _ _ c.reason_of_room-reason.ensure
 
 pub row_of-row-requires : goal.row_of-row-requires
 row_of-row-requires c = record {
-      fits = c.requires.3.ready.fits;
-      binds_name = call_looked _ _ _ _ _ _ c.requires.3.ready;
-    }
+  fits = c.requires.3.ready.fits;
+  binds_name = call_looked _ _ _ _ _ _ c.requires.3.ready;
+}
 
 pub overflow_add-closure : goal.overflow_add-closure
 overflow_add-closure c = record { fits = omega (arith, row_low _ _ _ _ _ _ c.requires.3.ready _ c.row_of-row.ensures, c.requires.3.ready.fits.few_bindings) }

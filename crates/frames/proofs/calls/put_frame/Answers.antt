@@ -1,18 +1,15 @@
 -- put_frame: two values and two entries of control more.
-use Prim.Native.Nat.{◌+◌, ◌<◌, ◌≤◌}
 use mathlib.Core.Path.{ap}
 use native.Mathlib.Omega.{arith}
-use Rattle.machine.specs.Regions.{Fits}
-use Rattle.machine.proofs.stack_laws.SharedLaws.{Put, put_fits}
-use Rattle.frames.proofs.call_laws.CallFrameLaws.{PutValue, put_value_fits, frame_put}
-use borrow.Author.Rules.{rules}
+use Rattle.machine.proofs.stack_laws.SharedLaws.{put_fits}
+use Rattle.frames.proofs.call_laws.CallFrameLaws.{put_value_fits}
 use Rattle.frames.proofs.calls.put_frame.Goals as goal
 
 pub put_value-saved-requires : goal.put_value-saved-requires
 put_value-saved-requires c = record {
-      fits = put_value_fits _ _ _ _ _ c.requires.fits (record { machine_is = c.put_value-once.ensures.value; regions_are = c.put_value-once.ensures.m_after }) (omega (arith, c.requires.values_bound));
-      values_lt_most_value_entries = omega (arith, c.requires.values_bound, ap (λ k. k.values) c.put_value-once.ensures.value);
-    }
+  fits = put_value_fits _ _ _ _ _ c.requires.fits (record { machine_is = c.put_value-once.ensures.value; regions_are = c.put_value-once.ensures.m_after }) (omega (arith, c.requires.values_bound));
+  values_lt_most_value_entries = omega (arith, c.requires.values_bound, ap (λ k. k.values) c.put_value-once.ensures.value);
+}
 
 pub put_control-under-requires : goal.put_control-under-requires
 put_control-under-requires c =

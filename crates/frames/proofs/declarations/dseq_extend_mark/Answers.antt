@@ -4,7 +4,6 @@ use native.Mathlib.Omega.{arith}
 use Rattle.machine.proofs.stack_laws.SharedLaws.{value_fits}
 use Rattle.frames.proofs.frame_laws.FrameLaws.{joined_fits}
 use Rattle.frames.proofs.frame_laws.DseqMarkLaws.{extend_some, extend_withheld, extend_made}
-use borrow.Author.Rules.{rules}
 use Rattle.frames.proofs.declarations.dseq_extend_mark.Goals as goal
 
 pub returns-then-m-eq-MOST_VALUE_ENTRIES : goal.returns-then-m-eq-MOST_VALUE_ENTRIES
@@ -15,9 +14,9 @@ overflow_sub-m c = extend_some _ _ _ c.requires.ready
 
 pub put_value-kept-requires : goal.put_value-kept-requires
 put_value-kept-requires c = record {
-      fits = joined_fits c.requires.ready.fits;
-      values_lt_most_value_entries = omega (arith, c.requires.ready.fits.few_values, extend_some _ _ _ c.requires.ready);
-    }
+  fits = joined_fits c.requires.ready.fits;
+  values_lt_most_value_entries = omega (arith, c.requires.ready.fits.few_values, extend_some _ _ _ c.requires.ready);
+}
 
 pub put_value-requires : goal.put_value-requires
 put_value-requires c =

@@ -1,7 +1,6 @@
 -- dseq_join_mark: the environment that was kept is taken back.
 use native.Mathlib.Omega.{arith}
 use Rattle.frames.proofs.frame_laws.DseqMarkLaws.{join_some, join_made}
-use borrow.Author.Rules.{rules}
 use Rattle.frames.proofs.declarations.dseq_join_mark.Goals as goal
 
 pub overflow_sub-m : goal.overflow_sub-m
