@@ -11,7 +11,7 @@ use Rattle.rules.specs.paper.Needs.{sizes, over, expression_need, actuals_need}
 use Rattle.rules.proofs.needs.NodeStretches.{expression_least}
 use Rattle.reader.specs.Pack.{packed_end}
 use Rattle.reader.specs.Stored.{StoredActuals, no_actuals, one_actual}
-use Rattle.reader.specs.StandingLaws.{expression_end}
+use Rattle.reader.proofs.StandingLaws.{expression_end}
 use Rattle.estimator.specs.Figures.{stopped, numbers, raised, both_in_turn}
 use Rattle.estimator.specs.Answers.{SomeExpression, SomeActuals, ExpressionNeeds, ActualsNeed}
 use Rattle.estimator.specs.declared.figures.Need.{Need}

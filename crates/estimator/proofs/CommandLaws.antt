@@ -9,10 +9,11 @@ use Rattle.rules.specs.paper.Tree.{Expression, Command, Assign, Loop, CSeq, bloc
 use Rattle.rules.specs.paper.Needs.{Needs, expression_need, cells_left, bindings_left, command_need, block_need, names_given}
 use Rattle.reader.specs.KindNumbers.{assign_number, loop_number, cseq_number, blk_number, call_number, conditional_number}
 use Rattle.reader.specs.Pack.{packed_kind, packed_end}
-use Rattle.reader.specs.Stored.{kind_is, StoredExpression, StoredCommand, StoredDeclaration}
+use Rattle.reader.specs.Stored.{StoredExpression, StoredCommand, StoredDeclaration}
+use Rattle.reader.proofs.StoredFields.{kind_is}
 use Rattle.reader.specs.Stored as Stored
 use Rattle.reader.specs.StoredLaws.{same_command, same_declaration}
-use Rattle.reader.specs.StandingLaws.{Rooted, after_node, expression_on, expression_end, command_root, command_on, command_end, declaration_root, declaration_on, declaration_end}
+use Rattle.reader.proofs.StandingLaws.{Rooted, after_node, expression_on, expression_end, command_root, command_on, command_end, declaration_root, declaration_on, declaration_end}
 use Rattle.estimator.specs.Figures.{stopped, figures, raised, larger_of, unary_figures, tested_figures, sequence_figures, scoped_figures}
 use Rattle.estimator.specs.Entries.{WritesEntriesFrom, NamesAt}
 use Rattle.estimator.specs.Answers.{SomeExpression, SomeCommand, SomeCall, SomeDeclaration, ExpressionNeeds, CallNeeds, CommandNeeds, DeclarationNeeds}

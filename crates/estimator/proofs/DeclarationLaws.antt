@@ -10,11 +10,12 @@ use Rattle.rules.specs.paper.Tree.{Expression, Formal, block, Block, Declaration
 use Rattle.rules.specs.paper.Needs.{Needs, nothing, push_step, expression_need, over_formals, cells_left, bindings_left, bound_need, command_need, block_need, declaration_need, names_given, bound_function}
 use Rattle.reader.specs.KindNumbers.{bind_number, dseq_number, ref_number, abs_number}
 use Rattle.reader.specs.Pack.{packed_kind, packed_operand}
-use Rattle.reader.specs.Stored.{kind_is, operand_is, StoredExpression, StoredFormals, no_formals, one_formal, StoredCommand, StoredBlock, StoredDeclaration, StoredBound}
+use Rattle.reader.specs.Stored.{StoredExpression, StoredFormals, no_formals, one_formal, StoredCommand, StoredBlock, StoredDeclaration, StoredBound}
+use Rattle.reader.proofs.StoredFields.{kind_is, operand_is}
 use Rattle.reader.specs.Stored as Stored
 use Rattle.reader.specs.StoredLaws.{same_expression, same_command, same_declaration}
-use Rattle.reader.specs.StandingLaws.{Rooted, after_node, expression_low, expression_on, command_root, command_on, declaration_root, declaration_on, declaration_end, block_low, block_on, formals_on}
-use Rattle.reader.specs.KindTrees.{stored_expression_kind}
+use Rattle.reader.proofs.StandingLaws.{Rooted, after_node, expression_low, expression_on, command_root, command_on, declaration_root, declaration_on, declaration_end, block_low, block_on, formals_on}
+use Rattle.reader.proofs.KindTrees.{stored_expression_kind}
 use Rattle.estimator.specs.Figures.{stopped, figures, numbers, one_step, unary_figures, scoped_figures}
 use Rattle.estimator.specs.Entries.{HasEntry, WritesEntriesFrom, KeptEntry, NamesAt, one_name}
 use Rattle.estimator.specs.Answers.{SomeExpression, SomeFormals, SomeCommand, SomeDeclaration, ExpressionNeeds, CommandNeeds, FormalsNamed, DeclaredAs, DeclarationNeeds}

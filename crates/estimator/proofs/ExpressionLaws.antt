@@ -10,8 +10,9 @@ use Rattle.rules.specs.paper.Tree.{arithmetic, Sum, Expression}
 use Rattle.rules.specs.paper.Needs.{expression_need}
 use Rattle.reader.specs.KindNumbers.{not_number}
 use Rattle.reader.specs.Pack.{packed_kind, packed_end}
-use Rattle.reader.specs.Stored.{kind_is, StoredExpression, num, boo, id, deref, valref, binary, negation}
-use Rattle.reader.specs.StandingLaws.{Rooted, after_node, operator_above, operator_below, operator_low, expression_root, expression_low, expression_on, expression_end}
+use Rattle.reader.specs.Stored.{StoredExpression, num, boo, id, deref, valref, binary, negation}
+use Rattle.reader.proofs.StoredFields.{kind_is}
+use Rattle.reader.proofs.StandingLaws.{Rooted, after_node, operator_above, operator_below, operator_low, expression_root, expression_low, expression_on, expression_end}
 use Rattle.estimator.specs.Figures.{one_step, unary_figures, binary_figures}
 use Rattle.estimator.specs.Answers.{SomeExpression, ExpressionNeeds}
 use Rattle.estimator.specs.declared.figures.Need.{Need}

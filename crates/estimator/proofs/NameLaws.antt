@@ -8,9 +8,10 @@ use Rattle.rules.specs.paper.Limits.{most_nodes, names, most_parameters}
 use Rattle.rules.specs.paper.Tree.{Formal, Expression, Call}
 use Rattle.rules.specs.paper.Needs.{Needs, nothing, need_of, over_formals, command_need}
 use Rattle.reader.specs.Pack.{packed_operand}
-use Rattle.reader.specs.Stored.{operand_is, StoredActuals, StoredFormals, no_formals, one_formal, StoredCommand, call}
+use Rattle.reader.specs.Stored.{StoredActuals, StoredFormals, no_formals, one_formal, StoredCommand, call}
+use Rattle.reader.proofs.StoredFields.{operand_is}
 use Rattle.reader.specs.StoredLaws.{same_formals}
-use Rattle.reader.specs.StandingLaws.{after_node, operand_name, operand_number}
+use Rattle.reader.proofs.StandingLaws.{after_node, operand_name, operand_number}
 use Rattle.estimator.specs.Figures.{figures, numbers, called_figures}
 use Rattle.estimator.specs.Entries.{HasEntry, WritesEntriesFrom, KeptEntry, NamesAt, one_name, NeedFoundAt}
 use Rattle.estimator.specs.Answers.{SomeActuals, SomeFormals, SomeCall, ActualsNeed, CallNeeds, FormalsNamed}

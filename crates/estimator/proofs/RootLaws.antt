@@ -12,10 +12,11 @@ use Rattle.rules.specs.paper.Tree.{Expression, Formal, Command, Block, Declarati
 use Rattle.rules.specs.paper.Needs.{nothing, need_of, register_needs, root_need, routine_need, is_loop, some_command, some_in_block, some_in_declaration, some_in_bound, some_in_root, has_loop}
 use Rattle.reader.specs.KindNumbers.{assign_number, loop_number}
 use Rattle.reader.specs.Pack.{packed_kind}
-use Rattle.reader.specs.Stored.{HasWord, kind_is, StoredExpression, StoredActuals, no_actuals, one_actual, StoredFormals, no_formals, one_formal, StoredCommand, StoredBlock, StoredDeclaration, StoredBound, StoredRoot, root_expression, root_command, root_absent, RootAt}
+use Rattle.reader.specs.Stored.{HasWord, StoredExpression, StoredActuals, no_actuals, one_actual, StoredFormals, no_formals, one_formal, StoredCommand, StoredBlock, StoredDeclaration, StoredBound, StoredRoot, root_expression, root_command, root_absent, RootAt}
+use Rattle.reader.proofs.StoredFields.{kind_is}
 use Rattle.reader.specs.Stored as Stored
-use Rattle.reader.specs.StandingLaws.{expression_on, actuals_on, formals_on, command_on, block_on, declaration_on, bound_on, absent_root, operator_below, operator_low}
-use Rattle.reader.specs.KindTrees.{stored_expression_kind, stored_command_kind}
+use Rattle.reader.proofs.StandingLaws.{expression_on, actuals_on, formals_on, command_on, block_on, declaration_on, bound_on, absent_root, operator_below, operator_low}
+use Rattle.reader.proofs.KindTrees.{stored_expression_kind, stored_command_kind}
 use Rattle.estimator.specs.Figures.{stopped, figures, numbers, raised}
 use Rattle.estimator.specs.Entries.{NamesAt, no_entries}
 use Rattle.estimator.specs.Answers.{SomeExpression, SomeCommand, ExpressionNeeds, CommandNeeds, RootNeeds, RoutineNeeds, LoopFound}

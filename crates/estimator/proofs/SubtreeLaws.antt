@@ -5,7 +5,7 @@ use mathlib.Core.List.{List}
 use native.Mathlib.Omega.{arith}
 use lib.ListN.{get_or}
 use Rattle.reader.specs.Pack.{packed_end}
-use Rattle.reader.specs.StandingLaws.{Rooted, root_end}
+use Rattle.reader.proofs.StandingLaws.{Rooted, root_end}
 
 -- The node after the first child and its descendants.
 abbrev pub second_place : List ℕ → (node : ℕ) → ℕ

@@ -9,8 +9,9 @@ use Rattle.rules.specs.paper.Limits.{most_nodes, most_depth}
 use Rattle.rules.specs.paper.Kinds.{Kind, kind_number}
 use Rattle.reader.specs.Put.{put, put_none, put_length, put_append}
 use Rattle.reader.specs.Pack.{packed_end}
-use Rattle.reader.specs.Stored.{HasWord, end_is}
-use Rattle.reader.specs.StandingLaws.{after_node}
+use Rattle.reader.specs.Stored.{HasWord}
+use Rattle.reader.proofs.StoredFields.{end_is}
+use Rattle.reader.proofs.StandingLaws.{after_node}
 use Rattle.page.specs.Lines.{Line, line_of, root_lines}
 use Rattle.page.specs.Page.{line_bytes, line_text, lines_text, page_of}
 use Rattle.page.specs.Forest.{Forest, no_tree, a_tree, SomeTrees}

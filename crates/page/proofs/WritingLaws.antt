@@ -8,7 +8,7 @@ use Rattle.rules.proofs.Basics.{append_assoc}
 use Rattle.rules.specs.paper.Decimal.{ascii, decimal}
 use Rattle.reader.specs.Put.{put, put_append}
 use Rattle.reader.specs.Pack.{packed_kind, packed_operand}
-use Rattle.reader.specs.Stored.{kind_is, operand_is}
+use Rattle.reader.proofs.StoredFields.{kind_is, operand_is}
 use Rattle.page.specs.Names.{kind_name}
 use Rattle.page.specs.Lines.{Line, line_of}
 use Rattle.page.specs.Page.{node_columns, depth_columns, name_columns, operand_columns, depth_at, name_at, operand_at, end_at, line_bytes, blank, to_the_right, to_the_left}

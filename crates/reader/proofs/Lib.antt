@@ -7,3 +7,7 @@ pub mod Children
 pub mod ReadLaws
 pub mod SiblingLaws
 pub mod ImageLaws
+pub mod PackLaws
+pub mod StoredFields
+pub mod StandingLaws
+pub mod KindTrees

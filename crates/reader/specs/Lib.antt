@@ -1,12 +1,9 @@
 pub mod KindNumbers
 pub mod Pack
-pub mod PackLaws
 pub mod Put
 pub mod Scan
 pub mod Tables
 pub mod Answers
 pub mod Stored
 pub mod StoredLaws
-pub mod StandingLaws
-pub mod KindTrees
 pub mod SizeLaws

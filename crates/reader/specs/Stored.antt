@@ -9,7 +9,6 @@ use Rattle.rules.specs.paper.Limits.{most_nodes, most_depth, names, codes, most_
 use Rattle.rules.specs.claims.Listing.{truth_word}
 use Rattle.reader.specs.KindNumbers.{num_number, boo_number, id_number, not_number, deref_number, valref_number, assign_number, loop_number, cseq_number, blk_number, call_number, conditional_number, bind_number, dseq_number, ref_number, abs_number, formal_number}
 use Rattle.reader.specs.Pack.{kinds_room, pack, packed_kind, packed_end, packed_operand}
-use Rattle.reader.specs.PackLaws.{kind_fits, end_fits, kind_back, end_back, operand_back}
 
 -- The word of a node: its kind, its operand, and the first node after its descendants.
 pub record HasWord (words : List ℕ) (place kind operand end : ℕ) : Type 0 where
@@ -17,15 +16,6 @@ pub record HasWord (words : List ℕ) (place kind operand end : ℕ) : Type 0 wh
   pub place_low : place < most_nodes
   pub operand_low : operand < Limits.words
   pub end_low : end ≤ most_nodes
-
-pub kind_is : {words : List ℕ} {i k w e : ℕ} → HasWord words i k w e → k < kinds_room → packed_kind (get_or words i 0) ≡ k
-kind_is {k = k} {w = w} {e = e} h l = ap packed_kind h.word ∙ kind_back k w e (kind_fits k l)
-
-pub end_is : {words : List ℕ} {i k w e : ℕ} → HasWord words i k w e → k < kinds_room → packed_end (get_or words i 0) ≡ e
-end_is {k = k} {w = w} {e = e} h l = ap packed_end h.word ∙ end_back k w e (kind_fits k l) (end_fits e h.end_low)
-
-pub operand_is : {words : List ℕ} {i k w e : ℕ} → HasWord words i k w e → k < kinds_room → packed_operand (get_or words i 0) ≡ w
-operand_is {k = k} {w = w} {e = e} h l = ap packed_operand h.word ∙ operand_back k w e (kind_fits k l) (end_fits e h.end_low)
 
 pub data StoredExpression (words : List ℕ) : (depth place next : ℕ) → Expression → Type 0 where
   num : {d i n : ℕ} → HasWord words i num_number n (suc i) → StoredExpression words (suc d) i (suc i) (Num i n)

@@ -10,7 +10,7 @@ use Rattle.rules.specs.paper.Engine.{register_environment, register_store, root_
 use Rattle.rules.specs.paper.Limits.{most_nodes, most_bindings, work_words}
 use Rattle.machine.specs.Layout.{row_labels, row_payloads, cell_payloads, cell_labels, link}
 use Rattle.reader.specs.Stored.{StoredRoot, root_expression, root_command, root_absent, RootAt}
-use Rattle.reader.specs.StandingLaws.{absent_root}
+use Rattle.reader.proofs.StandingLaws.{absent_root}
 use Rattle.reader.specs.StoredLaws.{same_root}
 use Rattle.integers.specs.Words.{integers_of}
 use Rattle.integers.specs.WordLaws.{integers_at}

@@ -11,10 +11,11 @@ use Rattle.rules.specs.paper.Rules.{Rule, Effect}
 use Rattle.rules.specs.paper.Limits.{most_nodes}
 use Rattle.machine.specs.Layout.{top_control, mark_base}
 use Rattle.reader.specs.Pack.{kinds_room, packed_kind}
-use Rattle.reader.specs.Stored.{HasWord, kind_is}
+use Rattle.reader.specs.Stored.{HasWord}
+use Rattle.reader.proofs.StoredFields.{kind_is}
 use Rattle.reader.specs.Stored as Stored
-use Rattle.reader.specs.StandingLaws.{expression_root, command_root, declaration_root, root_low}
-use Rattle.reader.specs.KindTrees.{expression_of, expression_kinds, command_of, command_kinds, declaration_of, declaration_kinds}
+use Rattle.reader.proofs.StandingLaws.{expression_root, command_root, declaration_root, root_low}
+use Rattle.reader.proofs.KindTrees.{expression_of, expression_kinds, command_of, command_kinds, declaration_of, declaration_kinds}
 use Rattle.machine.specs.Regions.{stack, Regions, regions, Fits, with_control}
 use Rattle.machine.specs.Represents.{Mode, ControlAs, expression_on, command_on, declaration_on, reference_on, abstraction_on, operator_on, not_on, assign_on, loop_on, conditional_on, ref_on, bind_on, dseq_extend_on, dseq_join_on, extend_on, leave_on, call_on, Models}
 use Rattle.machine.specs.Steps.{Stands, Ready}

@@ -25,7 +25,7 @@ use Rattle.machine.specs.Room.{reason_of_room}
 use Rattle.machine.proofs.state_laws.ModelLaws.{with_items, beside_sizes, sizes, step_made, step_withheld_for_room}
 use Rattle.machine.proofs.stack_laws.SharedLaws.{Put, put_regions, value_fits}
 use Rattle.machine.proofs.stack_laws.RoomLaws.{Room, room_after}
-use Rattle.reader.specs.StandingLaws.{after_node, declaration_root}
+use Rattle.reader.proofs.StandingLaws.{after_node, declaration_root}
 use Rattle.machine.proofs.state_laws.ItemLaws.{node_end, command_top}
 
 -- ---- The tree.

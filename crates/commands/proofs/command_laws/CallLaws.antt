@@ -14,7 +14,8 @@ use Rattle.rules.specs.paper.Rules as Rules
 use Rattle.rules.specs.paper.Run.{judge}
 use Rattle.machine.specs.Layout.{call_word}
 use Rattle.reader.specs.Pack.{packed_operand, packed_end}
-use Rattle.reader.specs.Stored.{HasWord, operand_is, StoredActuals, no_actuals, one_actual, StoredCommand, call}
+use Rattle.reader.specs.Stored.{HasWord, StoredActuals, no_actuals, one_actual, StoredCommand, call}
+use Rattle.reader.proofs.StoredFields.{operand_is}
 use Rattle.machine.specs.Regions.{regions, Fits, with_control, with_controls}
 use Rattle.machine.specs.Represents.{Mode, running, ControlAs, expression_on, call_on}
 use Rattle.machine.specs.Steps.{StepAnswer, Ready, Applicable, Steps}
@@ -25,7 +26,7 @@ use Rattle.machine.proofs.state_laws.ModelLaws.{with_items, sizes, step_withheld
 use Rattle.machine.proofs.state_laws.NodeLaws.{node_word}
 use Rattle.machine.proofs.stack_laws.SharedLaws.{Put, put_regions, grown_control}
 use Rattle.machine.proofs.stack_laws.RoomLaws.{Room, room_after}
-use Rattle.reader.specs.StandingLaws.{after_node, Rooted, expression_root}
+use Rattle.reader.proofs.StandingLaws.{after_node, Rooted, expression_root}
 use Rattle.machine.proofs.state_laws.ItemLaws.{node_end, RunningTop, command_top}
 
 -- ---- The tree.

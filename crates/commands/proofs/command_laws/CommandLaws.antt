@@ -13,14 +13,15 @@ use Rattle.rules.specs.paper.Rules as Rules
 use Rattle.rules.specs.paper.Run.{judge}
 use Rattle.machine.specs.Layout.{mark_word}
 use Rattle.reader.specs.Pack.{packed_operand, packed_end}
-use Rattle.reader.specs.Stored.{HasWord, operand_is, StoredExpression, StoredCommand, assign, loop, cseq, conditional}
+use Rattle.reader.specs.Stored.{HasWord, StoredExpression, StoredCommand, assign, loop, cseq, conditional}
+use Rattle.reader.proofs.StoredFields.{operand_is}
 use Rattle.machine.specs.Regions.{regions}
 use Rattle.machine.specs.Represents.{running, ControlAs, expression_on, command_on, assign_on, loop_on, conditional_on, name_on, node_on}
 use Rattle.machine.specs.Steps.{StepAnswer, Applicable, Steps, Puts, Enters}
 use Rattle.machine.specs.declared.Machine.{Machine}
 use Rattle.machine.specs.declared.Stepped.{Stepped}
 use Rattle.machine.proofs.state_laws.NodeLaws.{node_word}
-use Rattle.reader.specs.StandingLaws.{after_node, command_root}
+use Rattle.reader.proofs.StandingLaws.{after_node, command_root}
 use Rattle.machine.proofs.state_laws.ItemLaws.{node_end, command_top}
 
 -- The place of a command on top of control is a node's.

@@ -20,7 +20,7 @@ use Rattle.machine.specs.Steps.{StepAnswer, Applicable, Steps, Puts}
 use Rattle.machine.specs.declared.Machine.{Machine}
 use Rattle.machine.specs.declared.Stepped.{Stepped}
 use Rattle.machine.specs.declared.Stepped.TheVariants.{Made}
-use Rattle.reader.specs.StandingLaws.{Rooted, expression_root, command_root, after_node}
+use Rattle.reader.proofs.StandingLaws.{Rooted, expression_root, command_root, after_node}
 use Rattle.machine.proofs.state_laws.ItemLaws.{node_end}
 use Rattle.machine.proofs.state_laws.TopLaws.{at_height}
 use Rattle.machine.proofs.state_laws.MarkTopLaws.{conditional_taken, at_height_fits}

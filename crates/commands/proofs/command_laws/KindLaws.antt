@@ -7,8 +7,8 @@ use Rattle.rules.specs.paper.Tree.{Expression, Command, Assign, Loop, CSeq, bloc
 use Rattle.rules.specs.paper.States.{Item, command, declaration}
 use Rattle.reader.specs.Pack.{packed_kind}
 use Rattle.reader.specs.KindNumbers.{assign_number, loop_number, cseq_number, blk_number, conditional_number, bind_number}
-use Rattle.reader.specs.StandingLaws.{command_root, declaration_root}
-use Rattle.reader.specs.KindTrees.{CommandOf, command_of, is_assign, is_loop, is_sequence, is_block, is_call, is_conditional, DeclarationOf, declaration_of, is_bind, is_declaration_sequence}
+use Rattle.reader.proofs.StandingLaws.{command_root, declaration_root}
+use Rattle.reader.proofs.KindTrees.{CommandOf, command_of, is_assign, is_loop, is_sequence, is_block, is_call, is_conditional, DeclarationOf, declaration_of, is_bind, is_declaration_sequence}
 use Rattle.machine.specs.Regions.{regions}
 use Rattle.machine.specs.Steps.{Applicable, Steps}
 use Rattle.machine.specs.declared.Machine.{Machine}

@@ -12,14 +12,15 @@ use Rattle.rules.specs.paper.Rules.{Rule, Effect, goes, Table, loop_true, loop_f
 use Rattle.rules.specs.paper.Run.{judge}
 use Rattle.rules.specs.paper.Limits.{most_nodes}
 use Rattle.reader.specs.Pack.{packed_end}
-use Rattle.reader.specs.Stored.{end_is, StoredCommand, loop}
+use Rattle.reader.specs.Stored.{StoredCommand, loop}
+use Rattle.reader.proofs.StoredFields.{end_is}
 use Rattle.machine.specs.Regions.{regions, Fits, with_control}
 use Rattle.machine.specs.Represents.{Mode, ControlAs, command_on, loop_on, Models}
 use Rattle.machine.specs.Steps.{StepAnswer, Applicable, Steps, Puts}
 use Rattle.machine.specs.declared.Machine.{Machine}
 use Rattle.machine.specs.declared.Stepped.{Stepped}
 use Rattle.machine.specs.declared.Stepped.TheVariants.{Made}
-use Rattle.reader.specs.StandingLaws.{Rooted, expression_root}
+use Rattle.reader.proofs.StandingLaws.{Rooted, expression_root}
 use Rattle.machine.proofs.state_laws.NodeLaws.{node_word}
 use Rattle.machine.proofs.state_laws.ModelLaws.{step_made, fits_still}
 use Rattle.machine.proofs.state_laws.TopLaws.{at_height}

@@ -13,7 +13,8 @@ use Rattle.rules.specs.paper.Rules as Rules
 use Rattle.rules.specs.paper.Run.{judge}
 use Rattle.machine.specs.Layout.{row_labels, row_payloads, closure_unit, mark_word}
 use Rattle.reader.specs.Pack.{packed_operand, packed_end}
-use Rattle.reader.specs.Stored.{HasWord, operand_is, StoredExpression, StoredDeclaration, bind, dseq, StoredBound, plain_of, ref, abs}
+use Rattle.reader.specs.Stored.{HasWord, StoredExpression, StoredDeclaration, bind, dseq, StoredBound, plain_of, ref, abs}
+use Rattle.reader.proofs.StoredFields.{operand_is}
 use Rattle.machine.specs.Regions.{slots, regions}
 use Rattle.machine.specs.Represents.{SegmentAs, no_row, one_row, closure_as, Stage, declaring, ControlAs, expression_on, declaration_on, reference_on, abstraction_on, ref_on, bind_on, dseq_extend_on, dseq_join_on, name_on}
 use Rattle.machine.specs.Steps.{StepAnswer, Applicable, Steps, Puts, Pushes, Enters}
@@ -22,7 +23,7 @@ use Rattle.machine.specs.declared.Stepped.{Stepped}
 use Rattle.machine.proofs.state_laws.NodeLaws.{node_word}
 use Rattle.machine.proofs.state_laws.ModelLaws.{with_items}
 use Rattle.machine.proofs.memory_laws.LookupLaws.{slot_words}
-use Rattle.reader.specs.StandingLaws.{after_node, declaration_root}
+use Rattle.reader.proofs.StandingLaws.{after_node, declaration_root}
 use Rattle.machine.proofs.state_laws.ItemLaws.{node_end, declaration_top, reference_top, abstraction_top}
 
 -- The place of a declaration on top of control is a node's.

@@ -10,8 +10,8 @@ use Rattle.rules.specs.paper.Tree.{Operator, Expression, Num, Boo, Id, DeRef, Va
 use Rattle.rules.specs.paper.States.{expression}
 use Rattle.reader.specs.Pack.{packed_kind}
 use Rattle.reader.specs.Stored.{StoredExpression}
-use Rattle.reader.specs.StandingLaws.{expression_root}
-use Rattle.reader.specs.KindTrees.{ExpressionOf, is_number, is_truth, is_id, is_binary, is_negation, is_deref, is_valref, expression_of, number_kind, truth_kind, id_kind, negation_kind, deref_kind, valref_kind}
+use Rattle.reader.proofs.StandingLaws.{expression_root}
+use Rattle.reader.proofs.KindTrees.{ExpressionOf, is_number, is_truth, is_id, is_binary, is_negation, is_deref, is_valref, expression_of, number_kind, truth_kind, id_kind, negation_kind, deref_kind, valref_kind}
 use Rattle.machine.specs.Regions.{regions}
 use Rattle.machine.specs.Steps.{Applicable, Steps}
 use Rattle.machine.specs.declared.Machine.{Machine}

@@ -15,9 +15,10 @@ use Rattle.rules.specs.paper.Run.{judge}
 use Rattle.rules.specs.paper.Limits.{most_nodes}
 use Rattle.machine.specs.Layout.{mark_base, mark_word}
 use Rattle.reader.specs.Pack.{packed_end, packed_operand}
-use Rattle.reader.specs.Stored.{HasWord, operand_is, end_is, StoredExpression}
+use Rattle.reader.specs.Stored.{HasWord, StoredExpression}
+use Rattle.reader.proofs.StoredFields.{operand_is, end_is}
 use Rattle.reader.specs.Stored as Stored
-use Rattle.reader.specs.StandingLaws.{expression_low, expression_root}
+use Rattle.reader.proofs.StandingLaws.{expression_low, expression_root}
 use Rattle.integers.specs.WordLaws.{integer_low}
 use Rattle.machine.specs.Regions.{regions}
 use Rattle.machine.specs.Represents.{integer_as, truth_as, value_as, ControlAs, expression_on, operator_on, not_on}

@@ -15,7 +15,8 @@ use Rattle.rules.specs.paper.Run.{judge}
 use Rattle.rules.specs.paper.Limits.{most_cells, most_bindings}
 use Rattle.machine.specs.Layout.{row_labels, row_payloads, cell_payloads, cell_labels, link}
 use Rattle.reader.specs.Pack.{packed_operand}
-use Rattle.reader.specs.Stored.{operand_is, StoredExpression}
+use Rattle.reader.specs.Stored.{StoredExpression}
+use Rattle.reader.proofs.StoredFields.{operand_is}
 use Rattle.reader.specs.Stored as Stored
 use Rattle.machine.specs.Regions.{Slot, slot_at, regions, Fits}
 use Rattle.machine.specs.Represents.{ValueAs, integer_as, truth_as, location_as, SegmentAs, BindableAs, value_as, StoreAs, no_cell, one_cell, Models}

@@ -12,7 +12,8 @@ use Rattle.rules.specs.paper.States.{Value, value, closure, Environment, bound, 
 use Rattle.rules.specs.paper.Rules.{Matched, match_formals}
 use Rattle.machine.specs.Layout.{top_payload, top_label, link}
 use Rattle.reader.specs.Pack.{packed_operand}
-use Rattle.reader.specs.Stored.{HasWord, operand_is, StoredFormals, no_formals, one_formal}
+use Rattle.reader.specs.Stored.{HasWord, StoredFormals, no_formals, one_formal}
+use Rattle.reader.proofs.StoredFields.{operand_is}
 use Rattle.machine.specs.Regions.{Slot, slot, Regions, regions, with_values, with_row, raised_rows}
 use Rattle.machine.specs.Represents.{SegmentAs, BindableAs, value_as, Extends, one_more, Mode, ValuesAs}
 use Rattle.frames.specs.Formals.{with_bound, Binding}

@@ -7,8 +7,9 @@ use lib.ListN.{get_or}
 use Rattle.rules.specs.paper.Tree.{Expression, Formal, Command, Block, Declaration, Ref, Abs}
 use Rattle.rules.specs.paper.States.{Environment, Store, Entry, Item, command, declaration, reference, abstraction}
 use Rattle.reader.specs.Pack.{packed_kind, packed_end}
-use Rattle.reader.specs.Stored.{kind_is, end_is, StoredCommand, StoredDeclaration, StoredBound}
-use Rattle.reader.specs.StandingLaws.{Rooted}
+use Rattle.reader.specs.Stored.{StoredCommand, StoredDeclaration, StoredBound}
+use Rattle.reader.proofs.StoredFields.{kind_is, end_is}
+use Rattle.reader.proofs.StandingLaws.{Rooted}
 use Rattle.machine.specs.Regions.{Regions, regions, with_control}
 use Rattle.machine.specs.Represents.{Stage, at_end, Mode, running, declaring, ControlAs, command_on, declaration_on, reference_on, abstraction_on, ValuesAs, Beside, Models}
 use Rattle.machine.specs.declared.Machine.{Machine}

@@ -2,7 +2,7 @@
 use mathlib.Core.Path.{subst}
 use native.Mathlib.Omega.{arith}
 use Rattle.estimator.specs.Answers.{LoopFound}
-use Rattle.reader.specs.StandingLaws.{nodes_low}
+use Rattle.reader.proofs.StandingLaws.{nodes_low}
 use Rattle.calls.proofs.NeedsLaws.{beyond_entries, open_answered, steps_refused, figures_answered}
 use borrow.Author.Rules.{rules}
 use Rattle.calls.proofs.estimate.figures.Statement.{statement}

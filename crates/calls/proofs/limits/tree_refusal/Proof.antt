@@ -2,7 +2,7 @@
 use mathlib.Core.Path.{subst}
 use native.Mathlib.Omega.{arith}
 use Rattle.estimator.specs.Answers.{LoopFound}
-use Rattle.reader.specs.StandingLaws.{nodes_low}
+use Rattle.reader.proofs.StandingLaws.{nodes_low}
 use Rattle.calls.proofs.RangesLaws.{loop_refused, all_steps_refused, room_answered, nothing_written}
 use borrow.Author.Rules.{rules}
 use Rattle.calls.proofs.limits.tree_refusal.Statement.{statement}

@@ -1,6 +1,6 @@
 -- The page of a tree: 41 where it is too short, else its lines.
 use native.Mathlib.Omega.{arith}
-use Rattle.reader.specs.StandingLaws.{nodes_low}
+use Rattle.reader.proofs.StandingLaws.{nodes_low}
 use Rattle.calls.proofs.PageLaws.{short_page, whole_page}
 use borrow.Author.Rules.{rules}
 use Rattle.calls.proofs.print.print_tree.Statement.{statement}

@@ -2,7 +2,7 @@
 -- size of the tree that stands there.
 use native.Mathlib.Omega.{arith}
 use borrow.Author.Rules.{rules}
-use Rattle.reader.specs.StandingLaws.{declaration_low}
+use Rattle.reader.proofs.StandingLaws.{declaration_low}
 use Rattle.carrying.proofs.DeclarationSequences.{declaration_size, bind_there, first_there, first_unsafe, second_there, sequence_declared, sequence_keeps}
 use Prim.Native.Nat.{ℕ, ◌<◌}
 use Rattle.carrying.proofs.declarations.+declaration.Goals as goal

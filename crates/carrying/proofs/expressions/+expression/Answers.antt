@@ -2,7 +2,7 @@
 -- The measure is the size of the tree that stands there.
 use borrow.Author.Rules.{rules}
 use native.Mathlib.Omega.{arith}
-use Rattle.reader.specs.StandingLaws.{expression_low}
+use Rattle.reader.proofs.StandingLaws.{expression_low}
 use Rattle.carrying.proofs.ReachLaws.{subtree_size}
 use Rattle.carrying.proofs.ExpressionLaws.{low_leaf, high_leaf, low_leaf_carried, high_leaf_carried, first_child, first_low, first_unsafe, negation_carried, second_child, second_unsafe, binary_carried}
 use Prim.Native.Nat.{ℕ, ◌<◌}

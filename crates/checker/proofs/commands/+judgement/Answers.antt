@@ -10,7 +10,7 @@ use Rattle.typing.specs.Rows.{no_rows}
 use Rattle.checker.proofs.laws.declarations.BoundLaws.{bound_low, ref_child, ref_fault, ref_fine, plain_there, plain_means, abs_there, abs_formals_fault, inner_low, inner_scope, inner_block, abs_body_fault, abs_body_fine, abs_kept}
 use Rattle.checker.specs.Commands.{CommandAt}
 use Rattle.checker.proofs.laws.commands.CommandLaws.{assign_there, block_there, call_there, loop_there, conditional_there, commands_there, command_assign, command_block, command_call, command_conditional, loop_test_fault, loop_body_fault, loop_fine, commands_fault, commands_fine, fine_before}
-use Rattle.reader.specs.StandingLaws.{expression_low, command_low}
+use Rattle.reader.proofs.StandingLaws.{expression_low, command_low}
 use Rattle.checker.proofs.laws.commands.ConditionalLaws.{conditional_parts, second_found, conditional_test_fault, conditional_first_fault, conditional_second_fault, conditional_fine}
 use lib.ListN.{length-set}
 use Rattle.checker.proofs.laws.declarations.DeclarationLaws.{declaration_low, first_declaration, first_declaration_low, sequence_first_fault, second_scope, second_declaration, second_after, second_scope_low, sequence_second_fault, sequence_kept, first_rows, second_rows, sequence_repeated, sequence_fine, bind_child, bind_low, bind_name, bind_fault, bind_number, bind_kept, bind_fine}

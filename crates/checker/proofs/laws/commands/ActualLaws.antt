@@ -9,7 +9,7 @@ use Rattle.rules.specs.paper.Tree.{Expression}
 use Rattle.rules.specs.paper.Checker.{Scope, Judged, fault, fine, ◌>>=◌, expression_code, expression_codes}
 use Rattle.reader.specs.Pack.{packed_end}
 use Rattle.reader.specs.Stored.{StoredActuals, no_actuals, one_actual}
-use Rattle.reader.specs.StandingLaws.{expression_low, expression_end}
+use Rattle.reader.proofs.StandingLaws.{expression_low, expression_end}
 use Rattle.typing.specs.Rows.{ScopeAt}
 use Rattle.typing.specs.Answers.{answer, ExpressionAt, ExpressionJudgedAt}
 use Rattle.checker.specs.Packing.{packed_onto, AllCodes}

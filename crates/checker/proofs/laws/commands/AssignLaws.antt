@@ -8,7 +8,7 @@ use Rattle.rules.specs.paper.Limits.{most_nodes}
 use Rattle.rules.specs.paper.Tree.{Expression}
 use Rattle.rules.specs.paper.Checker.{Meaning, Scope, Judged, ◌>>=◌, Fine, meaning_of, bound_name, assignable, same_code, expression_code, command_ok}
 use Rattle.reader.specs.Pack.{packed_operand}
-use Rattle.reader.specs.Stored.{operand_is}
+use Rattle.reader.proofs.StoredFields.{operand_is}
 use Rattle.typing.specs.Rows.{meaning_number, ScopeAt}
 use Rattle.typing.specs.Answers.{code_answer, fine_answer, meaning_answer, Numbered, ExpressionJudgedAt}
 use Rattle.checker.specs.Commands.{AssignAt, AssignJudgedAt}

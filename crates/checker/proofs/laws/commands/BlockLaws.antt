@@ -10,7 +10,7 @@ use Rattle.rules.specs.paper.Refusals.{refusal_number}
 use Rattle.rules.specs.paper.Checker.{Scope, Judged, fine, ◌>>=◌, command_ok, block_ok, declaration_gives}
 use Rattle.reader.specs.Pack.{packed_end}
 use Rattle.reader.specs.Stored.{StoredCommand, StoredBlock, blk, StoredDeclaration}
-use Rattle.reader.specs.StandingLaws.{command_low, declaration_low, declaration_on, declaration_end, after_node}
+use Rattle.reader.proofs.StandingLaws.{command_low, declaration_low, declaration_on, declaration_end, after_node}
 use Rattle.typing.specs.Rows.{Rows, ScopeAt}
 use Rattle.typing.specs.Answers.{answer, fine_answer}
 use Rattle.checker.specs.Commands.{WritesRowsFrom, CommandAt, BlockAt, DeclarationAt, NamesFrom, names_from, names_fault, CommandJudgedAt, BlockJudgedAt, DeclarationJudgedAt}

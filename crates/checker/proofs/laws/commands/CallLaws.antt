@@ -10,8 +10,9 @@ use Rattle.rules.specs.paper.Refusals.{refusal_number, BadCall}
 use Rattle.rules.specs.paper.Tree.{Expression, Formal}
 use Rattle.rules.specs.paper.Checker.{Meaning, function, Scope, Judged, fault, fine, ◌>>=◌, Fine, ok, meaning_of, bound_name, called, same_count, same_codes, expression_codes, command_ok}
 use Rattle.reader.specs.Pack.{packed_operand}
-use Rattle.reader.specs.Stored.{operand_is, StoredFormals}
-use Rattle.reader.specs.StandingLaws.{after_node, operand_name, operand_number}
+use Rattle.reader.specs.Stored.{StoredFormals}
+use Rattle.reader.proofs.StoredFields.{operand_is}
+use Rattle.reader.proofs.StandingLaws.{after_node, operand_name, operand_number}
 use Rattle.typing.specs.Rows.{function_number, meaning_number, MeaningAt, code_at, function_at, ScopeAt}
 use Rattle.typing.specs.Answers.{FoundAs, found_nothing, found_binding, found_register, answer, fine_answer}
 use Rattle.checker.specs.Packing.{packed_codes}

@@ -8,9 +8,10 @@ use Rattle.rules.specs.paper.Tree.{Expression, Command, Assign, Loop, CSeq, bloc
 use Rattle.rules.specs.paper.Checker.{Scope, ◌>>=◌, ok, truth_only, expression_code, command_ok}
 use Rattle.reader.specs.KindNumbers.{assign_number, loop_number, cseq_number, blk_number, call_number, conditional_number}
 use Rattle.reader.specs.Pack.{packed_kind, packed_end}
-use Rattle.reader.specs.Stored.{kind_is, StoredExpression, StoredActuals, StoredCommand, StoredBlock}
+use Rattle.reader.specs.Stored.{StoredExpression, StoredActuals, StoredCommand, StoredBlock}
+use Rattle.reader.proofs.StoredFields.{kind_is}
 use Rattle.reader.specs.Stored as Stored
-use Rattle.reader.specs.StandingLaws.{expression_on, expression_end, command_on, command_end, after_node}
+use Rattle.reader.proofs.StandingLaws.{expression_on, expression_end, command_on, command_end, after_node}
 use Rattle.typing.specs.Rows.{ScopeAt}
 use Rattle.typing.specs.Answers.{code_answer, fine_answer, ExpressionAt, ExpressionJudgedAt}
 use Rattle.checker.specs.Commands.{WritesRowsFrom, AssignAt, AssignJudgedAt, CallAt, CallJudgedAt, CommandAt, BlockAt, CommandJudgedAt, ConditionalJudgedAt, BlockJudgedAt}

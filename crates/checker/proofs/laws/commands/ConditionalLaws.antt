@@ -10,7 +10,7 @@ use Rattle.rules.specs.paper.Checker.{Scope, Judged, Fine, ◌>>=◌, ok, truth_
 use Rattle.reader.specs.Pack.{packed_end}
 use Rattle.reader.specs.Stored.{StoredExpression, StoredCommand}
 use Rattle.reader.specs.Stored as Stored
-use Rattle.reader.specs.StandingLaws.{expression_on, expression_end, command_on, command_end, after_node}
+use Rattle.reader.proofs.StandingLaws.{expression_on, expression_end, command_on, command_end, after_node}
 use Rattle.typing.specs.Rows.{ScopeAt}
 use Rattle.typing.specs.Answers.{code_answer, fine_answer, ExpressionAt, ExpressionJudgedAt}
 use Rattle.checker.specs.Commands.{WritesRowsFrom, CommandAt, CommandJudgedAt, ConditionalJudgedAt}

@@ -11,15 +11,16 @@ use Rattle.rules.specs.paper.Refusals.{Repeated, refusal_number}
 use Rattle.rules.specs.paper.Tree.{Declaration, Bind, DSeq, Bound}
 use Rattle.rules.specs.paper.Checker.{Meaning, Scope, Judged, fault, fine, ◌>>=◌, shares_name, declaration_gives, bound_means}
 use Rattle.reader.specs.Pack.{packed_kind, packed_end, packed_operand}
-use Rattle.reader.specs.Stored.{HasWord, kind_is, operand_is, StoredDeclaration, bind, dseq, StoredBound}
-use Rattle.reader.specs.StandingLaws.{declaration_on, bound_on, after_node}
+use Rattle.reader.specs.Stored.{HasWord, StoredDeclaration, bind, dseq, StoredBound}
+use Rattle.reader.proofs.StoredFields.{kind_is, operand_is}
+use Rattle.reader.proofs.StandingLaws.{declaration_on, bound_on, after_node}
 use Rattle.typing.specs.Rows.{meaning_numbers, rows_from, rows_end, row_word, meaning_number, MeaningAt, HasRow, Rows, no_rows, one_row, ScopeAt}
 use Rattle.typing.specs.Answers.{meaning_answer}
 use Rattle.checker.specs.Commands.{WritesRowsFrom, BoundAt, DeclarationAt, NamesFrom, names_from, names_fault, DeclarationJudgedAt, BoundJudgedAt}
 use Rattle.typing.specs.declared.codes.Answer.{Answer}
 use Rattle.typing.specs.declared.codes.Answer.TheVariants.{Is, Fault}
 use Rattle.typing.proofs.laws.codes.AnswerLaws.{two_answers, same_is}
-use Rattle.reader.specs.StandingLaws as Standing
+use Rattle.reader.proofs.StandingLaws as Standing
 use Rattle.checker.proofs.laws.commands.KeptLaws.{kept_lower, kept_then, kept_declaration, kept_meaning, kept_rows, kept_scope, kept_row, row_there, rows_append, scope_with}
 use Rattle.checker.proofs.laws.declarations.BoundLaws.{bound_low, bound_meaning, meaning_low}
 

@@ -10,8 +10,9 @@ use Rattle.rules.specs.paper.Limits.{most_nodes, names, codes}
 use Rattle.rules.specs.paper.Tree.{Formal}
 use Rattle.rules.specs.paper.Checker.{code, Named, Scope, fault, has_name, distinct, with_formals}
 use Rattle.reader.specs.Pack.{packed_operand}
-use Rattle.reader.specs.Stored.{HasWord, StoredFormals, no_formals, one_formal, operand_is}
-use Rattle.reader.specs.StandingLaws.{after_node, operand_name, operand_number}
+use Rattle.reader.specs.Stored.{HasWord, StoredFormals, no_formals, one_formal}
+use Rattle.reader.proofs.StoredFields.{operand_is}
+use Rattle.reader.proofs.StandingLaws.{after_node, operand_name, operand_number}
 use Rattle.typing.specs.Rows.{meaning_numbers, rows_from, rows_end, row_word, code_at, Rows, one_row, RowFound}
 use Rattle.checker.specs.Commands.{WritesRowsFrom, FormalsAt, NamesFrom, names_from, names_fault, formals_give, FormalsJudgedAt}
 use Rattle.typing.specs.declared.codes.Answer.{Answer}

@@ -1,7 +1,7 @@
 -- The answers of the functions of the cycle: what each makes of the node.
 use mathlib.Core.Path.{ap, ◌∙◌, sym, subst}
 use native.Mathlib.Omega.{arith}
-use Rattle.reader.specs.StandingLaws.{expression_low, command_low, declaration_low}
+use Rattle.reader.proofs.StandingLaws.{expression_low, command_low, declaration_low}
 use Rattle.estimator.specs.Figures.{tested_figures, unary_figures}
 use Rattle.estimator.proofs.EntryLaws.{entries_same, entries_lower, entries_then, names_kept, figures_small}
 use Rattle.estimator.proofs.CommandLaws.{assign_needs, call_there, call_command, block_declaration, block_body, block_needs, sequence_first, sequence_second, sequence_needs, value_there, true_there, loop_needs, false_there, conditional_needs}

@@ -1,6 +1,6 @@
 -- A Call: its actuals, and the need of its function.
 use native.Mathlib.Omega.{arith}
-use Rattle.reader.specs.StandingLaws.{command_low}
+use Rattle.reader.proofs.StandingLaws.{command_low}
 use Rattle.estimator.proofs.NameLaws.{call_actuals, call_needs}
 use Rattle.estimator.proofs.commands.call.Goals as goal
 

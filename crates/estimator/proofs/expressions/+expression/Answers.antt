@@ -1,7 +1,7 @@
 -- The proof of `expression`, which calls itself: the node's kind says which expression stands there, and its figures follow from its
 -- children's. The measure is the size of the tree that stands there.
 use native.Mathlib.Omega.{arith}
-use Rattle.reader.specs.StandingLaws.{expression_low}
+use Rattle.reader.proofs.StandingLaws.{expression_low}
 use Rattle.estimator.proofs.ExpressionLaws.{low_leaf, high_leaf, first_child, first_low, negation_needs, second_child, binary_needs}
 use Rattle.estimator.proofs.expressions.+expression.Goals as goal
 

@@ -1,6 +1,6 @@
 -- A Call's actuals one after the other. The loop's measure is how many are left.
 use native.Mathlib.Omega.{arith}
-use Rattle.reader.specs.StandingLaws.{expression_low}
+use Rattle.reader.proofs.StandingLaws.{expression_low}
 use Rattle.estimator.proofs.ActualLaws.{first_actual, none_needed, one_more_needed, all_needed}
 use Rattle.estimator.proofs.expressions.actuals.Goals as goal
 

@@ -1,6 +1,6 @@
 -- binary: the second operand stands where the first ends.
 use native.Mathlib.Omega.{arith}
-use Rattle.reader.specs.StandingLaws.{operator_below}
+use Rattle.reader.proofs.StandingLaws.{operator_below}
 use Rattle.expressions.proofs.expression_laws.ExpressionLaws.{applicable_low, operand_within, binary_steps}
 use borrow.Author.Rules.{rules}
 use Rattle.expressions.proofs.nodes.binary.Goals as goal

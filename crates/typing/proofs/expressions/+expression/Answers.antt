@@ -7,7 +7,7 @@ use borrow.Author.Rules.{rules}
 use Rattle.rules.specs.paper.Limits.{most_nodes}
 use Rattle.typing.specs.Answers.{ExpressionAt}
 use Rattle.typing.proofs.laws.expressions.ExpressionLaws.{code_number, code_truth, name_three, name_high, first_child, first_low, first_fault, first_truth, second_child, second_fault, second_fine}
-use Rattle.reader.specs.StandingLaws.{expression_low}
+use Rattle.reader.proofs.StandingLaws.{expression_low}
 use Rattle.typing.proofs.expressions.+expression.Goals as goal
 
 pub kind-which-requires : goal.kind-which-requires

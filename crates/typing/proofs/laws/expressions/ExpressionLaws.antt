@@ -10,8 +10,9 @@ use Rattle.rules.specs.paper.Kinds.{operator_number}
 use Rattle.rules.specs.paper.Tree.{Operator, Expression, Num, Boo, Binary, Not}
 use Rattle.rules.specs.paper.Checker.{Scope, ◌>>=◌, operator_code, truth_only, expression_code}
 use Rattle.reader.specs.Pack.{packed_kind, packed_end}
-use Rattle.reader.specs.Stored.{kind_is, StoredExpression, num, boo, id, deref, valref, binary, negation}
-use Rattle.reader.specs.StandingLaws.{after_node, operator_above, operator_below, operator_low, expression_low, expression_on, expression_end}
+use Rattle.reader.specs.Stored.{StoredExpression, num, boo, id, deref, valref, binary, negation}
+use Rattle.reader.proofs.StoredFields.{kind_is}
+use Rattle.reader.proofs.StandingLaws.{after_node, operator_above, operator_below, operator_low, expression_low, expression_on, expression_end}
 use Rattle.typing.specs.Answers.{code_answer, NameAt, id_at, deref_at, valref_at, ExpressionAt, ExpressionJudgedAt}
 use Rattle.typing.specs.declared.codes.Answer.{Answer}
 use Rattle.typing.specs.declared.codes.Answer.TheVariants.{Is, Fault}

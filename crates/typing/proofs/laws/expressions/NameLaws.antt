@@ -11,7 +11,8 @@ use Rattle.rules.specs.paper.Limits.{most_nodes}
 use Rattle.rules.specs.paper.Tree.{Expression}
 use Rattle.rules.specs.paper.Checker.{Meaning, code, Named, Scope, meaning_of, bound_name, fine, id_code, deref_code, valref_code, expression_code, register_scope}
 use Rattle.reader.specs.Pack.{packed_kind, packed_operand}
-use Rattle.reader.specs.Stored.{HasWord, kind_is, operand_is}
+use Rattle.reader.specs.Stored.{HasWord}
+use Rattle.reader.proofs.StoredFields.{kind_is, operand_is}
 use Rattle.typing.specs.Rows.{meaning_number, MeaningAt, code_at, function_at, Rows, no_rows, one_row, ScopeAt}
 use Rattle.typing.specs.Answers.{code_answer, meaning_answer, Numbered, numbered_code, numbered_function, NameAt, id_at, deref_at, valref_at}
 use Rattle.typing.specs.declared.codes.Answer.{Answer}

@@ -5,7 +5,7 @@ use lib.ListN.{get_or}
 use native.Mathlib.Omega.{arith}
 use borrow.Author.Rules.{rules}
 use Rattle.reader.specs.Pack.{packed_end}
-use Rattle.reader.specs.StandingLaws.{command_low}
+use Rattle.reader.proofs.StandingLaws.{command_low}
 use Rattle.carrying.proofs.FrameLaws.{keeps_fewer}
 use Rattle.ranges.proofs.TestLaws.{assign_there, assign_tested}
 use Rattle.ranges.proofs.TestLaws as TestLaws

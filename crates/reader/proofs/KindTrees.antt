@@ -8,7 +8,7 @@ use Rattle.reader.specs.KindNumbers.{num_number, boo_number, id_number, not_numb
 use Rattle.reader.specs.Pack.{packed_kind}
 use Rattle.reader.specs.Stored.{StoredExpression, StoredCommand, StoredDeclaration}
 use Rattle.reader.specs.Stored as Stored
-use Rattle.reader.specs.StandingLaws.{operator_above, operator_below, expression_root, block_root, command_root, declaration_root, root_kind}
+use Rattle.reader.proofs.StandingLaws.{operator_above, operator_below, expression_root, block_root, command_root, declaration_root, root_kind}
 
 -- ---- Expressions.
 pub data ExpressionOf (place : ℕ) : ℕ → Expression → Type 0 where

@@ -7,7 +7,8 @@ use Rattle.rules.specs.paper.Kinds.{operator_number}
 use Rattle.rules.specs.paper.Tree.{Operator, arithmetic, Eq, order, logic, Sum, Sub, Mul, Div, Lt, Le, Gt, Ge, And, Or, Expression, Formal, Command, Block, Declaration, Bound, Root, absent}
 use Rattle.reader.specs.KindNumbers.{id_number, not_number}
 use Rattle.reader.specs.Pack.{kinds_room, packed_kind, packed_end}
-use Rattle.reader.specs.Stored.{HasWord, kind_is, end_is, StoredExpression, num, boo, id, deref, valref, binary, negation, StoredActuals, no_actuals, one_actual, StoredFormals, no_formals, one_formal, StoredCommand, assign, loop, cseq, block_of, call, conditional, StoredBlock, blk, StoredDeclaration, bind, dseq, StoredBound, plain_of, ref, abs, StoredRoot, root_expression, root_command, root_absent, RootAt}
+use Rattle.reader.specs.Stored.{HasWord, StoredExpression, num, boo, id, deref, valref, binary, negation, StoredActuals, no_actuals, one_actual, StoredFormals, no_formals, one_formal, StoredCommand, assign, loop, cseq, block_of, call, conditional, StoredBlock, blk, StoredDeclaration, bind, dseq, StoredBound, plain_of, ref, abs, StoredRoot, root_expression, root_command, root_absent, RootAt}
+use Rattle.reader.proofs.StoredFields.{kind_is, end_is}
 
 -- ---- Places, and the parts of an operand.
 
