@@ -3,17 +3,30 @@
 #![tactic(auto)]
 
 use answer::{ANSWER_BYTES, MOST_INPUT_BYTES};
-use libc::STDERR_FILENO;
+use arrayvec::ArrayString;
+use std::env::{Env, FillError};
+use std::fmt::Write;
+use std::io;
 use streams::Ended;
 
 // One byte more than the largest input that fits, so a longer input is cut at a byte count that fits nothing and is refused.
 const INPUT_ROOM: usize = MOST_INPUT_BYTES + 1;
 
+// The room for an error's text. The longest that the system has is some 60 bytes.
+const REASON_ROOM: usize = 256;
+
+// Whether the program was given an argument after its own name.
+fn has_argument(rt: &impl Env) -> bool {
+    match rt.arg(1, &mut []) {
+        Err(FillError::NotPresent) => false,
+        _ => true,
+    }
+}
+
 // The program takes no arguments: whoever gives one is told what it does.
-fn help() {
-    io::write_all(
-        STDERR_FILENO,
-        b"pirun: runs a routine of the Pi automaton
+fn help(rt: &impl Eprint) {
+    let _ = rt.eprint(
+        "pirun: runs a routine of the Pi automaton
 
 usage: pirun <INPUT >ANSWER
 
@@ -26,38 +39,57 @@ error, and the answer is then missing or cut.
     );
 }
 
-// Runs the whole input and writes the answer.
-fn respond(input: &[u8]) {
-    let mut output = [0u8; ANSWER_BYTES];
-    let length = answer::answer(input, &mut output);
-    let ended = streams::send(&output[..length]);
-    match ended {
-        Ended::Full => {}
-        Ended::Nothing(_) => {
-            io::write_all(
-                STDERR_FILENO,
-                b"pirun: the answer could not be written whole: standard output takes no more\n",
-            );
-        }
-        Ended::Failed => os::fail(b"pirun: the answer could not be written whole"),
+// The system's reason, which stands in an error's text before its number.
+fn reason(text: &str) -> &str {
+    match text.split_once(" (os error ") {
+        Some((reason, _)) => reason,
+        None => text,
     }
 }
 
-fn main() {
-    if os::arg_count() > 1 {
-        help();
+// Says what failed, and why.
+fn fail(rt: &impl Eprint, what: &str, error: io::Error) {
+    let mut text = ArrayString::<REASON_ROOM>::new();
+    let _ = write!(text, "{error}");
+    let reason = reason(text.as_str());
+    let _ = eprintln!(rt; "{what}: {reason}");
+}
+
+// Runs the whole input and writes the answer.
+fn respond(rt: &HostRuntime, input: &[u8]) {
+    let mut output = [0u8; ANSWER_BYTES];
+    let length = answer::answer(input, &mut output);
+    let ended = streams::send(&mut rt.stdout(), &output[..length]);
+    match ended {
+        Ended::Full => {}
+        Ended::Nothing(_) => {
+            let _ = rt.eprintln(
+                "pirun: the answer could not be written whole: standard output takes no more",
+            );
+        }
+        Ended::Failed(error) => fail(rt, "pirun: the answer could not be written whole", error),
+    }
+}
+
+fn main(rt: HostRuntime) {
+    if has_argument(&rt) {
+        help(&rt);
         return;
     }
     let mut input = [0u8; INPUT_ROOM];
-    let ended = streams::receive(&mut input);
+    let ended = streams::receive(&mut rt.stdin(), &mut input);
     match ended {
-        Ended::Full => respond(&input),
+        Ended::Full => respond(&rt, &input),
         Ended::Nothing(left) => {
             let count = INPUT_ROOM - left;
-            respond(&input[..count]);
+            respond(&rt, &input[..count]);
         }
-        Ended::Failed => {
-            os::fail(b"pirun: no answer, since standard input could not be read");
+        Ended::Failed(error) => {
+            fail(
+                &rt,
+                "pirun: no answer, since standard input could not be read",
+                error,
+            );
         }
     }
 }

@@ -1,2 +1,2 @@
-mod AnswerLaws
-mod LoopLaws
+pub mod ByteLaws
+pub mod LoopLaws

@@ -1,2 +1,4 @@
+pub mod ErrorNumbers
+pub mod MovedBytes
 pub mod TransferLaws
 pub mod Transfers
