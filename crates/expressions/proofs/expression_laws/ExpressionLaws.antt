@@ -7,7 +7,7 @@ use native.Mathlib.Omega.{arith}
 use lib.IntN.{pos}
 use lib.ListN.{length, get_or}
 use Rattle.rules.specs.paper.Kinds.{operator_number}
-use Rattle.rules.specs.paper.Tree.{Operator, arithmetic, Sum, Sub, Mul, Div, Eq, order, Lt, Le, Gt, Ge, logic, And, Or, Expression, Num, Boo, Binary, Not}
+use Rattle.rules.specs.paper.Tree.{Operator, Expression, Num, Boo, Binary, Not}
 use Rattle.rules.specs.claims.Listing.{truth_word}
 use Rattle.rules.specs.paper.States.{integer, truth, value, operator_mark, not_mark, expression, mark}
 use Rattle.rules.specs.paper.Rules.{Rule, Effect, Table, num, boo, binary, negation}

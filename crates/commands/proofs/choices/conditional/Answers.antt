@@ -1,7 +1,6 @@
 -- conditional: the Cond itself, the test, the mark.
 use native.Mathlib.Omega.{arith}
 use Rattle.commands.proofs.command_laws.CommandLaws.{command_low, conditional_steps}
-use borrow.Author.Rules.{rules}
 use Rattle.commands.proofs.choices.conditional.Goals as goal
 
 pub overflow_add-node : goal.overflow_add-node

@@ -2,7 +2,6 @@
 use native.Mathlib.Omega.{arith}
 use Rattle.commands.proofs.command_laws.ConditionalLaws.{two_there, node_low, first_low, command_put, takes_first, takes_second}
 use Rattle.machine.proofs.state_laws.MarkTopLaws.{at_height_fits}
-use borrow.Author.Rules.{rules}
 use Rattle.commands.proofs.choices.conditional_mark.Goals as goal
 
 pub overflow_sub-m : goal.overflow_sub-m
@@ -16,9 +15,9 @@ end-first-requires c = omega (arith, node_low _ _ c.requires, c.requires.ready.f
 
 pub put_control-requires : goal.put_control-requires
 put_control-requires c = record {
-      fits = at_height_fits _ _ _ c.requires.ready.fits (omega arith);
-      control_lt_most_control_entries = c.requires.ready.room;
-    }
+  fits = at_height_fits _ _ _ c.requires.ready.fits (omega arith);
+  control_lt_most_control_entries = c.requires.ready.room;
+}
 
 pub returns-then-truth-ne0 : goal.returns-then-truth-ne0
 returns-then-truth-ne0 c =
@@ -29,9 +28,9 @@ end-second-requires c = omega (arith, first_low _ _ c.requires _ c.end-first.ens
 
 pub put_control-requires-2 : goal.put_control-requires-2
 put_control-requires-2 c = record {
-      fits = at_height_fits _ _ _ c.requires.ready.fits (omega arith);
-      control_lt_most_control_entries = c.requires.ready.room;
-    }
+  fits = at_height_fits _ _ _ c.requires.ready.fits (omega arith);
+  control_lt_most_control_entries = c.requires.ready.room;
+}
 
 pub returns : goal.returns
 returns c =

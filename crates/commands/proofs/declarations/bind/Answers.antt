@@ -1,7 +1,6 @@
 -- bind: the name, what it is bound to, the mark.
 use native.Mathlib.Omega.{arith}
 use Rattle.commands.proofs.declaration_laws.DeclarationLaws.{declaration_low, bind_steps}
-use borrow.Author.Rules.{rules}
 use Rattle.commands.proofs.declarations.bind.Goals as goal
 
 pub operand-name-requires : goal.operand-name-requires

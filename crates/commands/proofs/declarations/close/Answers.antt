@@ -1,7 +1,6 @@
 -- close: the closure of the function and the environment.
 use native.Mathlib.Omega.{arith}
 use Rattle.commands.proofs.declaration_laws.DeclarationLaws.{abstraction_low, environment_low, abstraction_steps}
-use borrow.Author.Rules.{rules}
 use Rattle.commands.proofs.declarations.close.Goals as goal
 
 pub overflow_mul-m : goal.overflow_mul-m

@@ -2,7 +2,6 @@
 use Rattle.rules.specs.paper.Tree.{Bind, DSeq}
 use Rattle.rules.specs.paper.States.{declaration}
 use Rattle.commands.proofs.command_laws.KindLaws.{asked, arm, bind_there, declaration_sequence_there}
-use borrow.Author.Rules.{rules}
 use Rattle.commands.proofs.declarations.declaration_rule.Goals as goal
 
 pub bind-requires : goal.bind-requires

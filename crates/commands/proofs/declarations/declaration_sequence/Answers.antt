@@ -1,7 +1,6 @@
 -- declaration_sequence: both declarations, each with a mark behind it.
 use native.Mathlib.Omega.{arith}
 use Rattle.commands.proofs.declaration_laws.DeclarationLaws.{declaration_low, declaration_sequence_low, declaration_sequence_steps}
-use borrow.Author.Rules.{rules}
 use Rattle.commands.proofs.declarations.declaration_sequence.Goals as goal
 
 pub overflow_add-node : goal.overflow_add-node

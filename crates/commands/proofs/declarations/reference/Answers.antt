@@ -1,7 +1,6 @@
 -- reference: the contents, the mark.
 use native.Mathlib.Omega.{arith}
 use Rattle.commands.proofs.declaration_laws.DeclarationLaws.{reference_low, reference_steps}
-use borrow.Author.Rules.{rules}
 use Rattle.commands.proofs.declarations.reference.Goals as goal
 
 pub overflow_add-node : goal.overflow_add-node

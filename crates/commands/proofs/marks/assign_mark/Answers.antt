@@ -2,14 +2,13 @@
 use native.Mathlib.Omega.{arith}
 use Rattle.commands.proofs.command_laws.AssignLaws.{two_there, name_bound, row_low, cell_low, assign_made}
 use Rattle.machine.proofs.state_laws.MarkTopLaws.{at_height_fits}
-use borrow.Author.Rules.{rules}
 use Rattle.commands.proofs.marks.assign_mark.Goals as goal
 
 pub row_of-row-requires : goal.row_of-row-requires
 row_of-row-requires c = record {
-      fits = c.requires.ready.fits;
-      binds_name = name_bound _ _ c.requires;
-    }
+  fits = c.requires.ready.fits;
+  binds_name = name_bound _ _ c.requires;
+}
 
 pub overflow_add-bound : goal.overflow_add-bound
 overflow_add-bound c = record { fits = omega (arith, row_low _ _ c.requires c.row_of-row.ensures) }
@@ -25,9 +24,9 @@ overflow_sub-m c = two_there _ _ c.requires
 
 pub set_cell-requires : goal.set_cell-requires
 set_cell-requires c = record {
-      fits = at_height_fits _ _ _ c.requires.ready.fits (omega arith);
-      at_lt_cells = cell_low _ _ c.requires c.row_of-row.ensures;
-    }
+  fits = at_height_fits _ _ _ c.requires.ready.fits (omega arith);
+  at_lt_cells = cell_low _ _ c.requires c.row_of-row.ensures;
+}
 
 pub returns : goal.returns
 returns c =

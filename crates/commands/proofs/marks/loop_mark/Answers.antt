@@ -1,7 +1,6 @@
 -- loop_mark: the command again, or what is after the Loop.
 use native.Mathlib.Omega.{arith}
 use Rattle.commands.proofs.command_laws.LoopLaws.{two_there, node_low, loop_ends, loop_repeats}
-use borrow.Author.Rules.{rules}
 use Rattle.commands.proofs.marks.loop_mark.Goals as goal
 
 pub overflow_sub-m : goal.overflow_sub-m

@@ -1,6 +1,5 @@
 -- ref_mark: one cell more, or 33.
-use Rattle.commands.proofs.declaration_laws.RefLaws.{value_there, ref_withheld, cell_fits, ref_made}
-use borrow.Author.Rules.{rules}
+use Rattle.commands.proofs.declaration_laws.RefLaws.{value_there, ref_withheld, ref_made}
 use Rattle.commands.proofs.marks.ref_mark.Goals as goal
 
 pub returns-then-cell-eq-MOST_CELLS : goal.returns-then-cell-eq-MOST_CELLS

@@ -1,7 +1,6 @@
 -- assign: the name, the value, the mark.
 use native.Mathlib.Omega.{arith}
 use Rattle.commands.proofs.command_laws.CommandLaws.{command_low, assign_steps}
-use borrow.Author.Rules.{rules}
 use Rattle.commands.proofs.nodes.assign.Goals as goal
 
 pub operand-name-requires : goal.operand-name-requires

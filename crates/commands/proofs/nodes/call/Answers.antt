@@ -1,10 +1,9 @@
 -- call: the mark, then one actual after the other.
 use mathlib.Core.Path.{◌∙◌}
 use native.Mathlib.Omega.{arith}
-use borrow.Author.Rules.{rules}
-use Rattle.machine.proofs.stack_laws.RoomLaws.{room_for, was_put}
+use Rattle.machine.proofs.stack_laws.RoomLaws.{was_put}
 use Rattle.commands.proofs.command_laws.CommandLaws.{command_low}
-use Rattle.commands.proofs.command_laws.CallLaws.{operand_low, call_withheld, Goes, goes_first, goes_again, room_left, actual_low, same_size, begun, first_room, call_made}
+use Rattle.commands.proofs.command_laws.CallLaws.{operand_low, call_withheld, goes_first, goes_again, actual_low, same_size, begun, first_room, call_made}
 use Rattle.commands.proofs.nodes.call.Goals as goal
 
 pub operand-word-requires : goal.operand-word-requires
@@ -27,9 +26,9 @@ overflow_add-word c = record { fits = omega (arith, operand_low _ _ _ _ c.operan
 
 pub put_control-machine-requires : goal.put_control-machine-requires
 put_control-machine-requires c = record {
-      fits = c.requires.2.ready.fits;
-      control_lt_most_control_entries = omega (arith, c.if-m-count-gt-MOST_CONTROL_ENTRIES.false);
-    }
+  fits = c.requires.2.ready.fits;
+  control_lt_most_control_entries = omega (arith, c.if-m-count-gt-MOST_CONTROL_ENTRIES.false);
+}
 
 pub overflow_add-at : goal.overflow_add-at
 overflow_add-at c = record { fits = omega (arith, command_low _ _ _ _ c.requires.2) }

@@ -1,10 +1,5 @@
 -- call: the mark, then one actual after the other.
-use mathlib.Core.Path.{◌∙◌}
-use native.Mathlib.Omega.{arith}
-use borrow.Author.Rules.{rules}
-use Rattle.machine.proofs.stack_laws.RoomLaws.{room_for, was_put}
-use Rattle.commands.proofs.command_laws.CommandLaws.{command_low}
-use Rattle.commands.proofs.command_laws.CallLaws.{operand_low, call_withheld, Goes, goes_first, goes_again, room_left, actual_low, same_size, begun, first_room, call_made}
+use Rattle.commands.proofs.command_laws.CallLaws.{Goes}
 use Rattle.commands.proofs.nodes.call.Given as goal
 
 abbrev pub invariant-loop-left : goal.invariant-loop-left

@@ -1,8 +1,8 @@
 -- command_rule: the rule by the kind.
+use native.Mathlib.Omega.{arith}
 use Rattle.rules.specs.paper.Tree.{Assign, Loop, CSeq, block, Blk, Call, Cond}
 use Rattle.rules.specs.paper.States.{command}
 use Rattle.commands.proofs.command_laws.KindLaws.{asked, arm, assign_there, loop_there, sequence_there, block_there, conditional_there, call_there}
-use borrow.Author.Rules.{rules}
 use Rattle.commands.proofs.nodes.command_rule.Goals as goal
 
 pub assign-requires : goal.assign-requires
@@ -24,7 +24,7 @@ conditional-requires c =
 
 pub call-requires : goal.call-requires
 call-requires c =
-    asked command _ _ _ (Call _) (λ d a. call_there _ _ _ _ c.requires.which_value d a c.in_default.in_default-own.rest.0.0.0.0.1 c.in_default.in_default-own.rest.0.0.0.1 c.in_default.in_default-own.rest.0.0.1 c.in_default.in_default-own.rest.0.1 c.in_default.in_default-own.rest.1) c.requires.applicable
+    asked command _ _ _ (Call _) (λ d a. call_there _ _ _ _ c.requires.which_value d a (omega arith) (omega arith) (omega arith) (omega arith) (omega arith)) c.requires.applicable
 
 pub returns-in-20 : goal.returns-in-20
 returns-in-20 c = arm command _ _ _ (Assign _) (λ d a. assign_there _ _ _ _ c.requires.which_value d a c.in-20.is) _ _ c.assign.ensures
@@ -44,4 +44,4 @@ returns-in-25 c =
 
 pub returns-in_default : goal.returns-in_default
 returns-in_default c =
-    arm command _ _ _ (Call _) (λ d a. call_there _ _ _ _ c.requires.which_value d a c.in_default.in_default-own.rest.0.0.0.0.1 c.in_default.in_default-own.rest.0.0.0.1 c.in_default.in_default-own.rest.0.0.1 c.in_default.in_default-own.rest.0.1 c.in_default.in_default-own.rest.1) _ _ c.call.ensures
+    arm command _ _ _ (Call _) (λ d a. call_there _ _ _ _ c.requires.which_value d a (omega arith) (omega arith) (omega arith) (omega arith) (omega arith)) _ _ c.call.ensures

@@ -1,7 +1,6 @@
 -- repeat: the Loop itself, the test, the mark.
 use native.Mathlib.Omega.{arith}
 use Rattle.commands.proofs.command_laws.CommandLaws.{command_low, loop_steps}
-use borrow.Author.Rules.{rules}
 use Rattle.commands.proofs.nodes.repeat.Goals as goal
 
 pub overflow_add-node : goal.overflow_add-node

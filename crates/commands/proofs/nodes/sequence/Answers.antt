@@ -1,7 +1,6 @@
 -- sequence: both commands.
 use native.Mathlib.Omega.{arith}
 use Rattle.commands.proofs.command_laws.CommandLaws.{command_low, sequence_low, sequence_steps}
-use borrow.Author.Rules.{rules}
 use Rattle.commands.proofs.nodes.sequence.Goals as goal
 
 pub overflow_add-node : goal.overflow_add-node

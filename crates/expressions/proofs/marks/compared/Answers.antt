@@ -1,6 +1,5 @@
 -- compared: by the order's number.
 use Rattle.expressions.proofs.operator_laws.OperatorNumberLaws.{is_below, is_at_most, is_above, is_at_least}
-use borrow.Author.Rules.{rules}
 use Rattle.expressions.proofs.marks.compared.Goals as goal
 
 pub returns-then-which-eq-LT_MARK : goal.returns-then-which-eq-LT_MARK

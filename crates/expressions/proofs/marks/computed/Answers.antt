@@ -1,6 +1,5 @@
 -- computed: by the operator's number.
 use Rattle.expressions.proofs.operator_laws.OperatorNumberLaws.{is_sum, is_difference, is_product, is_quotient}
-use borrow.Author.Rules.{rules}
 use Rattle.expressions.proofs.marks.computed.Goals as goal
 
 pub returns-then-which-eq-SUM_MARK : goal.returns-then-which-eq-SUM_MARK

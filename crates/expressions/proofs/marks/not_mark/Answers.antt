@@ -1,6 +1,5 @@
 -- not_mark: the other truth in place of one.
 use Rattle.expressions.proofs.operator_laws.OperatorLaws.{truth_there, not_made}
-use borrow.Author.Rules.{rules}
 use Rattle.expressions.proofs.marks.not_mark.Goals as goal
 
 pub overflow_sub-m : goal.overflow_sub-m

@@ -1,7 +1,6 @@
 -- operator_mark: the word says the operator's class.
 use Rattle.rules.specs.paper.Tree.{arithmetic, order, logic}
 use Rattle.expressions.proofs.operator_laws.OperatorClassLaws.{is_arithmetic, is_order, is_logic, class_needs, class_steps, equal_needs, equal_steps}
-use borrow.Author.Rules.{rules}
 use Rattle.expressions.proofs.marks.operator_mark.Goals as goal
 
 pub arithmetic_mark-requires : goal.arithmetic_mark-requires

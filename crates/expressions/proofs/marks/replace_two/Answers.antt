@@ -1,6 +1,5 @@
 -- replace_two: one value in place of two.
 use Rattle.expressions.proofs.operator_laws.OperatorLaws.{replaced}
-use borrow.Author.Rules.{rules}
 use Rattle.expressions.proofs.marks.replace_two.Goals as goal
 
 pub returns : goal.returns

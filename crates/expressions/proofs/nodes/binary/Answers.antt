@@ -2,7 +2,6 @@
 use native.Mathlib.Omega.{arith}
 use Rattle.reader.proofs.StandingLaws.{operator_below}
 use Rattle.expressions.proofs.expression_laws.ExpressionLaws.{applicable_low, operand_within, binary_steps}
-use borrow.Author.Rules.{rules}
 use Rattle.expressions.proofs.nodes.binary.Goals as goal
 
 pub overflow_add-node : goal.overflow_add-node

@@ -2,7 +2,6 @@
 use native.Mathlib.Omega.{arith}
 use Rattle.expressions.proofs.expression_laws.ExpressionLaws.{applicable_within}
 use Rattle.expressions.proofs.expression_laws.NameLaws.{by_deref, name_bound, name_row_low, deref_steps}
-use borrow.Author.Rules.{rules}
 use Rattle.expressions.proofs.nodes.deref.Goals as goal
 
 pub operand-name-requires : goal.operand-name-requires
@@ -10,9 +9,9 @@ operand-name-requires c = applicable_within _ _ _ _ c.requires.1
 
 pub row_of-row-requires : goal.row_of-row-requires
 row_of-row-requires c = record {
-      fits = c.requires.1.ready.fits;
-      binds_name = name_bound _ _ _ _ c.operand-name.ensures _ _ by_deref c.requires.1;
-    }
+  fits = c.requires.1.ready.fits;
+  binds_name = name_bound _ _ _ _ c.operand-name.ensures _ _ by_deref c.requires.1;
+}
 
 pub overflow_add-bound : goal.overflow_add-bound
 overflow_add-bound c =

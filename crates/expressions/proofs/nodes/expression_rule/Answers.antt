@@ -22,7 +22,7 @@ pub valref-requires : goal.valref-requires
 valref-requires c = some_valref _ _ _ _ c.requires.which_value c.in-17.is c.requires.applicable
 
 pub binary-requires : goal.binary-requires
-binary-requires c = some_binary _ _ _ _ c.requires.which_value c.in_default.in_default-own.rest c.requires.applicable
+binary-requires c = some_binary _ _ _ _ c.requires.which_value (search rules) c.requires.applicable
 
 pub returns-in-1 : goal.returns-in-1
 returns-in-1 c =
@@ -50,4 +50,4 @@ returns-in-17 c =
 
 pub returns-in_default : goal.returns-in_default
 returns-in_default c =
-    all_binary _ _ _ _ c.requires.which_value _ _ c.in_default.in_default-own.rest c.binary.ensures
+    all_binary _ _ _ _ c.requires.which_value _ _ (search rules) c.binary.ensures

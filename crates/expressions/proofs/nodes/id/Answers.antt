@@ -2,7 +2,6 @@
 use native.Mathlib.Omega.{arith}
 use Rattle.expressions.proofs.expression_laws.ExpressionLaws.{applicable_within}
 use Rattle.expressions.proofs.expression_laws.NameLaws.{by_id, name_bound, name_row_low, id_cell_low, id_plain_steps, id_cell_steps}
-use borrow.Author.Rules.{rules}
 use Rattle.expressions.proofs.nodes.id.Goals as goal
 
 pub operand-name-requires : goal.operand-name-requires
@@ -10,9 +9,9 @@ operand-name-requires c = applicable_within _ _ _ _ c.requires.1
 
 pub row_of-row-requires : goal.row_of-row-requires
 row_of-row-requires c = record {
-      fits = c.requires.1.ready.fits;
-      binds_name = name_bound _ _ _ _ c.operand-name.ensures _ _ by_id c.requires.1;
-    }
+  fits = c.requires.1.ready.fits;
+  binds_name = name_bound _ _ _ _ c.operand-name.ensures _ _ by_id c.requires.1;
+}
 
 pub overflow_add-bound : goal.overflow_add-bound
 overflow_add-bound c =
@@ -44,15 +43,15 @@ returns-then-work-row-eq0 c =
 
 pub cell_label-label-requires : goal.cell_label-label-requires
 cell_label-label-requires c = record {
-      work_words_in_bounds = c.requires.1.ready.fits.room;
-      at_lt_most_cells = id_cell_low _ _ _ _ c.operand-name.ensures _ c.row_of-row.ensures _ c.requires.1 c.if-work-row-eq0.false;
-    }
+  work_words_in_bounds = c.requires.1.ready.fits.room;
+  at_lt_most_cells = id_cell_low _ _ _ _ c.operand-name.ensures _ c.row_of-row.ensures _ c.requires.1 c.if-work-row-eq0.false;
+}
 
 pub cell_payload-payload-requires : goal.cell_payload-payload-requires
 cell_payload-payload-requires c = record {
-      work_words_in_bounds = c.requires.1.ready.fits.room;
-      at_lt_most_cells = id_cell_low _ _ _ _ c.operand-name.ensures _ c.row_of-row.ensures _ c.requires.1 c.if-work-row-eq0.false;
-    }
+  work_words_in_bounds = c.requires.1.ready.fits.room;
+  at_lt_most_cells = id_cell_low _ _ _ _ c.operand-name.ensures _ c.row_of-row.ensures _ c.requires.1 c.if-work-row-eq0.false;
+}
 
 pub returns : goal.returns
 returns c =

@@ -1,7 +1,6 @@
 -- negation: the operand stands after its node.
 use native.Mathlib.Omega.{arith}
 use Rattle.expressions.proofs.expression_laws.ExpressionLaws.{applicable_low, negation_steps}
-use borrow.Author.Rules.{rules}
 use Rattle.expressions.proofs.nodes.negation.Goals as goal
 
 pub overflow_add-node : goal.overflow_add-node

@@ -1,6 +1,5 @@
 -- number: the operand is the integer.
 use Rattle.expressions.proofs.expression_laws.ExpressionLaws.{applicable_within, number_steps}
-use borrow.Author.Rules.{rules}
 use Rattle.expressions.proofs.nodes.number.Goals as goal
 
 pub operand-value-requires : goal.operand-value-requires

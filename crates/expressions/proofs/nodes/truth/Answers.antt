@@ -1,6 +1,5 @@
 -- truth: the operand is the truth's word.
 use Rattle.expressions.proofs.expression_laws.ExpressionLaws.{applicable_within, truth_steps}
-use borrow.Author.Rules.{rules}
 use Rattle.expressions.proofs.nodes.truth.Goals as goal
 
 pub operand-value-requires : goal.operand-value-requires
