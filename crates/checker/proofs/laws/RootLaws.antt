@@ -9,8 +9,7 @@ use Rattle.rules.specs.paper.Tree as Tree
 use Rattle.rules.specs.paper.Limits.{codes}
 use Rattle.rules.specs.paper.Checker.{Judged, fault, fine, ◌>>=◌, Passed, expression_of_code, a_command, register_scope, root_is, expression_code, command_ok}
 use Rattle.reader.specs.Pack.{packed_kind}
-use Rattle.reader.specs.Stored.{kind_is, StoredExpression, StoredBlock, StoredCommand, StoredRoot, root_expression, root_command, root_absent, RootAt}
-use Rattle.reader.specs.Stored as Stored
+use Rattle.reader.specs.Stored.{StoredRoot, root_expression, root_command, root_absent, RootAt}
 use Rattle.reader.specs.StandingLaws.{absent_root}
 use Rattle.reader.specs.KindTrees.{stored_expression_kind, stored_command_kind}
 use Rattle.typing.specs.Rows.{ScopeAt, no_rows}
