@@ -9,11 +9,9 @@ use Rattle.rules.specs.paper.Tree as Tree
 use Rattle.rules.specs.paper.Limits.{codes}
 use Rattle.rules.specs.paper.Checker.{Judged, fault, fine, ◌>>=◌, Passed, expression_of_code, a_command, register_scope, root_is, expression_code, command_ok}
 use Rattle.reader.specs.Pack.{packed_kind}
-use Rattle.reader.specs.Stored.{StoredExpression, StoredBlock, StoredCommand, StoredRoot, root_expression, root_command, root_absent, RootAt}
-use Rattle.reader.proofs.StoredFields.{kind_is}
-use Rattle.reader.specs.Stored as Stored
-use Rattle.reader.proofs.StandingLaws.{absent_root}
-use Rattle.reader.proofs.KindTrees.{stored_expression_kind, stored_command_kind}
+use Rattle.reader.specs.Stored.{StoredRoot, root_expression, root_command, root_absent, RootAt}
+use Rattle.reader.specs.StandingLaws.{absent_root}
+use Rattle.reader.specs.KindTrees.{stored_expression_kind, stored_command_kind}
 use Rattle.typing.specs.Rows.{ScopeAt, no_rows}
 use Rattle.typing.specs.Answers.{code_answer, fine_answer, ExpressionAt, ExpressionJudgedAt}
 use Rattle.checker.specs.Commands.{CommandAt, CommandJudgedAt, command_number, root_number, root_answer, RootJudgedAt}

@@ -1,10 +1,8 @@
 -- The first work words become 0 one by one.
-use Prim.Native.Nat.{◌-◌, ◌≤◌}
-use mathlib.Core.Path.{◌≡◌, refl, ap, ◌∙◌}
+use mathlib.Core.Path.{refl, ap, ◌∙◌}
 use native.Mathlib.Omega.{arith}
 use lib.ListN.{length}
-use Rattle.rules.specs.paper.Limits.{work_words}
-use Rattle.loader.proofs.ClearLaws.{zeroed, zero_step, zeroed_length, all_zeroed}
+use Rattle.loader.proofs.ClearLaws.{zero_step, zeroed_length, all_zeroed}
 use Rattle.loader.proofs.clear.Goals as goal
 
 pub loop-i-init : goal.loop-i-init

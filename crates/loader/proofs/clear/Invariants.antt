@@ -1,10 +1,8 @@
 -- The first work words become 0 one by one.
 use Prim.Native.Nat.{◌-◌, ◌≤◌}
-use mathlib.Core.Path.{◌≡◌, refl, ap, ◌∙◌}
-use native.Mathlib.Omega.{arith}
-use lib.ListN.{length}
+use mathlib.Core.Path.{◌≡◌}
 use Rattle.rules.specs.paper.Limits.{work_words}
-use Rattle.loader.proofs.ClearLaws.{zeroed, zero_step, zeroed_length, all_zeroed}
+use Rattle.loader.proofs.ClearLaws.{zeroed}
 use Rattle.loader.proofs.clear.Given as goal
 
 abbrev pub invariant-loop-i : goal.invariant-loop-i

@@ -1,7 +1,6 @@
 -- The shape first, then scope and types of the tree that was read.
 use native.Mathlib.Omega.{arith}
 use Rattle.loader.proofs.LoadLaws.{shape_refused, tree_read, root_passes, root_refused}
-use borrow.Author.Rules.{rules}
 use Rattle.loader.proofs.load.Goals as goal
 
 pub root-judged-requires : goal.root-judged-requires

@@ -1,8 +1,6 @@
--- The answers of the functions of the cycle: each judges what the rules judge of the node.
-use Prim.Native.Nat.{◌-◌, ℕ}
+-- The cycle of calls {block, bound, command, conditional, declaration}: each answers what the rules judge of the node.
 use native.Mathlib.Omega.{arith}
 use mathlib.Core.Path.{◌∙◌, sym, subst}
-use borrow.Author.Rules.{rules}
 use Rattle.checker.proofs.laws.commands.BlockLaws.{block_parts, block_first_low, block_fault, block_inside, block_fine}
 use Rattle.checker.proofs.laws.commands.KeptLaws.{kept_then, kept_lower, kept_nothing, kept_command, kept_scope, kept_end}
 use mathlib.Core.List.{[]}
@@ -16,7 +14,8 @@ use lib.ListN.{length-set}
 use Rattle.checker.proofs.laws.declarations.DeclarationLaws.{declaration_low, first_declaration, first_declaration_low, sequence_first_fault, second_scope, second_declaration, second_after, second_scope_low, sequence_second_fault, sequence_kept, first_rows, second_rows, sequence_repeated, sequence_fine, bind_child, bind_low, bind_name, bind_fault, bind_number, bind_kept, bind_fine}
 use Rattle.checker.proofs.commands.+judgement.Goals as goal
 
--- block
+-- ---- `block`: a declaration, then a command in the scope with the names that this gives.
+
 pub block-overflow_add-node : goal.block-overflow_add-node
 block-overflow_add-node t c =
     record { fits = omega (arith, block_first_low _ _ c.requires.block_at) }
@@ -28,9 +27,9 @@ block-declaration-declared-requires t c =
 
 pub block-returns-in_default : goal.block-returns-in_default
 block-returns-in_default t c = record {
-      block_judged_at = block_fault _ _ _ _ _ _ c.declaration-declared.ensures.declaration_judged_at _ _ c.in_default.is;
-      writes_rows_from = kept_lower c.declaration-declared.ensures.writes_rows_from (omega arith);
-    }
+  block_judged_at = block_fault _ _ _ _ _ _ c.declaration-declared.ensures.declaration_judged_at _ _ c.in_default.is;
+  writes_rows_from = kept_lower c.declaration-declared.ensures.writes_rows_from (omega arith);
+}
 
 pub block-overflow_add-node-2 : goal.block-overflow_add-node-2
 block-overflow_add-node-2 t c =
@@ -52,7 +51,8 @@ block-returns t c =
       writes_rows_from = kept_then (kept_lower c.declaration-declared.ensures.writes_rows_from (omega arith)) c.command-body.ensures.writes_rows_from (omega (arith, inside.1));
     }
 
--- bound
+-- ---- `bound`: a Ref, an Abs, or an expression.
+
 pub bound-kind-which-requires : goal.bound-kind-which-requires
 bound-kind-which-requires t c =
     omega (arith, bound_low c.requires.bound_at.1, c.requires.rows_end_in_bounds)
@@ -63,25 +63,25 @@ bound-overflow_add-node t c =
 
 pub bound-expression-value-requires : goal.bound-expression-value-requires
 bound-expression-value-requires t c = record {
-      rows_end_in_bounds = c.requires.rows_end_in_bounds;
-      scope_at = c.requires.scope_at;
-      expression_at = ref_child c.args.work.now c.args.registers c.args.scope c.args.node _ c.kind-which.ensures c.if-which-eq-REF.true c.requires.bound_at;
-    }
+  rows_end_in_bounds = c.requires.rows_end_in_bounds;
+  scope_at = c.requires.scope_at;
+  expression_at = ref_child c.args.work.now c.args.registers c.args.scope c.args.node _ c.kind-which.ensures c.if-which-eq-REF.true c.requires.bound_at;
+}
 
 pub bound-returns-in_default : goal.bound-returns-in_default
 bound-returns-in_default t c = record {
-      bound_judged_at = ref_fault c.args.work.now c.args.registers c.args.scope c.args.node _ c.kind-which.ensures c.if-which-eq-REF.true _ c.expression-value.ensures _ _ c.in_default.is;
-      writes_rows_from = kept_nothing c.args.work.now c.args.node;
-    }
+  bound_judged_at = ref_fault c.args.work.now c.args.registers c.args.scope c.args.node _ c.kind-which.ensures c.if-which-eq-REF.true _ c.expression-value.ensures _ _ c.in_default.is;
+  writes_rows_from = kept_nothing c.args.work.now c.args.node;
+}
 
 pub bound-location_code-requires : goal.bound-location_code-requires
 bound-location_code-requires t c = tt
 
 pub bound-returns-then-which-eq-REF : goal.bound-returns-then-which-eq-REF
 bound-returns-then-which-eq-REF t c = record {
-      bound_judged_at = ref_fine c.args.work.now c.args.registers c.args.scope c.args.node _ c.kind-which.ensures c.if-which-eq-REF.true _ c.expression-value.ensures _ _ c.in-Is.is c.location_code.ensures;
-      writes_rows_from = kept_nothing c.args.work.now c.args.node;
-    }
+  bound_judged_at = ref_fine c.args.work.now c.args.registers c.args.scope c.args.node _ c.kind-which.ensures c.if-which-eq-REF.true _ c.expression-value.ensures _ _ c.in-Is.is c.location_code.ensures;
+  writes_rows_from = kept_nothing c.args.work.now c.args.node;
+}
 
 pub bound-operand-count-requires : goal.bound-operand-count-requires
 bound-operand-count-requires t c =
@@ -105,9 +105,9 @@ bound-shape_of-work-in_default-parameters t c = c.formals-parameters.auto.work
 
 pub bound-returns-in_default-parameters : goal.bound-returns-in_default-parameters
 bound-returns-in_default-parameters t c = record {
-      bound_judged_at = abs_formals_fault c.args.work.now c.args.registers c.args.scope c.args.node _ c.kind-which.ensures c.if-which-eq-ABS.true c.operand-count.result c.operand-count.ensures c.formals-parameters.new.work c.formals-parameters.result c.formals-parameters.ensures.formals_judged_at _ _ c.in_default-parameters.is;
-      writes_rows_from = kept_lower c.formals-parameters.ensures.writes_rows_from (omega arith);
-    }
+  bound_judged_at = abs_formals_fault c.args.work.now c.args.registers c.args.scope c.args.node _ c.kind-which.ensures c.if-which-eq-ABS.true c.operand-count.result c.operand-count.ensures c.formals-parameters.new.work c.formals-parameters.result c.formals-parameters.ensures.formals_judged_at _ _ c.in_default-parameters.is;
+  writes_rows_from = kept_lower c.formals-parameters.ensures.writes_rows_from (omega arith);
+}
 
 pub bound-overflow_add-node-then-which-eq-ABS-2 : goal.bound-overflow_add-node-then-which-eq-ABS-2
 bound-overflow_add-node-then-which-eq-ABS-2 t c =
@@ -141,9 +141,9 @@ bound-shape_of-work-in_default-body t c =
 
 pub bound-returns-in_default-body : goal.bound-returns-in_default-body
 bound-returns-in_default-body t c = record {
-      bound_judged_at = abs_body_fault c.args.work.now c.args.registers c.args.scope c.args.node _ c.kind-which.ensures c.if-which-eq-ABS.true c.operand-count.result c.operand-count.ensures c.formals-parameters.new.work c.formals-parameters.result c.formals-parameters.ensures.formals_judged_at c.in-Is-parameters.inner c.in-Is-parameters.is c.formals-parameters.ensures.writes_rows_from c.requires.scope_le_node c.block-body.result c.block-body.ensures.block_judged_at _ _ c.in_default-body.is;
-      writes_rows_from = abs_kept c.args.work.now c.args.registers c.args.scope c.args.node _ c.kind-which.ensures c.if-which-eq-ABS.true c.operand-count.result c.operand-count.ensures c.formals-parameters.new.work c.formals-parameters.result c.formals-parameters.ensures.formals_judged_at c.in-Is-parameters.inner c.in-Is-parameters.is c.formals-parameters.ensures.writes_rows_from c.requires.scope_le_node c.block-body.result c.block-body.ensures.block_judged_at _ c.block-body.ensures.writes_rows_from;
-    }
+  bound_judged_at = abs_body_fault c.args.work.now c.args.registers c.args.scope c.args.node _ c.kind-which.ensures c.if-which-eq-ABS.true c.operand-count.result c.operand-count.ensures c.formals-parameters.new.work c.formals-parameters.result c.formals-parameters.ensures.formals_judged_at c.in-Is-parameters.inner c.in-Is-parameters.is c.formals-parameters.ensures.writes_rows_from c.requires.scope_le_node c.block-body.result c.block-body.ensures.block_judged_at _ _ c.in_default-body.is;
+  writes_rows_from = abs_kept c.args.work.now c.args.registers c.args.scope c.args.node _ c.kind-which.ensures c.if-which-eq-ABS.true c.operand-count.result c.operand-count.ensures c.formals-parameters.new.work c.formals-parameters.result c.formals-parameters.ensures.formals_judged_at c.in-Is-parameters.inner c.in-Is-parameters.is c.formals-parameters.ensures.writes_rows_from c.requires.scope_le_node c.block-body.result c.block-body.ensures.block_judged_at _ c.block-body.ensures.writes_rows_from;
+}
 
 pub bound-shape_of-work-then-which-eq-ABS : goal.bound-shape_of-work-then-which-eq-ABS
 bound-shape_of-work-then-which-eq-ABS t c =
@@ -151,40 +151,41 @@ bound-shape_of-work-then-which-eq-ABS t c =
 
 pub bound-returns-then-which-eq-ABS : goal.bound-returns-then-which-eq-ABS
 bound-returns-then-which-eq-ABS t c = record {
-      bound_judged_at = abs_body_fine c.args.work.now c.args.registers c.args.scope c.args.node _ c.kind-which.ensures c.if-which-eq-ABS.true c.operand-count.result c.operand-count.ensures c.formals-parameters.new.work c.formals-parameters.result c.formals-parameters.ensures.formals_judged_at c.in-Is-parameters.inner c.in-Is-parameters.is c.formals-parameters.ensures.writes_rows_from c.requires.scope_le_node c.block-body.result c.block-body.ensures.block_judged_at _ c.in-Is-body.is;
-      writes_rows_from = abs_kept c.args.work.now c.args.registers c.args.scope c.args.node _ c.kind-which.ensures c.if-which-eq-ABS.true c.operand-count.result c.operand-count.ensures c.formals-parameters.new.work c.formals-parameters.result c.formals-parameters.ensures.formals_judged_at c.in-Is-parameters.inner c.in-Is-parameters.is c.formals-parameters.ensures.writes_rows_from c.requires.scope_le_node c.block-body.result c.block-body.ensures.block_judged_at _ c.block-body.ensures.writes_rows_from;
-    }
+  bound_judged_at = abs_body_fine c.args.work.now c.args.registers c.args.scope c.args.node _ c.kind-which.ensures c.if-which-eq-ABS.true c.operand-count.result c.operand-count.ensures c.formals-parameters.new.work c.formals-parameters.result c.formals-parameters.ensures.formals_judged_at c.in-Is-parameters.inner c.in-Is-parameters.is c.formals-parameters.ensures.writes_rows_from c.requires.scope_le_node c.block-body.result c.block-body.ensures.block_judged_at _ c.in-Is-body.is;
+  writes_rows_from = abs_kept c.args.work.now c.args.registers c.args.scope c.args.node _ c.kind-which.ensures c.if-which-eq-ABS.true c.operand-count.result c.operand-count.ensures c.formals-parameters.new.work c.formals-parameters.result c.formals-parameters.ensures.formals_judged_at c.in-Is-parameters.inner c.in-Is-parameters.is c.formals-parameters.ensures.writes_rows_from c.requires.scope_le_node c.block-body.result c.block-body.ensures.block_judged_at _ c.block-body.ensures.writes_rows_from;
+}
 
 pub bound-expression-value-requires-2 : goal.bound-expression-value-requires-2
 bound-expression-value-requires-2 t c = record {
-      rows_end_in_bounds = c.requires.rows_end_in_bounds;
-      scope_at = c.requires.scope_at;
-      expression_at = plain_there c.args.work.now c.args.registers c.args.scope c.args.node _ c.kind-which.ensures c.if-which-eq-REF.false c.if-which-eq-ABS.false c.requires.bound_at;
-    }
+  rows_end_in_bounds = c.requires.rows_end_in_bounds;
+  scope_at = c.requires.scope_at;
+  expression_at = plain_there c.args.work.now c.args.registers c.args.scope c.args.node _ c.kind-which.ensures c.if-which-eq-REF.false c.if-which-eq-ABS.false c.requires.bound_at;
+}
 
 pub bound-returns : goal.bound-returns
 bound-returns t c = record {
-      bound_judged_at = λ tree Γ at s. c.anew.ensures ∙ plain_means c.args.work.now c.args.registers c.args.scope c.args.node _ c.kind-which.ensures c.if-which-eq-REF.false c.if-which-eq-ABS.false _ c.expression-value-2.ensures tree Γ at s;
-      writes_rows_from = kept_nothing c.args.work.now c.args.node;
-    }
+  bound_judged_at = λ tree Γ at s. c.anew.ensures ∙ plain_means c.args.work.now c.args.registers c.args.scope c.args.node _ c.kind-which.ensures c.if-which-eq-REF.false c.if-which-eq-ABS.false _ c.expression-value-2.ensures tree Γ at s;
+  writes_rows_from = kept_nothing c.args.work.now c.args.node;
+}
 
--- command
+-- ---- `command`: each kind of command in turn.
+
 pub command-kind-which-requires : goal.command-kind-which-requires
 command-kind-which-requires t c =
     omega (arith, command_low c.requires.command_at.1.stored, c.requires.rows_end_in_bounds)
 
 pub command-assignment-requires : goal.command-assignment-requires
 command-assignment-requires t c = record {
-      rows_end_in_bounds = c.requires.rows_end_in_bounds;
-      scope_at = c.requires.scope_at;
-      by_index = assign_there _ _ _ c.kind-which.ensures c.if-which-eq-ASSIGN.true c.requires.command_at;
-    }
+  rows_end_in_bounds = c.requires.rows_end_in_bounds;
+  scope_at = c.requires.scope_at;
+  by_index = assign_there _ _ _ c.kind-which.ensures c.if-which-eq-ASSIGN.true c.requires.command_at;
+}
 
 pub command-returns-then-which-eq-ASSIGN : goal.command-returns-then-which-eq-ASSIGN
 command-returns-then-which-eq-ASSIGN t c = record {
-      command_judged_at = command_assign _ _ _ _ _ c.kind-which.ensures _ c.if-which-eq-ASSIGN.true c.assignment.ensures;
-      writes_rows_from = kept_nothing _ _;
-    }
+  command_judged_at = command_assign _ _ _ _ _ c.kind-which.ensures _ c.if-which-eq-ASSIGN.true c.assignment.ensures;
+  writes_rows_from = kept_nothing _ _;
+}
 
 pub command-block-inside-requires : goal.command-block-inside-requires
 command-block-inside-requires t c =
@@ -192,22 +193,22 @@ command-block-inside-requires t c =
 
 pub command-returns-then-which-eq-BLK : goal.command-returns-then-which-eq-BLK
 command-returns-then-which-eq-BLK t c = record {
-      command_judged_at = λ tree Γ at s. c.anew.ensures ∙ command_block _ _ _ _ _ c.kind-which.ensures _ c.if-which-eq-BLK.true c.block-inside.ensures.block_judged_at tree Γ at s;
-      writes_rows_from = c.block-inside.ensures.writes_rows_from;
-    }
+  command_judged_at = λ tree Γ at s. c.anew.ensures ∙ command_block _ _ _ _ _ c.kind-which.ensures _ c.if-which-eq-BLK.true c.block-inside.ensures.block_judged_at tree Γ at s;
+  writes_rows_from = c.block-inside.ensures.writes_rows_from;
+}
 
 pub command-call-requires : goal.command-call-requires
 command-call-requires t c = record {
-      rows_end_in_bounds = c.requires.rows_end_in_bounds;
-      scope_at = c.requires.scope_at;
-      by_index = call_there _ _ _ c.kind-which.ensures c.if-which-eq-CALL.true c.requires.command_at;
-    }
+  rows_end_in_bounds = c.requires.rows_end_in_bounds;
+  scope_at = c.requires.scope_at;
+  by_index = call_there _ _ _ c.kind-which.ensures c.if-which-eq-CALL.true c.requires.command_at;
+}
 
 pub command-returns-then-which-eq-CALL : goal.command-returns-then-which-eq-CALL
 command-returns-then-which-eq-CALL t c = record {
-      command_judged_at = command_call _ _ _ _ _ c.kind-which.ensures _ c.if-which-eq-CALL.true c.call.ensures;
-      writes_rows_from = kept_nothing _ _;
-    }
+  command_judged_at = command_call _ _ _ _ _ c.kind-which.ensures _ c.if-which-eq-CALL.true c.call.ensures;
+  writes_rows_from = kept_nothing _ _;
+}
 
 pub command-overflow_add-node : goal.command-overflow_add-node
 command-overflow_add-node t c =
@@ -224,9 +225,9 @@ command-expression-test-requires t c =
 
 pub command-returns-in_default : goal.command-returns-in_default
 command-returns-in_default t c = record {
-      command_judged_at = loop_test_fault _ _ _ _ _ c.kind-which.ensures c.if-which-eq-LOOP.true _ c.expression-test.ensures _ _ c.in_default.is;
-      writes_rows_from = kept_nothing _ _;
-    }
+  command_judged_at = loop_test_fault _ _ _ _ _ c.kind-which.ensures c.if-which-eq-LOOP.true _ c.expression-test.ensures _ _ c.in_default.is;
+  writes_rows_from = kept_nothing _ _;
+}
 
 pub command-overflow_add-node-then-which-eq-LOOP : goal.command-overflow_add-node-then-which-eq-LOOP
 command-overflow_add-node-then-which-eq-LOOP t c =
@@ -240,8 +241,7 @@ command-end-inside-requires t c =
 
 pub command-command-body-requires : goal.command-command-body-requires
 command-command-body-requires t c =
-    let parts = loop_there _ _ _ c.kind-which.ensures c.if-which-eq-LOOP.true c.requires.command_at in
-    (
+    let parts = loop_there _ _ _ c.kind-which.ensures c.if-which-eq-LOOP.true c.requires.command_at in (
       omega (arith, parts.4, c.end-inside.ensures, command_low parts.3.stored, c.decreases),
       (c.requires.rows_end_in_bounds, (omega (arith, c.requires.scope_le_node, parts.4, c.end-inside.ensures), (c.requires.scope_at, (parts.1, subst (λ i. CommandAt c.args.work.now i parts.1) (sym c.end-inside.ensures) parts.3)))),
     )
@@ -266,9 +266,9 @@ command-conditional-judged-requires t c =
 
 pub command-returns-then-which-eq-COND : goal.command-returns-then-which-eq-COND
 command-returns-then-which-eq-COND t c = record {
-      command_judged_at = λ tree Γ at s. c.anew-then-which-eq-COND.ensures ∙ command_conditional _ _ _ _ _ c.kind-which.ensures _ c.if-which-eq-COND.true c.conditional-judged.ensures.conditional_judged_at tree Γ at s;
-      writes_rows_from = c.conditional-judged.ensures.writes_rows_from;
-    }
+  command_judged_at = λ tree Γ at s. c.anew-then-which-eq-COND.ensures ∙ command_conditional _ _ _ _ _ c.kind-which.ensures _ c.if-which-eq-COND.true c.conditional-judged.ensures.conditional_judged_at tree Γ at s;
+  writes_rows_from = c.conditional-judged.ensures.writes_rows_from;
+}
 
 pub command-overflow_add-node-2 : goal.command-overflow_add-node-2
 command-overflow_add-node-2 t c =
@@ -282,9 +282,9 @@ command-command-first-requires t c =
 
 pub command-returns-in_default-first : goal.command-returns-in_default-first
 command-returns-in_default-first t c = record {
-      command_judged_at = commands_fault _ _ _ _ _ c.kind-which.ensures c.if-which-eq-ASSIGN.false c.if-which-eq-BLK.false c.if-which-eq-CALL.false c.if-which-eq-LOOP.false c.if-which-eq-COND.false _ c.command-first.ensures.command_judged_at _ _ c.in_default-first.is;
-      writes_rows_from = kept_lower c.command-first.ensures.writes_rows_from (omega arith);
-    }
+  command_judged_at = commands_fault _ _ _ _ _ c.kind-which.ensures c.if-which-eq-ASSIGN.false c.if-which-eq-BLK.false c.if-which-eq-CALL.false c.if-which-eq-LOOP.false c.if-which-eq-COND.false _ c.command-first.ensures.command_judged_at _ _ c.in_default-first.is;
+  writes_rows_from = kept_lower c.command-first.ensures.writes_rows_from (omega arith);
+}
 
 pub command-overflow_add-node-3 : goal.command-overflow_add-node-3
 command-overflow_add-node-3 t c =
@@ -322,7 +322,8 @@ command-returns t c =
       writes_rows_from = kept_then (kept_lower c.command-first.ensures.writes_rows_from (omega arith)) c.command-second.ensures.writes_rows_from (omega (arith, parts.4, before));
     }
 
--- conditional
+-- ---- `conditional`: the test, then both commands.
+
 pub conditional-overflow_add-node : goal.conditional-overflow_add-node
 conditional-overflow_add-node t c =
     let parts = conditional_parts _ _ _ _ _ c.requires.command_at.3 in
@@ -338,9 +339,9 @@ conditional-expression-test-requires t c =
 
 pub conditional-returns-in_default : goal.conditional-returns-in_default
 conditional-returns-in_default t c = record {
-      conditional_judged_at = conditional_test_fault _ _ _ _ _ c.expression-test.ensures _ _ c.in_default.is;
-      writes_rows_from = kept_nothing _ _;
-    }
+  conditional_judged_at = conditional_test_fault _ _ _ _ _ c.expression-test.ensures _ _ c.in_default.is;
+  writes_rows_from = kept_nothing _ _;
+}
 
 pub conditional-overflow_add-node-2 : goal.conditional-overflow_add-node-2
 conditional-overflow_add-node-2 t c =
@@ -354,8 +355,7 @@ conditional-end-where_true-requires t c =
 
 pub conditional-command-judged-requires : goal.conditional-command-judged-requires
 conditional-command-judged-requires t c =
-    let parts = conditional_parts _ _ _ _ _ c.requires.command_at.3 in
-    (
+    let parts = conditional_parts _ _ _ _ _ c.requires.command_at.3 in (
       omega (arith, parts.first_after, c.end-where_true.ensures, command_low parts.first.stored, c.decreases),
       (c.requires.rows_end_in_bounds, (omega (arith, c.requires.scope_le_node, parts.first_after, c.end-where_true.ensures), (c.requires.scope_at, (c.requires.command_at.1, subst (λ i. CommandAt c.args.work.now i c.requires.command_at.1) (sym c.end-where_true.ensures) parts.first)))),
     )
@@ -407,7 +407,8 @@ conditional-returns t c =
       writes_rows_from = kept_then (kept_lower c.command-judged.ensures.writes_rows_from (omega (arith, parts.first_after, c.end-where_true.ensures))) c.command-judged-2.ensures.writes_rows_from (omega (arith, parts.first_after, parts.second_after, later));
     }
 
--- declaration
+-- ---- `declaration`: a DSeq or a Bind.
+
 pub declaration-kind-which-requires : goal.declaration-kind-which-requires
 declaration-kind-which-requires t c =
     omega (arith, declaration_low c.requires.by_index.2, c.requires.rows_end_in_bounds)
@@ -429,9 +430,9 @@ declaration-shape_of-work-in_default t c = c.declaration-first.auto.work
 
 pub declaration-returns-in_default : goal.declaration-returns-in_default
 declaration-returns-in_default t c = record {
-      declaration_judged_at = sequence_first_fault c.args.work.now c.args.registers c.args.scope c.args.node _ c.kind-which.ensures c.if-which-eq-DSEQ.true c.declaration-first.new.work c.declaration-first.result c.declaration-first.ensures.declaration_judged_at _ _ c.in_default.is;
-      writes_rows_from = kept_lower c.declaration-first.ensures.writes_rows_from (omega arith);
-    }
+  declaration_judged_at = sequence_first_fault c.args.work.now c.args.registers c.args.scope c.args.node _ c.kind-which.ensures c.if-which-eq-DSEQ.true c.declaration-first.new.work c.declaration-first.result c.declaration-first.ensures.declaration_judged_at _ _ c.in_default.is;
+  writes_rows_from = kept_lower c.declaration-first.ensures.writes_rows_from (omega arith);
+}
 
 pub declaration-overflow_add-node-then-which-eq-DSEQ : goal.declaration-overflow_add-node-then-which-eq-DSEQ
 declaration-overflow_add-node-then-which-eq-DSEQ t c =
@@ -465,16 +466,16 @@ declaration-shape_of-work-in_default-second t c =
 
 pub declaration-returns-in_default-second : goal.declaration-returns-in_default-second
 declaration-returns-in_default-second t c = record {
-      declaration_judged_at = sequence_second_fault c.args.work.now c.args.registers c.args.scope c.args.node _ c.kind-which.ensures c.if-which-eq-DSEQ.true c.declaration-first.new.work c.declaration-first.result c.declaration-first.ensures.declaration_judged_at c.in-Is.middle c.end-after.result c.in-Is.is c.declaration-first.ensures.writes_rows_from c.end-after.ensures c.requires.scope_le_node c.declaration-second.new.work c.declaration-second.result c.declaration-second.ensures.declaration_judged_at _ _ c.in_default-second.is;
-      writes_rows_from = sequence_kept c.args.work.now c.args.registers c.args.scope c.args.node _ c.kind-which.ensures c.if-which-eq-DSEQ.true c.declaration-first.new.work c.declaration-first.result c.declaration-first.ensures.declaration_judged_at c.in-Is.middle c.end-after.result c.in-Is.is c.declaration-first.ensures.writes_rows_from c.end-after.ensures c.requires.scope_le_node c.declaration-second.new.work c.declaration-second.result c.declaration-second.ensures.declaration_judged_at c.declaration-second.ensures.writes_rows_from c.requires.by_index;
-    }
+  declaration_judged_at = sequence_second_fault c.args.work.now c.args.registers c.args.scope c.args.node _ c.kind-which.ensures c.if-which-eq-DSEQ.true c.declaration-first.new.work c.declaration-first.result c.declaration-first.ensures.declaration_judged_at c.in-Is.middle c.end-after.result c.in-Is.is c.declaration-first.ensures.writes_rows_from c.end-after.ensures c.requires.scope_le_node c.declaration-second.new.work c.declaration-second.result c.declaration-second.ensures.declaration_judged_at _ _ c.in_default-second.is;
+  writes_rows_from = sequence_kept c.args.work.now c.args.registers c.args.scope c.args.node _ c.kind-which.ensures c.if-which-eq-DSEQ.true c.declaration-first.new.work c.declaration-first.result c.declaration-first.ensures.declaration_judged_at c.in-Is.middle c.end-after.result c.in-Is.is c.declaration-first.ensures.writes_rows_from c.end-after.ensures c.requires.scope_le_node c.declaration-second.new.work c.declaration-second.result c.declaration-second.ensures.declaration_judged_at c.declaration-second.ensures.writes_rows_from c.requires.by_index;
+}
 
 pub declaration-shares_name-repeated-requires : goal.declaration-shares_name-repeated-requires
 declaration-shares_name-repeated-requires t c = record {
-      rows_end_in_bounds = omega (arith, c.declaration-second.auto.work, c.declaration-first.auto.work, c.requires.rows_end_in_bounds);
-      rows = second_rows c.args.work.now c.args.registers c.args.scope c.args.node _ c.kind-which.ensures c.if-which-eq-DSEQ.true c.declaration-first.new.work c.declaration-first.result c.declaration-first.ensures.declaration_judged_at c.in-Is.middle c.end-after.result c.in-Is.is c.declaration-first.ensures.writes_rows_from c.end-after.ensures c.requires.scope_le_node c.declaration-second.new.work c.declaration-second.result c.declaration-second.ensures.declaration_judged_at c.declaration-second.ensures.writes_rows_from c.in-Is-second.newest c.in-Is-second.is c.requires.scope_at c.requires.by_index;
-      rows_2 = first_rows c.args.work.now c.args.registers c.args.scope c.args.node _ c.kind-which.ensures c.if-which-eq-DSEQ.true c.declaration-first.new.work c.declaration-first.result c.declaration-first.ensures.declaration_judged_at c.in-Is.middle c.end-after.result c.in-Is.is c.declaration-first.ensures.writes_rows_from c.end-after.ensures c.requires.scope_le_node c.declaration-second.new.work c.declaration-second.result c.declaration-second.ensures.declaration_judged_at c.declaration-second.ensures.writes_rows_from c.requires.scope_at c.requires.by_index;
-    }
+  rows_end_in_bounds = omega (arith, c.declaration-second.auto.work, c.declaration-first.auto.work, c.requires.rows_end_in_bounds);
+  rows = second_rows c.args.work.now c.args.registers c.args.scope c.args.node _ c.kind-which.ensures c.if-which-eq-DSEQ.true c.declaration-first.new.work c.declaration-first.result c.declaration-first.ensures.declaration_judged_at c.in-Is.middle c.end-after.result c.in-Is.is c.declaration-first.ensures.writes_rows_from c.end-after.ensures c.requires.scope_le_node c.declaration-second.new.work c.declaration-second.result c.declaration-second.ensures.declaration_judged_at c.declaration-second.ensures.writes_rows_from c.in-Is-second.newest c.in-Is-second.is c.requires.scope_at c.requires.by_index;
+  rows_2 = first_rows c.args.work.now c.args.registers c.args.scope c.args.node _ c.kind-which.ensures c.if-which-eq-DSEQ.true c.declaration-first.new.work c.declaration-first.result c.declaration-first.ensures.declaration_judged_at c.in-Is.middle c.end-after.result c.in-Is.is c.declaration-first.ensures.writes_rows_from c.end-after.ensures c.requires.scope_le_node c.declaration-second.new.work c.declaration-second.result c.declaration-second.ensures.declaration_judged_at c.declaration-second.ensures.writes_rows_from c.requires.scope_at c.requires.by_index;
+}
 
 pub declaration-shape_of-work-then-repeated : goal.declaration-shape_of-work-then-repeated
 declaration-shape_of-work-then-repeated t c =
@@ -482,9 +483,9 @@ declaration-shape_of-work-then-repeated t c =
 
 pub declaration-returns-then-repeated : goal.declaration-returns-then-repeated
 declaration-returns-then-repeated t c = record {
-      declaration_judged_at = sequence_repeated c.args.work.now c.args.registers c.args.scope c.args.node _ c.kind-which.ensures c.if-which-eq-DSEQ.true c.declaration-first.new.work c.declaration-first.result c.declaration-first.ensures.declaration_judged_at c.in-Is.middle c.end-after.result c.in-Is.is c.declaration-first.ensures.writes_rows_from c.end-after.ensures c.requires.scope_le_node c.declaration-second.new.work c.declaration-second.result c.declaration-second.ensures.declaration_judged_at c.declaration-second.ensures.writes_rows_from c.in-Is-second.newest c.in-Is-second.is _ c.shares_name-repeated.ensures c.if-repeated.true;
-      writes_rows_from = sequence_kept c.args.work.now c.args.registers c.args.scope c.args.node _ c.kind-which.ensures c.if-which-eq-DSEQ.true c.declaration-first.new.work c.declaration-first.result c.declaration-first.ensures.declaration_judged_at c.in-Is.middle c.end-after.result c.in-Is.is c.declaration-first.ensures.writes_rows_from c.end-after.ensures c.requires.scope_le_node c.declaration-second.new.work c.declaration-second.result c.declaration-second.ensures.declaration_judged_at c.declaration-second.ensures.writes_rows_from c.requires.by_index;
-    }
+  declaration_judged_at = sequence_repeated c.args.work.now c.args.registers c.args.scope c.args.node _ c.kind-which.ensures c.if-which-eq-DSEQ.true c.declaration-first.new.work c.declaration-first.result c.declaration-first.ensures.declaration_judged_at c.in-Is.middle c.end-after.result c.in-Is.is c.declaration-first.ensures.writes_rows_from c.end-after.ensures c.requires.scope_le_node c.declaration-second.new.work c.declaration-second.result c.declaration-second.ensures.declaration_judged_at c.declaration-second.ensures.writes_rows_from c.in-Is-second.newest c.in-Is-second.is _ c.shares_name-repeated.ensures c.if-repeated.true;
+  writes_rows_from = sequence_kept c.args.work.now c.args.registers c.args.scope c.args.node _ c.kind-which.ensures c.if-which-eq-DSEQ.true c.declaration-first.new.work c.declaration-first.result c.declaration-first.ensures.declaration_judged_at c.in-Is.middle c.end-after.result c.in-Is.is c.declaration-first.ensures.writes_rows_from c.end-after.ensures c.requires.scope_le_node c.declaration-second.new.work c.declaration-second.result c.declaration-second.ensures.declaration_judged_at c.declaration-second.ensures.writes_rows_from c.requires.by_index;
+}
 
 pub declaration-shape_of-work-then-which-eq-DSEQ : goal.declaration-shape_of-work-then-which-eq-DSEQ
 declaration-shape_of-work-then-which-eq-DSEQ t c =
@@ -492,9 +493,9 @@ declaration-shape_of-work-then-which-eq-DSEQ t c =
 
 pub declaration-returns-then-which-eq-DSEQ : goal.declaration-returns-then-which-eq-DSEQ
 declaration-returns-then-which-eq-DSEQ t c = record {
-      declaration_judged_at = sequence_fine c.args.work.now c.args.registers c.args.scope c.args.node _ c.kind-which.ensures c.if-which-eq-DSEQ.true c.declaration-first.new.work c.declaration-first.result c.declaration-first.ensures.declaration_judged_at c.in-Is.middle c.end-after.result c.in-Is.is c.declaration-first.ensures.writes_rows_from c.end-after.ensures c.requires.scope_le_node c.declaration-second.new.work c.declaration-second.result c.declaration-second.ensures.declaration_judged_at c.declaration-second.ensures.writes_rows_from c.in-Is-second.newest c.in-Is-second.is _ c.shares_name-repeated.ensures c.if-repeated.false;
-      writes_rows_from = sequence_kept c.args.work.now c.args.registers c.args.scope c.args.node _ c.kind-which.ensures c.if-which-eq-DSEQ.true c.declaration-first.new.work c.declaration-first.result c.declaration-first.ensures.declaration_judged_at c.in-Is.middle c.end-after.result c.in-Is.is c.declaration-first.ensures.writes_rows_from c.end-after.ensures c.requires.scope_le_node c.declaration-second.new.work c.declaration-second.result c.declaration-second.ensures.declaration_judged_at c.declaration-second.ensures.writes_rows_from c.requires.by_index;
-    }
+  declaration_judged_at = sequence_fine c.args.work.now c.args.registers c.args.scope c.args.node _ c.kind-which.ensures c.if-which-eq-DSEQ.true c.declaration-first.new.work c.declaration-first.result c.declaration-first.ensures.declaration_judged_at c.in-Is.middle c.end-after.result c.in-Is.is c.declaration-first.ensures.writes_rows_from c.end-after.ensures c.requires.scope_le_node c.declaration-second.new.work c.declaration-second.result c.declaration-second.ensures.declaration_judged_at c.declaration-second.ensures.writes_rows_from c.in-Is-second.newest c.in-Is-second.is _ c.shares_name-repeated.ensures c.if-repeated.false;
+  writes_rows_from = sequence_kept c.args.work.now c.args.registers c.args.scope c.args.node _ c.kind-which.ensures c.if-which-eq-DSEQ.true c.declaration-first.new.work c.declaration-first.result c.declaration-first.ensures.declaration_judged_at c.in-Is.middle c.end-after.result c.in-Is.is c.declaration-first.ensures.writes_rows_from c.end-after.ensures c.requires.scope_le_node c.declaration-second.new.work c.declaration-second.result c.declaration-second.ensures.declaration_judged_at c.declaration-second.ensures.writes_rows_from c.requires.by_index;
+}
 
 pub declaration-operand-name-requires : goal.declaration-operand-name-requires
 declaration-operand-name-requires t c =
@@ -514,9 +515,9 @@ declaration-shape_of-work-in_default-meant t c = c.bound-meant.auto.work
 
 pub declaration-returns-in_default-meant : goal.declaration-returns-in_default-meant
 declaration-returns-in_default-meant t c = record {
-      declaration_judged_at = bind_fault c.args.work.now c.args.registers c.args.scope c.args.node _ c.kind-which.ensures c.if-which-eq-DSEQ.false c.bound-meant.new.work c.bound-meant.result c.bound-meant.ensures.bound_judged_at _ _ c.in_default-meant.is;
-      writes_rows_from = kept_lower c.bound-meant.ensures.writes_rows_from (omega arith);
-    }
+  declaration_judged_at = bind_fault c.args.work.now c.args.registers c.args.scope c.args.node _ c.kind-which.ensures c.if-which-eq-DSEQ.false c.bound-meant.new.work c.bound-meant.result c.bound-meant.ensures.bound_judged_at _ _ c.in_default-meant.is;
+  writes_rows_from = kept_lower c.bound-meant.ensures.writes_rows_from (omega arith);
+}
 
 pub declaration-row_word-requires : goal.declaration-row_word-requires
 declaration-row_word-requires t c =
@@ -547,6 +548,6 @@ declaration-shape_of-work t c = simp length-set c.bound-meant.auto.work
 
 pub declaration-returns : goal.declaration-returns
 declaration-returns t c = record {
-      declaration_judged_at = bind_fine c.args.work.now c.args.registers c.args.scope c.args.node _ c.kind-which.ensures c.if-which-eq-DSEQ.false c.bound-meant.new.work c.bound-meant.result c.bound-meant.ensures.bound_judged_at c.in-Is-meant.number c.in-Is-meant.is c.bound-meant.ensures.writes_rows_from _ _ c.operand-name.ensures c.row_word.ensures (omega (arith, c.bound-meant.auto.work, c.requires.rows_end_in_bounds)) c.requires.scope_le_node;
-      writes_rows_from = bind_kept c.args.work.now c.args.registers c.args.scope c.args.node _ c.kind-which.ensures c.if-which-eq-DSEQ.false c.bound-meant.new.work c.bound-meant.result c.bound-meant.ensures.bound_judged_at c.in-Is-meant.number c.in-Is-meant.is c.bound-meant.ensures.writes_rows_from _ _ c.operand-name.ensures c.row_word.ensures (omega (arith, c.bound-meant.auto.work, c.requires.rows_end_in_bounds)) c.requires.scope_le_node (declaration_low c.requires.by_index.2);
-    }
+  declaration_judged_at = bind_fine c.args.work.now c.args.registers c.args.scope c.args.node _ c.kind-which.ensures c.if-which-eq-DSEQ.false c.bound-meant.new.work c.bound-meant.result c.bound-meant.ensures.bound_judged_at c.in-Is-meant.number c.in-Is-meant.is c.bound-meant.ensures.writes_rows_from _ _ c.operand-name.ensures c.row_word.ensures (omega (arith, c.bound-meant.auto.work, c.requires.rows_end_in_bounds)) c.requires.scope_le_node;
+  writes_rows_from = bind_kept c.args.work.now c.args.registers c.args.scope c.args.node _ c.kind-which.ensures c.if-which-eq-DSEQ.false c.bound-meant.new.work c.bound-meant.result c.bound-meant.ensures.bound_judged_at c.in-Is-meant.number c.in-Is-meant.is c.bound-meant.ensures.writes_rows_from _ _ c.operand-name.ensures c.row_word.ensures (omega (arith, c.bound-meant.auto.work, c.requires.rows_end_in_bounds)) c.requires.scope_le_node (declaration_low c.requires.by_index.2);
+}

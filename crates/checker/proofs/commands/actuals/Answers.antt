@@ -1,8 +1,7 @@
 -- A Call's actuals one after the other, their codes packed. The loop's measure is how many are left.
 use native.Mathlib.Omega.{arith}
-use borrow.Author.Rules.{rules}
 use Rattle.checker.proofs.laws.commands.PackingLaws.{packed_room}
-use Rattle.checker.proofs.laws.commands.ActualLaws.{first_actual, first_actual_low, actuals_none, actual_fault, actual_code_low, CodedSoFar, none_coded, one_coded}
+use Rattle.checker.proofs.laws.commands.ActualLaws.{first_actual, first_actual_low, actuals_none, actual_fault, actual_code_low, none_coded, one_coded}
 use Rattle.checker.proofs.commands.actuals.Goals as goal
 
 pub loop-left-init : goal.loop-left-init

@@ -1,7 +1,6 @@
 -- Assign: the value, the name, whether it is assignable, and the codes.
 use native.Mathlib.Omega.{arith}
 use Rattle.checker.proofs.laws.commands.AssignLaws.{assign_place, assign_value_fault, assign_name_fault, assign_target_fault, assign_same}
-use borrow.Author.Rules.{rules}
 use Rattle.checker.proofs.commands.assignment.Goals as goal
 
 pub overflow_add-node : goal.overflow_add-node
@@ -9,10 +8,10 @@ overflow_add-node c = record { fits = omega (arith, assign_place c.requires.by_i
 
 pub expression-given-requires : goal.expression-given-requires
 expression-given-requires c = record {
-      rows_end_in_bounds = c.requires.rows_end_in_bounds;
-      scope_at = c.requires.scope_at;
-      expression_at = (_, c.requires.by_index.2.value);
-    }
+  rows_end_in_bounds = c.requires.rows_end_in_bounds;
+  scope_at = c.requires.scope_at;
+  expression_at = (_, c.requires.by_index.2.value);
+}
 
 pub returns-in_default : goal.returns-in_default
 returns-in_default c = assign_value_fault _ _ _ _ _ c.expression-given.ensures _ _ c.in_default.is

@@ -1,16 +1,15 @@
 -- Call: the actuals, the name, that it is a function, its count and its codes.
 use native.Mathlib.Omega.{arith}
 use Rattle.checker.proofs.laws.commands.CallLaws.{call_actuals, call_few, function_found, found_formals, call_actual_fault, call_unbound, call_no_function, call_count_apart, call_agree}
-use borrow.Author.Rules.{rules}
 use Rattle.checker.proofs.commands.call.Goals as goal
 
 pub actuals-given-requires : goal.actuals-given-requires
 actuals-given-requires c = record {
-      rows_end_in_bounds = c.requires.rows_end_in_bounds;
-      count_le_most_parameters = call_few _ c.operand-word.ensures c.requires.by_index.2;
-      scope_at = c.requires.scope_at;
-      actuals_at = (c.requires.by_index.1, call_actuals _ c.operand-word.ensures c.requires.by_index.2);
-    }
+  rows_end_in_bounds = c.requires.rows_end_in_bounds;
+  count_le_most_parameters = call_few _ c.operand-word.ensures c.requires.by_index.2;
+  scope_at = c.requires.scope_at;
+  actuals_at = (c.requires.by_index.1, call_actuals _ c.operand-word.ensures c.requires.by_index.2);
+}
 
 pub returns-in_default : goal.returns-in_default
 returns-in_default c = call_actual_fault _ _ _ _ _ c.operand-word.ensures _ c.actuals-given.ensures _ _ c.in_default.is

@@ -1,7 +1,6 @@
 -- The Formals of an Abs one after the other: each gets its row, unless its name has one. The loop's measure is how many are left.
 use native.Mathlib.Omega.{arith}
-use borrow.Author.Rules.{rules}
-use Rattle.checker.proofs.laws.declarations.FormalLaws.{formal_node_low, formal_code_low, formals_none, formals_repeated, RowsSoFar, no_rows_yet, one_row_more}
+use Rattle.checker.proofs.laws.declarations.FormalLaws.{formal_node_low, formal_code_low, formals_none, formals_repeated, no_rows_yet, one_row_more}
 use Rattle.checker.proofs.formals.formals.Goals as goal
 
 pub loop-left-init : goal.loop-left-init
@@ -13,18 +12,18 @@ operand-word-requires c =
 
 pub find_row-found-requires : goal.find_row-found-requires
 find_row-found-requires c = record {
-      rows_end_in_bounds = omega (arith, c.loop-left.invariant.kept.same_length, c.requires.rows_end_in_bounds);
-      rows = c.loop-left.invariant.rows;
-    }
+  rows_end_in_bounds = omega (arith, c.loop-left.invariant.kept.same_length, c.requires.rows_end_in_bounds);
+  rows = c.loop-left.invariant.rows;
+}
 
 pub shape_of-work-then-found-scope : goal.shape_of-work-then-found-scope
 shape_of-work-then-found-scope c = c.loop-left.invariant.kept.same_length
 
 pub returns-then-found-scope : goal.returns-then-found-scope
 returns-then-found-scope c = record {
-      formals_judged_at = c.loop-left.invariant.whole _ _ (formals_repeated _ _ _ _ _ _ _ c.loop-left-test.true c.operand-word.ensures c.find_row-found.ensures c.if-found-scope.true);
-      writes_rows_from = c.loop-left.invariant.kept;
-    }
+  formals_judged_at = c.loop-left.invariant.whole _ _ (formals_repeated _ _ _ _ _ _ _ c.loop-left-test.true c.operand-word.ensures c.find_row-found.ensures c.if-found-scope.true);
+  writes_rows_from = c.loop-left.invariant.kept;
+}
 
 pub row_word-requires : goal.row_word-requires
 row_word-requires c =
@@ -59,6 +58,6 @@ shape_of-work c = c.loop-left.invariant.kept.same_length
 
 pub returns : goal.returns
 returns c = record {
-      formals_judged_at = c.loop-left.invariant.whole _ _ (formals_none _ _ _ _ _ c.loop-left-test.false c.loop-left.invariant.linked);
-      writes_rows_from = c.loop-left.invariant.kept;
-    }
+  formals_judged_at = c.loop-left.invariant.whole _ _ (formals_none _ _ _ _ _ c.loop-left-test.false c.loop-left.invariant.linked);
+  writes_rows_from = c.loop-left.invariant.kept;
+}

@@ -1,7 +1,5 @@
 -- The Formals of an Abs one after the other: each gets its row, unless its name has one. The loop's measure is how many are left.
-use native.Mathlib.Omega.{arith}
-use borrow.Author.Rules.{rules}
-use Rattle.checker.proofs.laws.declarations.FormalLaws.{formal_node_low, formal_code_low, formals_none, formals_repeated, RowsSoFar, no_rows_yet, one_row_more}
+use Rattle.checker.proofs.laws.declarations.FormalLaws.{RowsSoFar}
 use Rattle.checker.proofs.formals.formals.Given as goal
 
 abbrev pub invariant-loop-left : goal.invariant-loop-left

@@ -1,6 +1,5 @@
 -- An answer made anew is the same.
 use mathlib.Core.Path.{sym}
-use borrow.Author.Rules.{rules}
 use Rattle.typing.proofs.codes.anew.Goals as goal
 
 pub returns-in-Is : goal.returns-in-Is

@@ -1,6 +1,5 @@
 -- A location's code.
 use Rattle.typing.proofs.laws.codes.TargetLaws.{location_high, location_low}
-use borrow.Author.Rules.{rules}
 use Rattle.typing.proofs.codes.location_code.Goals as goal
 
 pub returns-then-code-gt5 : goal.returns-then-code-gt5

@@ -1,6 +1,5 @@
 -- An operator by its number.
 use Rattle.typing.proofs.laws.codes.CodeLaws.{operation_arithmetic, operation_equals, operation_order, operation_logic}
-use borrow.Author.Rules.{rules}
 use Rattle.typing.proofs.codes.operation.Goals as goal
 
 pub returns-then-which-lt-EQ : goal.returns-then-which-lt-EQ

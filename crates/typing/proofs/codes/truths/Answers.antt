@@ -1,6 +1,5 @@
 -- Two truth values.
 use Rattle.typing.proofs.laws.codes.CodeLaws.{truths_first, truths_second, truths_both}
-use borrow.Author.Rules.{rules}
 use Rattle.typing.proofs.codes.truths.Goals as goal
 
 pub returns-then-first-ne1 : goal.returns-then-first-ne1

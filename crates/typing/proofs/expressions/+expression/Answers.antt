@@ -1,10 +1,7 @@
--- The proof of `expression`, which calls itself: the node's kind says which expression stands there, and its code follows from its
--- children's. The measure is the number of nodes from this one on.
-use Prim.Native.Nat.{◌+◌, ◌-◌, ◌≤◌}
+-- `expression`, which calls itself: the node's kind says which expression stands there, and its code follows from its
+-- children's.
 use mathlib.Core.Path.{sym, ◌∙◌, subst}
 use native.Mathlib.Omega.{arith}
-use borrow.Author.Rules.{rules}
-use Rattle.rules.specs.paper.Limits.{most_nodes}
 use Rattle.typing.specs.Answers.{ExpressionAt}
 use Rattle.typing.proofs.laws.expressions.ExpressionLaws.{code_number, code_truth, name_three, name_high, first_child, first_low, first_fault, first_truth, second_child, second_fault, second_fine}
 use Rattle.reader.proofs.StandingLaws.{expression_low}
@@ -22,20 +19,20 @@ returns-then-which-eq-BOO t c = code_truth _ _ _ _ _ c.kind-which.ensures c.if-w
 
 pub name_code-requires : goal.name_code-requires
 name_code-requires t c = record {
-      rows_end_in_bounds = c.requires.rows_end_in_bounds;
-      scope_at = c.requires.scope_at;
-      name_at = (c.requires.expression_at.0, name_three _ _ _ c.kind-which.ensures c.if-which-eq-ID.true c.requires.expression_at.0 c.requires.expression_at.1);
-    }
+  rows_end_in_bounds = c.requires.rows_end_in_bounds;
+  scope_at = c.requires.scope_at;
+  name_at = (c.requires.expression_at.0, name_three _ _ _ c.kind-which.ensures c.if-which-eq-ID.true c.requires.expression_at.0 c.requires.expression_at.1);
+}
 
 pub returns-then-which-eq-ID : goal.returns-then-which-eq-ID
 returns-then-which-eq-ID t c = λ e Γ at s. c.name_code.ensures e Γ (name_three _ _ _ c.kind-which.ensures c.if-which-eq-ID.true e at) s
 
 pub name_code-requires-then-which-gt-NOT : goal.name_code-requires-then-which-gt-NOT
 name_code-requires-then-which-gt-NOT t c = record {
-      rows_end_in_bounds = c.requires.rows_end_in_bounds;
-      scope_at = c.requires.scope_at;
-      name_at = (c.requires.expression_at.0, name_high _ _ _ c.kind-which.ensures c.if-which-gt-NOT.true c.requires.expression_at.0 c.requires.expression_at.1);
-    }
+  rows_end_in_bounds = c.requires.rows_end_in_bounds;
+  scope_at = c.requires.scope_at;
+  name_at = (c.requires.expression_at.0, name_high _ _ _ c.kind-which.ensures c.if-which-gt-NOT.true c.requires.expression_at.0 c.requires.expression_at.1);
+}
 
 pub returns-then-which-gt-NOT : goal.returns-then-which-gt-NOT
 returns-then-which-gt-NOT t c = λ e Γ at s. c.name_code-then-which-gt-NOT.ensures e Γ (name_high _ _ _ c.kind-which.ensures c.if-which-gt-NOT.true e at) s
@@ -67,8 +64,7 @@ end-next-requires t c =
 
 pub expression-outer-requires : goal.expression-outer-requires
 expression-outer-requires t c =
-    let child = second_child _ _ _ c.kind-which.ensures c.if-which-eq-NUM.false c.if-which-eq-BOO.false c.if-which-eq-ID.false c.if-which-gt-NOT.false c.if-which-eq-NOT.false c.requires.expression_at in
-    (
+    let child = second_child _ _ _ c.kind-which.ensures c.if-which-eq-NUM.false c.if-which-eq-BOO.false c.if-which-eq-ID.false c.if-which-gt-NOT.false c.if-which-eq-NOT.false c.requires.expression_at in (
       omega (arith, expression_low child.1.stored, child.2, c.end-next.ensures, c.decreases),
       (c.requires.rows_end_in_bounds, (c.requires.scope_at, (child.0, subst (λ i. ExpressionAt c.args.work.now i child.0) (sym c.end-next.ensures) child.1))),
     )

@@ -1,7 +1,6 @@
 -- An expression that is a name: its meaning first, then the rule of its kind.
 use native.Mathlib.Omega.{arith}
 use Rattle.typing.proofs.laws.expressions.NameLaws.{name_place, name_fault, name_id, name_deref, name_valref}
-use borrow.Author.Rules.{rules}
 use Rattle.typing.proofs.expressions.name_code.Goals as goal
 
 pub kind-which-requires : goal.kind-which-requires

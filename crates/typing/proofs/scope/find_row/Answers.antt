@@ -1,6 +1,6 @@
 -- The newest row of a name: so far the name has not been met.
 use native.Mathlib.Omega.{arith}
-use Rattle.typing.proofs.laws.scope.RowLaws.{Walked, walk_start, walk_on, walk_less, walk_low, walk_found, walk_absent}
+use Rattle.typing.proofs.laws.scope.RowLaws.{walk_start, walk_on, walk_less, walk_low, walk_found, walk_absent}
 use Rattle.typing.proofs.scope.find_row.Goals as goal
 
 pub loop-at-init : goal.loop-at-init

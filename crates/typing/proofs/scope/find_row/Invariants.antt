@@ -1,6 +1,5 @@
 -- The newest row of a name: so far the name has not been met.
-use native.Mathlib.Omega.{arith}
-use Rattle.typing.proofs.laws.scope.RowLaws.{Walked, walk_start, walk_on, walk_less, walk_low, walk_found, walk_absent}
+use Rattle.typing.proofs.laws.scope.RowLaws.{Walked}
 use Rattle.typing.proofs.scope.find_row.Given as goal
 
 abbrev pub invariant-loop-at : goal.invariant-loop-at

@@ -1,14 +1,13 @@
 -- A name's meaning: the newest row, else a register.
 use native.Mathlib.Omega.{arith}
 use Rattle.typing.proofs.laws.scope.RowLaws.{lookup_register, lookup_nothing, lookup_row, found_low}
-use borrow.Author.Rules.{rules}
 use Rattle.typing.proofs.scope.lookup.Goals as goal
 
 pub find_row-at-requires : goal.find_row-at-requires
 find_row-at-requires c = record {
-      rows_end_in_bounds = c.requires.rows_end_in_bounds;
-      rows = (c.requires.scope_at.1.own, c.requires.scope_at.1.rows);
-    }
+  rows_end_in_bounds = c.requires.rows_end_in_bounds;
+  rows = (c.requires.scope_at.1.own, c.requires.scope_at.1.rows);
+}
 
 pub returns-then-name-registers : goal.returns-then-name-registers
 returns-then-name-registers c = lookup_register _ _ _ _ _ c.find_row-at.ensures c.if-at-eq0.true c.if-name-registers.true

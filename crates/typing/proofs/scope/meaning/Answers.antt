@@ -1,6 +1,5 @@
 -- A name's meaning, or 10.
 use Rattle.typing.proofs.laws.scope.MeaningLaws.{meaning_absent, meaning_present}
-use borrow.Author.Rules.{rules}
 use Rattle.typing.proofs.scope.meaning.Goals as goal
 
 pub returns-in_default : goal.returns-in_default

@@ -1,6 +1,6 @@
 -- A name in two lots of rows: so far none was met.
 use native.Mathlib.Omega.{arith}
-use Rattle.typing.proofs.laws.scope.RowLaws.{Compared, compare_start, compare_shared, compare_on, compare_none, compare_low, compare_less}
+use Rattle.typing.proofs.laws.scope.RowLaws.{compare_start, compare_shared, compare_on, compare_none, compare_low, compare_less}
 use Rattle.typing.proofs.scope.shares_name.Goals as goal
 
 pub loop-at-init : goal.loop-at-init
@@ -17,9 +17,9 @@ bounds-work-at c = omega (arith, compare_low _ _ _ _ _ c.requires.rows c.require
 
 pub find_row-requires : goal.find_row-requires
 find_row-requires c = record {
-      rows_end_in_bounds = c.requires.rows_end_in_bounds;
-      rows = c.requires.rows;
-    }
+  rows_end_in_bounds = c.requires.rows_end_in_bounds;
+  rows = c.requires.rows;
+}
 
 pub returns-then-find_row-middle : goal.returns-then-find_row-middle
 returns-then-find_row-middle c = compare_shared _ _ _ _ _ _ c.loop-at.invariant c.loop-at-test.true c.find_row.ensures c.if-find_row-middle.true

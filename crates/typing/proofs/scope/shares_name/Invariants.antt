@@ -1,6 +1,5 @@
 -- A name in two lots of rows: so far none was met.
-use native.Mathlib.Omega.{arith}
-use Rattle.typing.proofs.laws.scope.RowLaws.{Compared, compare_start, compare_shared, compare_on, compare_none, compare_low, compare_less}
+use Rattle.typing.proofs.laws.scope.RowLaws.{Compared}
 use Rattle.typing.proofs.scope.shares_name.Given as goal
 
 abbrev pub invariant-loop-at : goal.invariant-loop-at
