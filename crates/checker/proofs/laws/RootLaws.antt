@@ -10,8 +10,8 @@ use Rattle.rules.specs.paper.Limits.{codes}
 use Rattle.rules.specs.paper.Checker.{Judged, fault, fine, ◌>>=◌, Passed, expression_of_code, a_command, register_scope, root_is, expression_code, command_ok}
 use Rattle.reader.specs.Pack.{packed_kind}
 use Rattle.reader.specs.Stored.{StoredRoot, root_expression, root_command, root_absent, RootAt}
-use Rattle.reader.specs.StandingLaws.{absent_root}
-use Rattle.reader.specs.KindTrees.{stored_expression_kind, stored_command_kind}
+use Rattle.reader.proofs.StandingLaws.{absent_root}
+use Rattle.reader.proofs.KindTrees.{stored_expression_kind, stored_command_kind}
 use Rattle.typing.specs.Rows.{ScopeAt, no_rows}
 use Rattle.typing.specs.Answers.{code_answer, fine_answer, ExpressionAt, ExpressionJudgedAt}
 use Rattle.checker.specs.Commands.{CommandAt, CommandJudgedAt, command_number, root_number, root_answer, RootJudgedAt}

@@ -10,9 +10,10 @@ use Rattle.rules.specs.paper.Refusals.{refusal_number}
 use Rattle.rules.specs.paper.Tree.{Expression, Formal, Block, Bound, plain, Ref, Abs}
 use Rattle.rules.specs.paper.Checker.{Meaning, code, function, Scope, Judged, fault, fine, ◌>>=◌, Fine, expression_code, distinct, with_formals, ref_code, block_ok, bound_means}
 use Rattle.reader.specs.Pack.{packed_kind, packed_operand}
-use Rattle.reader.specs.Stored.{HasWord, kind_is, operand_is, StoredExpression, StoredFormals, no_formals, one_formal, StoredBlock, StoredBound, plain_of, ref, abs}
-use Rattle.reader.specs.StandingLaws.{expression_low, block_low, after_node}
-use Rattle.reader.specs.KindTrees.{stored_expression_kind}
+use Rattle.reader.specs.Stored.{HasWord, StoredExpression, StoredFormals, no_formals, one_formal, StoredBlock, StoredBound, plain_of, ref, abs}
+use Rattle.reader.proofs.StoredFields.{kind_is, operand_is}
+use Rattle.reader.proofs.StandingLaws.{expression_low, block_low, after_node}
+use Rattle.reader.proofs.KindTrees.{stored_expression_kind}
 use Rattle.typing.specs.Rows.{function_number, meaning_numbers, meaning_number, MeaningAt, code_at, function_at, Rows, no_rows, ScopeAt}
 use Rattle.typing.specs.Answers.{code_answer, fine_answer, meaning_answer, ExpressionAt, ExpressionJudgedAt}
 use Rattle.checker.specs.Commands.{formals_give, FormalsJudgedAt, WritesRowsFrom, FormalsAt, BlockAt, BoundAt, NamesFrom, names_from, names_fault, BlockJudgedAt, BoundJudgedAt}
