@@ -1,0 +1,12 @@
+-- The registers' ends one after the other.
+use Prim.Native.Nat.{◌-◌}
+use native.Mathlib.Omega.{arith}
+use lib.ListN.{length}
+use Rattle.ranges.proofs.RegisterLaws.{TakenSoFar, none_taken, one_more_taken, all_taken}
+use Rattle.ranges.proofs.registers.take_ends.Given as goal
+
+abbrev pub invariant-loop-i : goal.invariant-loop-i
+invariant-loop-i l = TakenSoFar l.work l.initial.lowest l.initial.highest l.lowest l.highest l.i
+
+abbrev pub decreases-loop-i : goal.decreases-loop-i
+decreases-loop-i l = length l.initial.lowest - l.i
