@@ -18,7 +18,6 @@ use Rattle.reader.specs.StandingLaws.{after_node, operand_name, expression_low, 
 use Rattle.intervals.specs.Values.{HoldsValue, ExpressedAs}
 use Rattle.intervals.specs.declared.values.Value.{Value}
 use Rattle.intervals.specs.declared.values.Expressed.{Expressed}
-use Rattle.intervals.specs.declared.values.Expressed.TheVariants as Expressed
 use Rattle.carrying.specs.Layout.{row_links, row_lows, row_highs, sorts, row_value}
 use Rattle.carrying.specs.States.{valued, needing, NamesAt, one_value, Sees}
 use Rattle.carrying.specs.Frames.{Keeps, KeepsCells, PutRow}

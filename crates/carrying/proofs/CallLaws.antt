@@ -25,7 +25,6 @@ use Rattle.carrying.specs.declared.Held.{Held}
 use Rattle.carrying.specs.declared.Outcome.{Outcome}
 use Rattle.carrying.specs.declared.Outcome.TheVariants.{Through, Unsafe}
 use Rattle.carrying.specs.declared.functions.Entered.{Entered}
-use Rattle.carrying.specs.declared.functions.Entered.TheVariants as Entered
 use Rattle.carrying.proofs.FrameLaws.{kept_nodes}
 use Rattle.carrying.proofs.StateLaws.{names_kept, names_later, row_is_value, row_is_pointer, cells_kept}
 use Rattle.carrying.proofs.DeclarationLaws.{first_fits, state_seen}

@@ -22,7 +22,6 @@ use Rattle.carrying.specs.Frames.{Keeps, KeepsCells}
 use Rattle.carrying.specs.Answers.{Fits, SomeDeclaration, SomeBind, DeclaredState, DeclaredAs, DeclarationCarried}
 use Rattle.carrying.specs.declared.Held.{Held}
 use Rattle.carrying.specs.declared.declarations.Declared.{Declared}
-use Rattle.carrying.specs.declared.declarations.Declared.TheVariants as Declared
 use Rattle.carrying.proofs.FrameLaws.{keeps_fewer, keeps_fewer_cells, keeps_then, keeps_cells_then, kept_nodes}
 use Rattle.carrying.proofs.StateLaws.{names_later}
 use Rattle.carrying.proofs.DeclarationLaws.{first_fits, sequence_room}
