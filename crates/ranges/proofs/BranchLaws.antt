@@ -6,7 +6,7 @@ use native.Mathlib.Omega.{arith}
 use lib.ListN.{length, get_or}
 use Rattle.rules.specs.paper.Limits.{most_nodes}
 use Rattle.rules.specs.paper.Tree.{Expression, Command, Loop, CSeq, block, Call, Block, Blk, Declaration}
-use Rattle.rules.specs.paper.Needs.{bindings, cells, sizes, Needs, over, cells_left, bindings_left, command_need, names_given}
+use Rattle.rules.specs.paper.Needs.{sizes, Needs, over, cells_left, bindings_left, command_need, names_given}
 use Rattle.rules.specs.paper.Carried.{Carrying, carried, unsafe, unfit, ◌>>=◌}
 use Rattle.rules.specs.paper.Carrying.{CarriedCells, CarriedNames, CarriedDeclared, oldest_cells, carry_command, carry_block, carry_declaration}
 use Rattle.reader.specs.KindNumbers.{cseq_number, blk_number, call_number}
@@ -21,9 +21,7 @@ use Rattle.carrying.specs.declared.Held.{Held}
 use Rattle.carrying.specs.declared.Outcome.{Outcome}
 use Rattle.carrying.specs.declared.Outcome.TheVariants.{Through, Unsafe}
 use Rattle.carrying.specs.declared.declarations.Declared.{Declared}
-use Rattle.carrying.specs.declared.declarations.Declared.TheVariants as Declared
 use Rattle.carrying.specs.declared.functions.Entered.{Entered}
-use Rattle.carrying.specs.declared.functions.Entered.TheVariants as Entered
 use Rattle.carrying.proofs.FrameLaws.{kept_nodes, keeps_all}
 use Rattle.carrying.proofs.StateLaws.{cells_length, cells_oldest}
 use Rattle.carrying.proofs.ReachLaws.{second_place, reach, child_reach, function_reach}

@@ -5,7 +5,7 @@ use mathlib.Core.List.{List}
 use native.Mathlib.Omega.{arith}
 use lib.ListN.{length, get_or}
 use Rattle.rules.specs.paper.Tree.{Expression, Command, Root, expression, command}
-use Rattle.rules.specs.paper.Needs.{bindings, cells, Needs, register_needs, root_need, routine_need}
+use Rattle.rules.specs.paper.Needs.{Needs, register_needs, root_need, routine_need}
 use Rattle.rules.specs.paper.Carried.{Carrying, carried, unsafe, unfit, ◌>>=◌}
 use Rattle.rules.specs.paper.Carrying.{CarriedCells, CarriedNames, register_names, register_cells, carry_expression, carry_root, carry_routine}
 use Rattle.reader.specs.KindNumbers.{assign_number}
@@ -18,7 +18,6 @@ use Rattle.integers.specs.Words.{integers_of}
 use Rattle.intervals.specs.Values.{numbers_sort}
 use Rattle.intervals.specs.declared.values.Value.{Value}
 use Rattle.intervals.specs.declared.values.Expressed.{Expressed}
-use Rattle.intervals.specs.declared.values.Expressed.TheVariants as Expressed
 use Rattle.carrying.specs.Layout.{cell_sorts}
 use Rattle.carrying.specs.States.{CellsAt, StateAt, Sees, Room}
 use Rattle.carrying.specs.Frames.{Keeps}

@@ -17,7 +17,6 @@ use Rattle.reader.specs.StandingLaws.{expression_low, command_low}
 use Rattle.intervals.specs.Values.{HoldsValue, holds_numbers, holds_truths, holds_location, ExpressedAs}
 use Rattle.intervals.specs.declared.values.Value.{Value}
 use Rattle.intervals.specs.declared.values.Expressed.{Expressed}
-use Rattle.intervals.specs.declared.values.Expressed.TheVariants as Expressed
 use Rattle.carrying.specs.States.{Room}
 use Rattle.carrying.specs.Frames.{Keeps}
 use Rattle.carrying.specs.Answers.{Fits, ExpressionThere, SomeExpression, ExpressionCarried, CommandThere, SomeCommand, CommandAs, CommandCarried}

@@ -1,7 +1,7 @@
 -- What the proof of `command` needs: its parts by the kind of its node, and what it leaves from what they leave.
 -- What the proof of `either` needs: both commands of a Cond, each from the cells before it.
 -- What the proof of `with_value` needs: an Assign's cell, or the command that a Cond takes.
-use Prim.Native.Nat.{ℕ, ◌≤◌}
+use Prim.Native.Nat.{◌≤◌}
 use native.Mathlib.Omega.{arith}
 use Rattle.rules.specs.paper.Limits.{most_cells}
 use Rattle.reader.specs.StandingLaws.{command_low, declaration_low}
@@ -28,9 +28,9 @@ command-command-first-requires t c =
 
 pub command-returns-in_default : goal.command-returns-in_default
 command-returns-in_default t c = record {
-      command_carried = sequence_unsafe _ _ _ _ c.kind-which.ensures c.if-which-eq-CSEQ.true _ _ _ c.in_default.is c.command-first.ensures.command_carried;
-      keeps = c.command-first.ensures.keeps;
-    }
+  command_carried = sequence_unsafe _ _ _ _ c.kind-which.ensures c.if-which-eq-CSEQ.true _ _ _ c.in_default.is c.command-first.ensures.command_carried;
+  keeps = c.command-first.ensures.keeps;
+}
 
 pub command-overflow_add-node-then-which-eq-CSEQ : goal.command-overflow_add-node-then-which-eq-CSEQ
 command-overflow_add-node-then-which-eq-CSEQ t c = record { fits = omega (arith, command_low (sequence_first _ _ _ _ c.kind-which.ensures c.if-which-eq-CSEQ.true c.requires.some_command).0.4.tree) }
@@ -45,18 +45,18 @@ command-command-requires t c =
 
 pub command-returns-then-which-eq-CSEQ : goal.command-returns-then-which-eq-CSEQ
 command-returns-then-which-eq-CSEQ t c = record {
-      command_carried = sequence_carried _ _ _ _ c.kind-which.ensures c.if-which-eq-CSEQ.true _ _ c.in-Through.is c.command-first.ensures.command_carried c.command-first.ensures.keeps _ c.end-after.ensures (command_low (sequence_first _ _ _ _ c.kind-which.ensures c.if-which-eq-CSEQ.true c.requires.some_command).0.4.tree) _ _ c.command.ensures.command_carried;
-      keeps = keeps_then c.command-first.ensures.keeps c.command.ensures.keeps;
-    }
+  command_carried = sequence_carried _ _ _ _ c.kind-which.ensures c.if-which-eq-CSEQ.true _ _ c.in-Through.is c.command-first.ensures.command_carried c.command-first.ensures.keeps _ c.end-after.ensures (command_low (sequence_first _ _ _ _ c.kind-which.ensures c.if-which-eq-CSEQ.true c.requires.some_command).0.4.tree) _ _ c.command.ensures.command_carried;
+  keeps = keeps_then c.command-first.ensures.keeps c.command.ensures.keeps;
+}
 
 pub command-overflow_add-node-then-which-eq-BLK : goal.command-overflow_add-node-then-which-eq-BLK
 command-overflow_add-node-then-which-eq-BLK t c = record { fits = omega (arith, declaration_low (block_declaration _ _ _ _ c.kind-which.ensures c.if-which-eq-BLK.true c.requires.some_command).5.tree) }
 
 pub command-declaration-declared-requires : goal.command-declaration-declared-requires
 command-declaration-declared-requires t c = record {
-      regions_end_in_bounds = c.requires.regions_end_in_bounds;
-      some_declaration = block_declaration _ _ _ _ c.kind-which.ensures c.if-which-eq-BLK.true c.requires.some_command;
-    }
+  regions_end_in_bounds = c.requires.regions_end_in_bounds;
+  some_declaration = block_declaration _ _ _ _ c.kind-which.ensures c.if-which-eq-BLK.true c.requires.some_command;
+}
 
 pub command-overflow_add-node-in-Names : goal.command-overflow_add-node-in-Names
 command-overflow_add-node-in-Names t c = record { fits = omega (arith, declaration_low (block_declaration _ _ _ _ c.kind-which.ensures c.if-which-eq-BLK.true c.requires.some_command).5.tree) }
@@ -78,15 +78,15 @@ command-returns-in-Names t c =
 
 pub command-returns-in-Unsafe : goal.command-returns-in-Unsafe
 command-returns-in-Unsafe t c = record {
-      command_carried = block_unsafe _ _ _ _ c.kind-which.ensures c.if-which-eq-BLK.true _ _ _ c.in-Unsafe.is c.declaration-declared.ensures.declaration_carried;
-      keeps = c.declaration-declared.ensures.keeps;
-    }
+  command_carried = block_unsafe _ _ _ _ c.kind-which.ensures c.if-which-eq-BLK.true _ _ _ c.in-Unsafe.is c.declaration-declared.ensures.declaration_carried;
+  keeps = c.declaration-declared.ensures.keeps;
+}
 
 pub command-enter-entered-requires : goal.command-enter-entered-requires
 command-enter-entered-requires t c = record {
-      regions_end_in_bounds = c.requires.regions_end_in_bounds;
-      some_call = call_there _ _ _ _ c.kind-which.ensures c.if-which-eq-CALL.true c.requires.some_command;
-    }
+  regions_end_in_bounds = c.requires.regions_end_in_bounds;
+  some_call = call_there _ _ _ _ c.kind-which.ensures c.if-which-eq-CALL.true c.requires.some_command;
+}
 
 pub command-command-requires-in-Function : goal.command-command-requires-in-Function
 command-command-requires-in-Function t c =
@@ -113,9 +113,9 @@ command-overflow_add-node-2 t c = record { fits = omega (arith, value_low _ _ _ 
 
 pub command-expression-given-requires : goal.command-expression-given-requires
 command-expression-given-requires t c = record {
-      regions_end_in_bounds = c.requires.regions_end_in_bounds;
-      some_expression = value_there _ _ _ _ c.kind-which.ensures c.if-which-eq-CSEQ.false c.if-which-eq-BLK.false c.if-which-eq-CALL.false c.requires.some_command;
-    }
+  regions_end_in_bounds = c.requires.regions_end_in_bounds;
+  some_expression = value_there _ _ _ _ c.kind-which.ensures c.if-which-eq-CSEQ.false c.if-which-eq-BLK.false c.if-which-eq-CALL.false c.requires.some_command;
+}
 
 pub command-with_value-requires : goal.command-with_value-requires
 command-with_value-requires t c =
@@ -123,15 +123,15 @@ command-with_value-requires t c =
 
 pub command-returns-in-Is : goal.command-returns-in-Is
 command-returns-in-Is t c = record {
-      command_carried = value_carried _ _ _ _ c.kind-which.ensures c.if-which-eq-CSEQ.false c.if-which-eq-BLK.false c.if-which-eq-CALL.false _ c.expression-given.ensures _ c.in-Is.is _ _ c.with_value.ensures.tested_carried;
-      keeps = c.with_value.ensures.keeps;
-    }
+  command_carried = value_carried _ _ _ _ c.kind-which.ensures c.if-which-eq-CSEQ.false c.if-which-eq-BLK.false c.if-which-eq-CALL.false _ c.expression-given.ensures _ c.in-Is.is _ _ c.with_value.ensures.tested_carried;
+  keeps = c.with_value.ensures.keeps;
+}
 
 pub command-returns-in-Unsafe-given : goal.command-returns-in-Unsafe-given
 command-returns-in-Unsafe-given t c = record {
-      command_carried = value_unsafe _ _ _ _ c.kind-which.ensures c.if-which-eq-CSEQ.false c.if-which-eq-BLK.false c.if-which-eq-CALL.false _ c.expression-given.ensures _ c.in-Unsafe-given.is;
-      keeps = keeps_all _ _ _;
-    }
+  command_carried = value_unsafe _ _ _ _ c.kind-which.ensures c.if-which-eq-CSEQ.false c.if-which-eq-BLK.false c.if-which-eq-CALL.false _ c.expression-given.ensures _ c.in-Unsafe-given.is;
+  keeps = keeps_all _ _ _;
+}
 
 pub either-overflow_add-node : goal.either-overflow_add-node
 either-overflow_add-node t c = record { fits = omega (arith, test_low _ _ _ c.requires.some_both) }
@@ -144,10 +144,10 @@ either-slice_bounds-copy-end t c = refl
 
 pub either-copy-requires : goal.either-copy-requires
 either-copy-requires t c = record {
-      regions_end_in_bounds = c.requires.regions_end_in_bounds;
-      cells_le_most_cells = cells_few _ _ _ c.requires.some_both;
-      kept_words_in_bounds = omega arith;
-    }
+  regions_end_in_bounds = c.requires.regions_end_in_bounds;
+  cells_le_most_cells = cells_few _ _ _ c.requires.some_both;
+  kept_words_in_bounds = omega arith;
+}
 
 pub either-command-sooner-requires : goal.either-command-sooner-requires
 either-command-sooner-requires t c =
@@ -156,19 +156,19 @@ either-command-sooner-requires t c =
 
 pub either-returns-in_default : goal.either-returns-in_default
 either-returns-in_default t c = record {
-      both_carried = first_unsafe _ _ _ _ c.end-first.ensures _ _ _ c.in_default.is c.command-sooner.ensures.command_carried;
-      keeps = c.command-sooner.ensures.keeps;
-    }
+  both_carried = first_unsafe _ _ _ _ c.end-first.ensures _ _ _ c.in_default.is c.command-sooner.ensures.command_carried;
+  keeps = c.command-sooner.ensures.keeps;
+}
 
 pub either-slice_bounds-exchange-end : goal.either-slice_bounds-exchange-end
 either-slice_bounds-exchange-end t c = sym c.copy.auto.kept
 
 pub either-exchange-requires : goal.either-exchange-requires
 either-exchange-requires t c = record {
-      regions_end_in_bounds = omega (arith, c.requires.regions_end_in_bounds, c.command-sooner.ensures.keeps.same_length);
-      cells_le_most_cells = cells_few _ _ _ c.requires.some_both;
-      kept_words_in_bounds = omega (arith, c.copy.auto.kept);
-    }
+  regions_end_in_bounds = omega (arith, c.requires.regions_end_in_bounds, c.command-sooner.ensures.keeps.same_length);
+  cells_le_most_cells = cells_few _ _ _ c.requires.some_both;
+  kept_words_in_bounds = omega (arith, c.copy.auto.kept);
+}
 
 pub either-end-second-requires : goal.either-end-second-requires
 either-end-second-requires t c = omega (arith, first_low _ _ _ _ c.end-first.ensures c.requires.some_both, c.requires.regions_end_in_bounds, c.command-sooner.ensures.keeps.same_length, c.exchange.ensures.keeps.same_length)
@@ -180,40 +180,40 @@ either-command-later-requires t c =
 
 pub either-returns-in_default-later : goal.either-returns-in_default-later
 either-returns-in_default-later t c = record {
-      both_carried = second_unsafe _ _ _ _ c.end-first.ensures _ _ _ _ _ c.in-Through.is c.command-sooner.ensures.command_carried c.command-sooner.ensures.keeps c.copy.ensures c.exchange.ensures (cells_few _ _ _ c.requires.some_both) (omega (arith, c.requires.some_both.6.room.bindings_fit)) (first_low _ _ _ _ c.end-first.ensures c.requires.some_both) _ c.end-second.ensures _ _ _ c.in_default-later.is c.command-later.ensures.command_carried;
-      keeps = keeps_then (kept_twice _ _ _ _ c.end-first.ensures _ _ _ _ _ c.in-Through.is c.command-sooner.ensures.command_carried c.command-sooner.ensures.keeps c.copy.ensures c.exchange.ensures (cells_few _ _ _ c.requires.some_both) (omega (arith, c.requires.some_both.6.room.bindings_fit)) (first_low _ _ _ _ c.end-first.ensures c.requires.some_both) _ c.end-second.ensures) c.command-later.ensures.keeps;
-    }
+  both_carried = second_unsafe _ _ _ _ c.end-first.ensures _ _ _ _ _ c.in-Through.is c.command-sooner.ensures.command_carried c.command-sooner.ensures.keeps c.copy.ensures c.exchange.ensures (cells_few _ _ _ c.requires.some_both) (omega (arith, c.requires.some_both.6.room.bindings_fit)) (first_low _ _ _ _ c.end-first.ensures c.requires.some_both) _ c.end-second.ensures _ _ _ c.in_default-later.is c.command-later.ensures.command_carried;
+  keeps = keeps_then (kept_twice _ _ _ _ c.end-first.ensures _ _ _ _ _ c.in-Through.is c.command-sooner.ensures.command_carried c.command-sooner.ensures.keeps c.copy.ensures c.exchange.ensures (cells_few _ _ _ c.requires.some_both) (omega (arith, c.requires.some_both.6.room.bindings_fit)) (first_low _ _ _ _ c.end-first.ensures c.requires.some_both) _ c.end-second.ensures) c.command-later.ensures.keeps;
+}
 
 pub either-slice_bounds-widen-end : goal.either-slice_bounds-widen-end
 either-slice_bounds-widen-end t c = sym (c.exchange.auto.kept ∙ c.copy.auto.kept)
 
 pub either-widen-requires : goal.either-widen-requires
 either-widen-requires t c = record {
-      regions_end_in_bounds = omega (arith, c.requires.regions_end_in_bounds, c.command-sooner.ensures.keeps.same_length, c.exchange.ensures.keeps.same_length, c.command-later.ensures.keeps.same_length);
-      cells_le_most_cells = cells_few _ _ _ c.requires.some_both;
-      kept_words_in_bounds = omega (arith, c.exchange.auto.kept, c.copy.auto.kept);
-    }
+  regions_end_in_bounds = omega (arith, c.requires.regions_end_in_bounds, c.command-sooner.ensures.keeps.same_length, c.exchange.ensures.keeps.same_length, c.command-later.ensures.keeps.same_length);
+  cells_le_most_cells = cells_few _ _ _ c.requires.some_both;
+  kept_words_in_bounds = omega (arith, c.exchange.auto.kept, c.copy.auto.kept);
+}
 
 pub either-returns : goal.either-returns
 either-returns t c = record {
-      both_carried = both_carried _ _ _ _ c.end-first.ensures _ _ _ _ _ c.in-Through.is c.command-sooner.ensures.command_carried c.command-sooner.ensures.keeps c.copy.ensures c.exchange.ensures (cells_few _ _ _ c.requires.some_both) (omega (arith, c.requires.some_both.6.room.bindings_fit)) (first_low _ _ _ _ c.end-first.ensures c.requires.some_both) _ c.end-second.ensures _ _ _ c.in-Through-later.is c.command-later.ensures.command_carried c.command-later.ensures.keeps c.widen.ensures;
-      keeps = keeps_then (keeps_then (kept_twice _ _ _ _ c.end-first.ensures _ _ _ _ _ c.in-Through.is c.command-sooner.ensures.command_carried c.command-sooner.ensures.keeps c.copy.ensures c.exchange.ensures (cells_few _ _ _ c.requires.some_both) (omega (arith, c.requires.some_both.6.room.bindings_fit)) (first_low _ _ _ _ c.end-first.ensures c.requires.some_both) _ c.end-second.ensures) c.command-later.ensures.keeps) (keeps_fewer (omega (arith, c.requires.some_both.6.room.bindings_fit)) (cells_few _ _ _ c.requires.some_both) c.widen.ensures.keeps);
-    }
+  both_carried = both_carried _ _ _ _ c.end-first.ensures _ _ _ _ _ c.in-Through.is c.command-sooner.ensures.command_carried c.command-sooner.ensures.keeps c.copy.ensures c.exchange.ensures (cells_few _ _ _ c.requires.some_both) (omega (arith, c.requires.some_both.6.room.bindings_fit)) (first_low _ _ _ _ c.end-first.ensures c.requires.some_both) _ c.end-second.ensures _ _ _ c.in-Through-later.is c.command-later.ensures.command_carried c.command-later.ensures.keeps c.widen.ensures;
+  keeps = keeps_then (keeps_then (kept_twice _ _ _ _ c.end-first.ensures _ _ _ _ _ c.in-Through.is c.command-sooner.ensures.command_carried c.command-sooner.ensures.keeps c.copy.ensures c.exchange.ensures (cells_few _ _ _ c.requires.some_both) (omega (arith, c.requires.some_both.6.room.bindings_fit)) (first_low _ _ _ _ c.end-first.ensures c.requires.some_both) _ c.end-second.ensures) c.command-later.ensures.keeps) (keeps_fewer (omega (arith, c.requires.some_both.6.room.bindings_fit)) (cells_few _ _ _ c.requires.some_both) c.widen.ensures.keeps);
+}
 
 pub with_value-kind-which-requires : goal.with_value-kind-which-requires
 with_value-kind-which-requires t c = omega (arith, command_low c.requires.some_tested.5.tree, c.requires.regions_end_in_bounds)
 
 pub with_value-assign-requires : goal.with_value-assign-requires
 with_value-assign-requires t c = record {
-      regions_end_in_bounds = c.requires.regions_end_in_bounds;
-      some_assign = assign_there _ _ _ _ _ c.kind-which.ensures c.if-which-eq-ASSIGN.true c.requires.some_tested;
-    }
+  regions_end_in_bounds = c.requires.regions_end_in_bounds;
+  some_assign = assign_there _ _ _ _ _ c.kind-which.ensures c.if-which-eq-ASSIGN.true c.requires.some_tested;
+}
 
 pub with_value-returns-then-which-eq-ASSIGN : goal.with_value-returns-then-which-eq-ASSIGN
 with_value-returns-then-which-eq-ASSIGN t c = record {
-      tested_carried = assign_tested _ _ _ _ _ c.kind-which.ensures c.if-which-eq-ASSIGN.true _ c.assign.ensures.assign_carried;
-      keeps = keeps_fewer (omega (arith, c.requires.some_tested.5.room.bindings_fit)) (omega (arith, c.requires.some_tested.5.room.cells_fit)) c.assign.ensures.keeps;
-    }
+  tested_carried = assign_tested _ _ _ _ _ c.kind-which.ensures c.if-which-eq-ASSIGN.true _ c.assign.ensures.assign_carried;
+  keeps = keeps_fewer (omega (arith, c.requires.some_tested.5.room.bindings_fit)) (omega (arith, c.requires.some_tested.5.room.cells_fit)) c.assign.ensures.keeps;
+}
 
 pub with_value-overflow_add-node : goal.with_value-overflow_add-node
 with_value-overflow_add-node t c = record { fits = omega (arith, TestLaws.test_low _ _ _ _ _ c.kind-which.ensures c.if-which-eq-ASSIGN.false c.requires.some_tested) }
@@ -228,9 +228,9 @@ with_value-command-requires t c =
 
 pub with_value-returns-then-value-eq0 : goal.with_value-returns-then-value-eq0
 with_value-returns-then-value-eq0 t c = record {
-      tested_carried = TestLaws.first_carried _ _ _ _ _ c.kind-which.ensures c.if-which-eq-ASSIGN.false c.if-value-eq0.true _ c.end-first.ensures _ _ c.command.ensures.command_carried;
-      keeps = c.command.ensures.keeps;
-    }
+  tested_carried = TestLaws.first_carried _ _ _ _ _ c.kind-which.ensures c.if-which-eq-ASSIGN.false c.if-value-eq0.true _ c.end-first.ensures _ _ c.command.ensures.command_carried;
+  keeps = c.command.ensures.keeps;
+}
 
 pub with_value-end-second-requires : goal.with_value-end-second-requires
 with_value-end-second-requires t c = omega (arith, TestLaws.first_low _ _ _ _ _ c.kind-which.ensures c.if-which-eq-ASSIGN.false c.requires.some_tested, c.end-first.ensures, c.requires.regions_end_in_bounds)
@@ -242,9 +242,9 @@ with_value-command-requires-then-value-eq0-2 t c =
 
 pub with_value-returns-then-value-eq0-2 : goal.with_value-returns-then-value-eq0-2
 with_value-returns-then-value-eq0-2 t c = record {
-      tested_carried = TestLaws.second_carried _ _ _ _ _ c.kind-which.ensures c.if-which-eq-ASSIGN.false c.if-value-eq0.false c.if-value-eq0-2.true _ (c.end-second.ensures ∙ ap (λ i. packed_end (get_or c.args.work.now i 0)) c.end-first.ensures) _ _ c.command-then-value-eq0-2.ensures.command_carried;
-      keeps = c.command-then-value-eq0-2.ensures.keeps;
-    }
+  tested_carried = TestLaws.second_carried _ _ _ _ _ c.kind-which.ensures c.if-which-eq-ASSIGN.false c.if-value-eq0.false c.if-value-eq0-2.true _ (c.end-second.ensures ∙ ap (λ i. packed_end (get_or c.args.work.now i 0)) c.end-first.ensures) _ _ c.command-then-value-eq0-2.ensures.command_carried;
+  keeps = c.command-then-value-eq0-2.ensures.keeps;
+}
 
 pub with_value-either-requires : goal.with_value-either-requires
 with_value-either-requires t c =
@@ -252,6 +252,6 @@ with_value-either-requires t c =
 
 pub with_value-returns : goal.with_value-returns
 with_value-returns t c = record {
-      tested_carried = TestLaws.both_tested _ _ _ _ _ c.kind-which.ensures c.if-which-eq-ASSIGN.false c.if-value-eq0.false c.if-value-eq0-2.false _ _ c.either.ensures.both_carried;
-      keeps = c.either.ensures.keeps;
-    }
+  tested_carried = TestLaws.both_tested _ _ _ _ _ c.kind-which.ensures c.if-which-eq-ASSIGN.false c.if-value-eq0.false c.if-value-eq0-2.false _ _ c.either.ensures.both_carried;
+  keeps = c.either.ensures.keeps;
+}

@@ -3,7 +3,6 @@ use native.Mathlib.Omega.{arith}
 use Rattle.reader.specs.StandingLaws.{command_low}
 use Rattle.carrying.proofs.FrameLaws.{set_keeps}
 use Rattle.ranges.proofs.AssignLaws.{row_there, cell_low, assign_carried}
-use borrow.Author.Rules.{rules}
 use Rattle.ranges.proofs.commands.assign.Goals as goal
 
 pub operand-name-requires : goal.operand-name-requires
@@ -20,9 +19,9 @@ row_value-at-requires c =
 
 pub set_cell-requires : goal.set_cell-requires
 set_cell-requires c = record {
-      regions_end_in_bounds = c.requires.regions_end_in_bounds;
-      at_lt_most_cells = cell_low _ _ _ _ _ _ c.operand-name.ensures c.find-row.ensures.found_at _ c.row_value-at.ensures c.requires.some_assign;
-    }
+  regions_end_in_bounds = c.requires.regions_end_in_bounds;
+  at_lt_most_cells = cell_low _ _ _ _ _ _ c.operand-name.ensures c.find-row.ensures.found_at _ c.row_value-at.ensures c.requires.some_assign;
+}
 
 pub returns : goal.returns
 returns c =

@@ -1,9 +1,7 @@
 -- The limits one register after the other: so far none cross.
-use Prim.Native.Nat.{◌-◌}
 use mathlib.Core.Path.{sym, ◌∙◌}
 use native.Mathlib.Omega.{arith}
-use lib.ListN.{length}
-use Rattle.ranges.proofs.RegisterLaws.{NoneCross, none_yet, crosses, not_here, none_cross}
+use Rattle.ranges.proofs.RegisterLaws.{none_yet, crosses, not_here, none_cross}
 use Rattle.ranges.proofs.registers.crossed.Goals as goal
 
 pub loop-i-init : goal.loop-i-init

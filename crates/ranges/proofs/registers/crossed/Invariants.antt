@@ -1,9 +1,7 @@
 -- The limits one register after the other: so far none cross.
 use Prim.Native.Nat.{◌-◌}
-use mathlib.Core.Path.{sym, ◌∙◌}
-use native.Mathlib.Omega.{arith}
 use lib.ListN.{length}
-use Rattle.ranges.proofs.RegisterLaws.{NoneCross, none_yet, crosses, not_here, none_cross}
+use Rattle.ranges.proofs.RegisterLaws.{NoneCross}
 use Rattle.ranges.proofs.registers.crossed.Given as goal
 
 abbrev pub invariant-loop-i : goal.invariant-loop-i

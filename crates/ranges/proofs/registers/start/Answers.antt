@@ -1,9 +1,7 @@
 -- The registers' names and cells one after the other.
-use Prim.Native.Nat.{◌-◌, ◌≤◌}
 use mathlib.Core.Path.{◌≡◌, refl, ap, subst}
 use native.Mathlib.Omega.{arith}
 use lib.ListN.{length}
-use Rattle.carrying.specs.Frames.{Keeps}
 use Rattle.ranges.specs.Routine.{registers_held, RegistersAt}
 use Rattle.carrying.proofs.FrameLaws.{keeps_all, keeps_then}
 use Rattle.ranges.proofs.RegisterLaws.{no_registers}
@@ -26,9 +24,9 @@ bounds-highest-i c = omega (arith, c.loop-i-test.true, c.requires.highest_len)
 
 pub put_register-requires : goal.put_register-requires
 put_register-requires c = record {
-      regions_end_in_bounds = omega (arith, c.requires.regions_end_in_bounds, c.loop-i.invariant.2.same_length);
-      i_lt_most_registers = omega (arith, c.loop-i-test.true, c.requires.lowest_len_bound);
-    }
+  regions_end_in_bounds = omega (arith, c.requires.regions_end_in_bounds, c.loop-i.invariant.2.same_length);
+  i_lt_most_registers = omega (arith, c.loop-i-test.true, c.requires.lowest_len_bound);
+}
 
 pub overflow_add-i : goal.overflow_add-i
 overflow_add-i c = record { fits = omega (arith, c.loop-i-test.true, c.requires.lowest_len_bound) }
@@ -37,12 +35,11 @@ pub loop-i-smaller : goal.loop-i-smaller
 loop-i-smaller c = omega (arith, c.loop-i-test.true)
 
 pub loop-i-preserved : goal.loop-i-preserved
-loop-i-preserved c =
-    (
-      omega (arith, c.loop-i-test.true),
-      c.put_register.ensures.register_put _ _ c.loop-i-test.true (omega (arith, c.loop-i-test.true, c.requires.highest_len)) refl refl c.loop-i.invariant.1,
-      keeps_then c.loop-i.invariant.2 c.put_register.ensures.keeps,
-    )
+loop-i-preserved c = (
+  omega (arith, c.loop-i-test.true),
+  c.put_register.ensures.register_put _ _ c.loop-i-test.true (omega (arith, c.loop-i-test.true, c.requires.highest_len)) refl refl c.loop-i.invariant.1,
+  keeps_then c.loop-i.invariant.2 c.put_register.ensures.keeps,
+)
 
 pub shape_of-work : goal.shape_of-work
 shape_of-work c = c.loop-i.invariant.2.same_length

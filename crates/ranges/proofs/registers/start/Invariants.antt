@@ -1,12 +1,8 @@
 -- The registers' names and cells one after the other.
 use Prim.Native.Nat.{◌-◌, ◌≤◌}
-use mathlib.Core.Path.{◌≡◌, refl, ap, subst}
-use native.Mathlib.Omega.{arith}
 use lib.ListN.{length}
 use Rattle.carrying.specs.Frames.{Keeps}
-use Rattle.ranges.specs.Routine.{registers_held, RegistersAt}
-use Rattle.carrying.proofs.FrameLaws.{keeps_all, keeps_then}
-use Rattle.ranges.proofs.RegisterLaws.{no_registers}
+use Rattle.ranges.specs.Routine.{RegistersAt}
 use Rattle.ranges.proofs.registers.start.Given as goal
 
 abbrev pub invariant-loop-i : goal.invariant-loop-i

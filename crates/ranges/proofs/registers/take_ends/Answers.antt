@@ -1,8 +1,6 @@
 -- The registers' ends one after the other.
-use Prim.Native.Nat.{◌-◌}
 use native.Mathlib.Omega.{arith}
-use lib.ListN.{length}
-use Rattle.ranges.proofs.RegisterLaws.{TakenSoFar, none_taken, one_more_taken, all_taken}
+use Rattle.ranges.proofs.RegisterLaws.{none_taken, one_more_taken, all_taken}
 use Rattle.ranges.proofs.registers.take_ends.Goals as goal
 
 pub loop-i-init : goal.loop-i-init
@@ -10,9 +8,9 @@ loop-i-init c = none_taken _ _ _
 
 pub contents-cell-requires : goal.contents-cell-requires
 contents-cell-requires c = record {
-      regions_end_in_bounds = c.requires.regions_end_in_bounds;
-      at_lt_most_cells = omega (arith, c.loop-i-test.true, c.loop-i.invariant.lowest_long, c.requires.lowest_len_bound);
-    }
+  regions_end_in_bounds = c.requires.regions_end_in_bounds;
+  at_lt_most_cells = omega (arith, c.loop-i-test.true, c.loop-i.invariant.lowest_long, c.requires.lowest_len_bound);
+}
 
 pub offset_bounds-lowest-i : goal.offset_bounds-lowest-i
 offset_bounds-lowest-i c = record { fits = omega (arith, c.loop-i-test.true, c.loop-i.invariant.lowest_long, c.requires.lowest_len_bound) }

@@ -1,8 +1,7 @@
 -- The registers' ends one after the other.
 use Prim.Native.Nat.{◌-◌}
-use native.Mathlib.Omega.{arith}
 use lib.ListN.{length}
-use Rattle.ranges.proofs.RegisterLaws.{TakenSoFar, none_taken, one_more_taken, all_taken}
+use Rattle.ranges.proofs.RegisterLaws.{TakenSoFar}
 use Rattle.ranges.proofs.registers.take_ends.Given as goal
 
 abbrev pub invariant-loop-i : goal.invariant-loop-i
