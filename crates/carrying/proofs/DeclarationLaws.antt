@@ -7,17 +7,16 @@ use native.Mathlib.Omega.{arith}
 use lib.ListN.{length, get_or}
 use Rattle.rules.specs.paper.Limits.{most_nodes, most_bindings, most_cells, names}
 use Rattle.rules.specs.paper.Tree.{Expression, Declaration, Bind, DSeq, Bound, plain, Ref}
-use Rattle.rules.specs.paper.Needs.{Needs, nothing, cells, bindings, in_turn, cells_of_bound, cells_left, bindings_left, over_formals, block_need, declaration_need, names_given, bound_function}
+use Rattle.rules.specs.paper.Needs.{Needs, nothing, in_turn, cells_of_bound, cells_left, bindings_left, over_formals, block_need, declaration_need, names_given, bound_function}
 use Rattle.rules.specs.paper.Carried.{Carried, location, Carrying, carried, unsafe, unfit, ◌>>=◌}
 use Rattle.rules.specs.paper.Carrying.{CarriedCells, CarriedNames, CarriedDeclared, CarriedBound, a_value, carry_expression, carry_declaration, carry_bound}
 use Rattle.reader.specs.KindNumbers.{bind_number, ref_number, abs_number}
 use Rattle.reader.specs.Pack.{packed_kind, packed_operand}
-use Rattle.reader.specs.Stored.{StoredExpression, StoredDeclaration, StoredBound}
-use Rattle.reader.proofs.StoredFields.{kind_is, operand_is}
+use Rattle.reader.specs.Stored.{kind_is, operand_is, StoredExpression, StoredDeclaration, StoredBound}
 use Rattle.reader.specs.Stored as Stored
 use Rattle.reader.specs.StoredLaws.{same_bound}
-use Rattle.reader.proofs.StandingLaws.{after_node, expression_low, bound_on}
-use Rattle.reader.proofs.KindTrees.{stored_expression_kind}
+use Rattle.reader.specs.StandingLaws.{after_node, expression_low, bound_on}
+use Rattle.reader.specs.KindTrees.{stored_expression_kind}
 use Rattle.intervals.specs.Values.{numbers_sort, location_sort, HoldsValue, holds_location, ExpressedAs}
 use Rattle.intervals.specs.declared.values.Value.{Value}
 use Rattle.intervals.specs.declared.values.Expressed.{Expressed}
@@ -28,7 +27,6 @@ use Rattle.carrying.specs.Frames.{Keeps, KeepsCells, PutRow, PutCell}
 use Rattle.carrying.specs.Answers.{Fits, SomeExpression, ExpressionCarried, SomeBind, DeclaredAs, DeclarationCarried}
 use Rattle.carrying.specs.declared.Held.{Held}
 use Rattle.carrying.specs.declared.declarations.Declared.{Declared}
-use Rattle.carrying.specs.declared.declarations.Declared.TheVariants as Declared
 use Rattle.carrying.proofs.FrameLaws.{row_keeps, row_keeps_cells, cell_keeps, cell_keeps_cells, keeps_fewer, keeps_fewer_cells, keeps_then, keeps_cells_then, kept_nodes}
 use Rattle.carrying.proofs.StateLaws.{names_kept, names_later, names_few, row_there, sort_small, holds_same, cells_kept, cells_length, cell_more}
 

@@ -16,9 +16,7 @@ use Rattle.carrying.specs.declared.Held.{Held}
 use Rattle.carrying.specs.declared.Outcome.{Outcome}
 use Rattle.carrying.specs.declared.Outcome.TheVariants.{Through, Unsafe}
 use Rattle.carrying.specs.declared.declarations.Declared.{Declared}
-use Rattle.carrying.specs.declared.declarations.Declared.TheVariants as Declared
 use Rattle.carrying.specs.declared.functions.Entered.{Entered}
-use Rattle.carrying.specs.declared.functions.Entered.TheVariants as Entered
 
 abbrev pub Fits : {A : Type 0} → Carrying A → Type 0
 Fits c = c ≡ unfit → ⊥

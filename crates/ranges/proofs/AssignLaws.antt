@@ -7,12 +7,12 @@ use mathlib.Core.Option.{Option, none, some}
 use native.Mathlib.Omega.{arith}
 use lib.ListN.{get_or}
 use Rattle.rules.specs.paper.Limits.{most_bindings, most_cells}
-use Rattle.rules.specs.paper.Tree.{Expression, Assign}
+use Rattle.rules.specs.paper.Tree.{Expression, Command, Assign}
 use Rattle.rules.specs.paper.Carried.{Carried, numbers, truths, location, carried, unfit}
 use Rattle.rules.specs.paper.Carrying.{CarriedCells, CarriedMeaning, a_value, a_function, CarriedNames, carried_at, carried_meaning, value_of, location_in, contents_at, same_sort, set_cell, carry_assign, carry_to}
 use Rattle.reader.specs.Pack.{packed_operand}
-use Rattle.reader.specs.Stored.{StoredCommand, assign}
-use Rattle.reader.proofs.StoredFields.{operand_is}
+use Rattle.reader.specs.Stored.{operand_is, StoredCommand}
+use Rattle.reader.specs.Stored as Stored
 use Rattle.intervals.specs.Values.{HoldsValue, holds_location}
 use Rattle.intervals.specs.declared.values.Value.{Value}
 use Rattle.carrying.specs.Layout.{row_value}
@@ -68,8 +68,16 @@ fit_target x v A K fits = by (assigned x v A K)
     by (never_sets q) = absurd (fits q)
 
 module _ (words : List ℕ) (environment node word r : ℕ) (value : Value) (operand : word ≡ packed_operand (get_or words node 0)) (found : FoundAt words environment word r) where
+  assigned_name : {d j x : ℕ} {e : Expression} {c : Command} → c ≡ Assign node x e → StoredCommand words d node j c → word ≡ x
+  assigned_name {x = x} q (Stored.assign {x = y} l h a) = let same : y ≡ x = cc in operand ∙ operand_is h (omega arith) ∙ same
+  assigned_name q (Stored.loop w a b) = let clash : ◌≡◌ {A = ℕ} 0 1 = cc in absurd (omega arith)
+  assigned_name q (Stored.cseq w a b) = let clash : ◌≡◌ {A = ℕ} 0 1 = cc in absurd (omega arith)
+  assigned_name q (Stored.block_of a) = let clash : ◌≡◌ {A = ℕ} 0 1 = cc in absurd (omega arith)
+  assigned_name q (Stored.call l few w a) = let clash : ◌≡◌ {A = ℕ} 0 1 = cc in absurd (omega arith)
+  assigned_name q (Stored.conditional w a b c) = let clash : ◌≡◌ {A = ℕ} 0 1 = cc in absurd (omega arith)
+
   name_is : {d j x : ℕ} {e : Expression} → StoredCommand words d node j (Assign node x e) → word ≡ x
-  name_is (assign l h a) = operand ∙ operand_is h (omega arith)
+  name_is t = assigned_name refl t
 
   sees_of : {count x : ℕ} {v : Carried} {A : CarriedNames} {K : CarriedCells} → AssignThere words environment node value count x v A K → Sees words environment A K
   sees_of there = record { limit = there.limit; needs = there.needs; count = _; names_are = there.names_are; cells_are = there.cells_are; count_few = there.count_few }

@@ -13,7 +13,7 @@ use Rattle.rules.specs.paper.Needs.{Needs, command_need}
 use Rattle.rules.specs.paper.Carried.{truths, Carrying, carried, ◌>>=◌, fitting}
 use Rattle.rules.specs.paper.Carrying.{CarriedCells, CarriedNames, wider_cells, carry_expression, carry_choosing, carry_command}
 use Rattle.reader.specs.Pack.{packed_kind, packed_end}
-use Rattle.reader.proofs.StandingLaws.{expression_low, command_low}
+use Rattle.reader.specs.StandingLaws.{expression_low, command_low}
 use Rattle.carrying.specs.States.{CellsAt, Room}
 use Rattle.carrying.specs.Frames.{Keeps, Copied, Exchanged, Widened}
 use Rattle.carrying.specs.Answers.{ExpressionThere, CommandThere, SomeCommand, CommandAs, CommandCarried}
@@ -25,7 +25,7 @@ use Rattle.carrying.proofs.FrameLaws.{keeps_all, keeps_then, keeps_fewer}
 use Rattle.carrying.proofs.StateLaws.{KeptAt, kept_stays, cells_copied, cells_exchanged, copy_exchanged, cells_widened}
 use Rattle.carrying.proofs.ReachLaws.{second_place, reach}
 use Rattle.ranges.proofs.OutcomeLaws.{told_through, told_at}
-use Rattle.ranges.proofs.CommandLaws.{Part, Seen, seen_conditional, seen}
+use Rattle.ranges.proofs.CommandLaws.{Part, Seen, seen_assign, seen_loop, seen_sequence, seen_block, seen_call, seen_conditional, seen}
 use Rattle.ranges.proofs.BranchLaws.{part_there, part_reach}
 
 -- What comes of both commands.
@@ -47,8 +47,26 @@ module _ (words : List ℕ) (held : Held) (node : ℕ) where
     first_room : Room held (command_need N c₁)
     second_room : Room held (command_need N c₂)
 
+  parts_at : {next : ℕ} {A : CarriedNames} {N : Needs} {K : CarriedCells} {e : Expression} {c₁ c₂ c : Command} → c ≡ Cond node e c₁ c₂ → Seen words held node which refl next A N K c → Parts next A N K e c₁ c₂
+  parts_at q (seen_assign p e) = let clash : ◌≡◌ {A = ℕ} 0 1 = cc in absurd (omega arith)
+  parts_at q seen_loop = let clash : ◌≡◌ {A = ℕ} 0 1 = cc in absurd (omega arith)
+  parts_at q (seen_sequence p a b f g) = let clash : ◌≡◌ {A = ℕ} 0 1 = cc in absurd (omega arith)
+  parts_at q (seen_block p e a b r) = let clash : ◌≡◌ {A = ℕ} 0 1 = cc in absurd (omega arith)
+  parts_at q (seen_call p) = let clash : ◌≡◌ {A = ℕ} 0 1 = cc in absurd (omega arith)
+  parts_at {next = next} {A = A} {N = N} {K = K} {e = e} {c₁ = c₁} {c₂ = c₂} q (seen_conditional {e = t} {c₁ = d₁} {c₂ = d₂} p there a b f g) =
+      let same_test : t ≡ e = cc in
+      let same_first : d₁ ≡ c₁ = cc in
+      let same_second : d₂ ≡ c₂ = cc in
+      record {
+        test = subst (λ x. ExpressionThere words held.environment (node + 1) x A K) same_test there;
+        first = subst (λ c. Part words held node which refl (second_place words node) next c) same_first a;
+        second = subst (λ c. Part words held node which refl third_place next c) same_second b;
+        first_room = subst (λ c. Room held (command_need N c)) same_first f;
+        second_room = subst (λ c. Room held (command_need N c)) same_second g;
+      }
+
   parts_of : {next : ℕ} {A : CarriedNames} {N : Needs} {K : CarriedCells} {e : Expression} {c₁ c₂ : Command} → Seen words held node which refl next A N K (Cond node e c₁ c₂) → Parts next A N K e c₁ c₂
-  parts_of (seen_conditional p e a b f g) = record { test = e; first = a; second = b; first_room = f; second_room = g }
+  parts_of s = parts_at refl s
 
   parts : {A : CarriedNames} {N : Needs} {K : CarriedCells} {e : Expression} {c₁ c₂ : Command} (there : CommandThere words held node (Cond node e c₁ c₂) A N K) → Parts there.next A N K e c₁ c₂
   parts there = parts_of (seen words held node which refl there)

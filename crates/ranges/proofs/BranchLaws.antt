@@ -6,14 +6,14 @@ use native.Mathlib.Omega.{arith}
 use lib.ListN.{length, get_or}
 use Rattle.rules.specs.paper.Limits.{most_nodes}
 use Rattle.rules.specs.paper.Tree.{Expression, Command, Loop, CSeq, block, Call, Block, Blk, Declaration}
-use Rattle.rules.specs.paper.Needs.{bindings, cells, sizes, Needs, over, cells_left, bindings_left, command_need, names_given}
+use Rattle.rules.specs.paper.Needs.{sizes, Needs, over, cells_left, bindings_left, command_need, names_given}
 use Rattle.rules.specs.paper.Carried.{Carrying, carried, unsafe, unfit, ◌>>=◌}
 use Rattle.rules.specs.paper.Carrying.{CarriedCells, CarriedNames, CarriedDeclared, oldest_cells, carry_command, carry_block, carry_declaration}
 use Rattle.reader.specs.KindNumbers.{cseq_number, blk_number, call_number}
 use Rattle.reader.specs.Pack.{packed_kind, packed_end}
 use Rattle.reader.specs.Stored.{StoredCommand, block_of}
 use Rattle.reader.specs.StoredLaws.{same_command}
-use Rattle.reader.proofs.StandingLaws.{command_on, command_root, block_root}
+use Rattle.reader.specs.StandingLaws.{command_on, command_root, block_root}
 use Rattle.carrying.specs.States.{CellsAt, StateAt, Room}
 use Rattle.carrying.specs.Frames.{Keeps}
 use Rattle.carrying.specs.Answers.{Fits, DeclarationThere, SomeDeclaration, DeclaredState, DeclarationCarried, CommandThere, SomeCommand, CommandAs, CommandCarried, FunctionThere, EnteredAs, entered, not_entered, never_entered, SomeCall, CallCarried}
@@ -21,9 +21,7 @@ use Rattle.carrying.specs.declared.Held.{Held}
 use Rattle.carrying.specs.declared.Outcome.{Outcome}
 use Rattle.carrying.specs.declared.Outcome.TheVariants.{Through, Unsafe}
 use Rattle.carrying.specs.declared.declarations.Declared.{Declared}
-use Rattle.carrying.specs.declared.declarations.Declared.TheVariants as Declared
 use Rattle.carrying.specs.declared.functions.Entered.{Entered}
-use Rattle.carrying.specs.declared.functions.Entered.TheVariants as Entered
 use Rattle.carrying.proofs.FrameLaws.{kept_nodes, keeps_all}
 use Rattle.carrying.proofs.StateLaws.{cells_length, cells_oldest}
 use Rattle.carrying.proofs.ReachLaws.{second_place, reach, child_reach, function_reach}

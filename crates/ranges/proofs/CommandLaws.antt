@@ -5,14 +5,13 @@ use mathlib.Core.List.{List, [], ◌∷◌, ◌++◌}
 use native.Mathlib.Omega.{arith}
 use lib.ListN.{get_or}
 use Rattle.rules.specs.paper.Tree.{Expression, Command, Assign, Loop, CSeq, block, Call, Cond, Blk, Declaration}
-use Rattle.rules.specs.paper.Needs.{Figure, cells, sizes, Need, Needs, step, over, either, node_step, in_turn, expression_need, cells_left, bindings_left, tested_need, command_need, block_need, declaration_need, names_given}
+use Rattle.rules.specs.paper.Needs.{Figure, sizes, Need, Needs, step, over, either, node_step, in_turn, expression_need, cells_left, bindings_left, tested_need, command_need, block_need, declaration_need, names_given}
 use Rattle.rules.specs.paper.Carrying.{CarriedCells, CarriedNames}
 use Rattle.reader.specs.KindNumbers.{assign_number, cseq_number, blk_number, call_number, conditional_number}
 use Rattle.reader.specs.Pack.{packed_kind, packed_end}
-use Rattle.reader.specs.Stored.{StoredExpression, StoredCommand, blk, StoredDeclaration}
-use Rattle.reader.proofs.StoredFields.{kind_is}
+use Rattle.reader.specs.Stored.{kind_is, StoredExpression, StoredCommand, blk, StoredDeclaration}
 use Rattle.reader.specs.Stored as Stored
-use Rattle.reader.proofs.StandingLaws.{after_node, expression_on, expression_end, command_on, command_end, declaration_on, declaration_end}
+use Rattle.reader.specs.StandingLaws.{after_node, expression_on, expression_end, command_on, command_end, declaration_on, declaration_end}
 use Rattle.carrying.specs.States.{StateAt, Sees, Room}
 use Rattle.carrying.specs.Answers.{ExpressionThere, DeclarationThere, CommandThere}
 use Rattle.carrying.specs.declared.Held.{Held}

@@ -15,7 +15,6 @@ use Rattle.carrying.specs.declared.Held.{Held}
 use Rattle.carrying.specs.declared.Outcome.{Outcome}
 use Rattle.carrying.specs.declared.Outcome.TheVariants.{Through, Unsafe}
 use Rattle.carrying.specs.declared.declarations.Declared.{Declared}
-use Rattle.carrying.specs.declared.declarations.Declared.TheVariants as Declared
 use Rattle.carrying.proofs.StateLaws.{names_kept, names_later}
 
 -- ---- Outcomes.

@@ -5,20 +5,19 @@ use mathlib.Core.List.{List}
 use native.Mathlib.Omega.{arith}
 use lib.ListN.{length, get_or}
 use Rattle.rules.specs.paper.Tree.{Expression, Command, Root, expression, command}
-use Rattle.rules.specs.paper.Needs.{bindings, cells, Needs, register_needs, root_need, routine_need}
+use Rattle.rules.specs.paper.Needs.{Needs, register_needs, root_need, routine_need}
 use Rattle.rules.specs.paper.Carried.{Carrying, carried, unsafe, unfit, ◌>>=◌}
 use Rattle.rules.specs.paper.Carrying.{CarriedCells, CarriedNames, register_names, register_cells, carry_expression, carry_root, carry_routine}
 use Rattle.reader.specs.KindNumbers.{assign_number}
-use Rattle.reader.proofs.KindTrees.{stored_expression_kind, stored_command_kind}
+use Rattle.reader.specs.KindTrees.{stored_expression_kind, stored_command_kind}
 use Rattle.reader.specs.Pack.{packed_kind}
 use Rattle.reader.specs.Stored.{StoredRoot, root_expression, root_command, root_absent, RootAt}
 use Rattle.reader.specs.StoredLaws.{same_root}
-use Rattle.reader.proofs.StandingLaws.{expression_on, command_on}
+use Rattle.reader.specs.StandingLaws.{expression_on, command_on}
 use Rattle.integers.specs.Words.{integers_of}
 use Rattle.intervals.specs.Values.{numbers_sort}
 use Rattle.intervals.specs.declared.values.Value.{Value}
 use Rattle.intervals.specs.declared.values.Expressed.{Expressed}
-use Rattle.intervals.specs.declared.values.Expressed.TheVariants as Expressed
 use Rattle.carrying.specs.Layout.{cell_sorts}
 use Rattle.carrying.specs.States.{CellsAt, StateAt, Sees, Room}
 use Rattle.carrying.specs.Frames.{Keeps}

@@ -1,9 +1,6 @@
 -- The cells are copied one by one.
-use Prim.Native.Nat.{◌+◌, ◌-◌}
-use lib.ListN.{get_or, length-set}
-use Rattle.carrying.specs.Layout.{cell_lows}
-use native.Mathlib.Omega.{arith}
-use Rattle.carrying.proofs.CopyLaws.{CopiedSoFar, none_copied, one_more_copied, all_copied}
+use Prim.Native.Nat.{◌-◌}
+use Rattle.carrying.proofs.CopyLaws.{CopiedSoFar}
 use Rattle.carrying.proofs.cells.copy.Given as goal
 
 abbrev pub invariant-loop-at : goal.invariant-loop-at

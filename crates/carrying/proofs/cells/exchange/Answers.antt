@@ -1,10 +1,7 @@
 -- The cells and their copy change places one by one.
-use Prim.Native.Nat.{◌+◌, ◌-◌}
-use lib.ListN.{get_or, length-set}
-use Rattle.carrying.specs.Layout.{cell_lows}
 use mathlib.Core.Path.{refl}
 use native.Mathlib.Omega.{arith}
-use Rattle.carrying.proofs.CopyLaws.{ExchangedSoFar, none_exchanged, one_more_exchanged, all_exchanged}
+use Rattle.carrying.proofs.CopyLaws.{none_exchanged, one_more_exchanged, all_exchanged}
 use Rattle.carrying.proofs.cells.exchange.Goals as goal
 
 pub loop-at-init : goal.loop-at-init
@@ -45,9 +42,9 @@ bounds-kept-at-in-loop-at c = omega (arith, c.loop-at-test.true, c.requires.cell
 
 pub set_cell-requires : goal.set_cell-requires
 set_cell-requires c = record {
-      regions_end_in_bounds = omega (arith, c.requires.regions_end_in_bounds, c.loop-at.invariant.so_far.keeps.same_length);
-      at_lt_most_cells = omega (arith, c.loop-at-test.true, c.requires.cells_le_most_cells);
-    }
+  regions_end_in_bounds = omega (arith, c.requires.regions_end_in_bounds, c.loop-at.invariant.so_far.keeps.same_length);
+  at_lt_most_cells = omega (arith, c.loop-at-test.true, c.requires.cells_le_most_cells);
+}
 
 pub offset_bounds-kept-at-in-loop-at-2 : goal.offset_bounds-kept-at-in-loop-at-2
 offset_bounds-kept-at-in-loop-at-2 c = record { fits = omega (arith, c.loop-at-test.true, c.requires.cells_le_most_cells) }

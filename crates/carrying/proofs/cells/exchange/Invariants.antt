@@ -1,10 +1,6 @@
 -- The cells and their copy change places one by one.
-use Prim.Native.Nat.{◌+◌, ◌-◌}
-use lib.ListN.{get_or, length-set}
-use Rattle.carrying.specs.Layout.{cell_lows}
-use mathlib.Core.Path.{refl}
-use native.Mathlib.Omega.{arith}
-use Rattle.carrying.proofs.CopyLaws.{ExchangedSoFar, none_exchanged, one_more_exchanged, all_exchanged}
+use Prim.Native.Nat.{◌-◌}
+use Rattle.carrying.proofs.CopyLaws.{ExchangedSoFar}
 use Rattle.carrying.proofs.cells.exchange.Given as goal
 
 abbrev pub invariant-loop-at : goal.invariant-loop-at

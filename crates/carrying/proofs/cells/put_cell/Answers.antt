@@ -4,7 +4,6 @@ use lib.ListN.{set, length-set}
 use Rattle.carrying.specs.Layout.{cell_sorts, cell_lows}
 use native.Mathlib.Omega.{arith}
 use Rattle.carrying.proofs.FrameLaws.{cell_put}
-use borrow.Author.Rules.{rules}
 use Rattle.carrying.proofs.cells.put_cell.Goals as goal
 
 pub bounds-work-at-2 : goal.bounds-work-at-2

@@ -4,7 +4,6 @@ use lib.ListN.{length-set}
 use Rattle.carrying.specs.Layout.{cell_lows}
 use native.Mathlib.Omega.{arith}
 use Rattle.carrying.proofs.FrameLaws.{cell_set}
-use borrow.Author.Rules.{rules}
 use Rattle.carrying.proofs.cells.set_cell.Goals as goal
 
 pub bounds-work-at-2 : goal.bounds-work-at-2

@@ -1,7 +1,6 @@
 -- The cells are widened one by one.
-use Prim.Native.Nat.{◌-◌}
 use native.Mathlib.Omega.{arith}
-use Rattle.carrying.proofs.CopyLaws.{WidenedSoFar, none_widened, widened_by, one_more_widened, all_widened}
+use Rattle.carrying.proofs.CopyLaws.{none_widened, widened_by, one_more_widened, all_widened}
 use Rattle.carrying.proofs.cells.widen.Goals as goal
 
 pub loop-at-init : goal.loop-at-init
@@ -9,9 +8,9 @@ loop-at-init c = none_widened _ _ _
 
 pub contents-second-requires : goal.contents-second-requires
 contents-second-requires c = record {
-      regions_end_in_bounds = omega (arith, c.requires.regions_end_in_bounds, c.loop-at.invariant.so_far.keeps.same_length);
-      at_lt_most_cells = omega (arith, c.loop-at-test.true, c.requires.cells_le_most_cells);
-    }
+  regions_end_in_bounds = omega (arith, c.requires.regions_end_in_bounds, c.loop-at.invariant.so_far.keeps.same_length);
+  at_lt_most_cells = omega (arith, c.loop-at-test.true, c.requires.cells_le_most_cells);
+}
 
 pub offset_bounds-kept-at : goal.offset_bounds-kept-at
 offset_bounds-kept-at c = record { fits = omega (arith, c.loop-at-test.true, c.requires.cells_le_most_cells) }
@@ -33,9 +32,9 @@ wider-both-requires c = tt
 
 pub set_cell-requires : goal.set_cell-requires
 set_cell-requires c = record {
-      regions_end_in_bounds = omega (arith, c.requires.regions_end_in_bounds, c.loop-at.invariant.so_far.keeps.same_length);
-      at_lt_most_cells = omega (arith, c.loop-at-test.true, c.requires.cells_le_most_cells);
-    }
+  regions_end_in_bounds = omega (arith, c.requires.regions_end_in_bounds, c.loop-at.invariant.so_far.keeps.same_length);
+  at_lt_most_cells = omega (arith, c.loop-at-test.true, c.requires.cells_le_most_cells);
+}
 
 pub overflow_add-at : goal.overflow_add-at
 overflow_add-at c = record { fits = omega (arith, c.loop-at-test.true, c.requires.cells_le_most_cells) }

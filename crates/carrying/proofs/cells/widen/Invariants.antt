@@ -1,7 +1,6 @@
 -- The cells are widened one by one.
 use Prim.Native.Nat.{◌-◌}
-use native.Mathlib.Omega.{arith}
-use Rattle.carrying.proofs.CopyLaws.{WidenedSoFar, none_widened, widened_by, one_more_widened, all_widened}
+use Rattle.carrying.proofs.CopyLaws.{WidenedSoFar}
 use Rattle.carrying.proofs.cells.widen.Given as goal
 
 abbrev pub invariant-loop-at : goal.invariant-loop-at

@@ -1,10 +1,8 @@
 -- The proof of `declaration`, which calls itself: a DSeq carries its second on what its first leaves, and anything else is a Bind. The measure is the
 -- size of the tree that stands there.
 use native.Mathlib.Omega.{arith}
-use borrow.Author.Rules.{rules}
-use Rattle.reader.proofs.StandingLaws.{declaration_low}
-use Rattle.carrying.proofs.DeclarationSequences.{declaration_size, bind_there, first_there, first_unsafe, second_there, sequence_declared, sequence_keeps}
-use Prim.Native.Nat.{ℕ, ◌<◌}
+use Rattle.reader.specs.StandingLaws.{declaration_low}
+use Rattle.carrying.proofs.DeclarationSequences.{bind_there, first_there, first_unsafe, second_there, sequence_declared, sequence_keeps}
 use Rattle.carrying.proofs.declarations.+declaration.Goals as goal
 
 pub kind-which-requires : goal.kind-which-requires
@@ -20,10 +18,10 @@ declaration-first-requires t c =
 
 pub returns-in_default : goal.returns-in_default
 returns-in_default t c = record {
-      declaration_carried = first_unsafe _ _ _ _ c.kind-which.ensures c.if-which-eq-DSEQ.true _ _ c.declaration-first.ensures.keeps c.declaration-first.ensures.declaration_carried _ c.in_default.is;
-      keeps = c.declaration-first.ensures.keeps;
-      keeps_cells = c.declaration-first.ensures.keeps_cells;
-    }
+  declaration_carried = first_unsafe _ _ _ _ c.kind-which.ensures c.if-which-eq-DSEQ.true _ _ c.declaration-first.ensures.keeps c.declaration-first.ensures.declaration_carried _ c.in_default.is;
+  keeps = c.declaration-first.ensures.keeps;
+  keeps_cells = c.declaration-first.ensures.keeps_cells;
+}
 
 pub overflow_add-node-then-which-eq-DSEQ : goal.overflow_add-node-then-which-eq-DSEQ
 overflow_add-node-then-which-eq-DSEQ t c = record { fits = omega (arith, (first_there _ _ _ _ c.kind-which.ensures c.if-which-eq-DSEQ.true c.requires.some_declaration).low) }
@@ -46,13 +44,13 @@ returns-then-which-eq-DSEQ t c =
 
 pub bind-requires : goal.bind-requires
 bind-requires t c = record {
-      regions_end_in_bounds = c.requires.regions_end_in_bounds;
-      some_bind = bind_there _ _ _ _ c.kind-which.ensures c.if-which-eq-DSEQ.false c.requires.some_declaration;
-    }
+  regions_end_in_bounds = c.requires.regions_end_in_bounds;
+  some_bind = bind_there _ _ _ _ c.kind-which.ensures c.if-which-eq-DSEQ.false c.requires.some_declaration;
+}
 
 pub returns : goal.returns
 returns t c = record {
-      declaration_carried = c.bind.ensures.declaration_carried;
-      keeps = c.bind.ensures.keeps;
-      keeps_cells = c.bind.ensures.keeps_cells;
-    }
+  declaration_carried = c.bind.ensures.declaration_carried;
+  keeps = c.bind.ensures.keeps;
+  keeps_cells = c.bind.ensures.keeps_cells;
+}

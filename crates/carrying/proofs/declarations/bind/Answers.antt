@@ -3,7 +3,6 @@
 use native.Mathlib.Omega.{arith}
 use Rattle.carrying.proofs.FrameLaws.{keeps_all, keeps_all_cells}
 use Rattle.carrying.proofs.DeclarationLaws.{bind_low, bind_row, function_bound, function_keeps, referent_there, reference_bound, reference_keeps, reference_unsafe, value_there, value_sort, value_bound, value_keeps, value_unsafe}
-use borrow.Author.Rules.{rules}
 use Rattle.carrying.proofs.declarations.bind.Goals as goal
 
 pub operand-name-requires : goal.operand-name-requires
@@ -41,15 +40,15 @@ overflow_add-node-then-which-eq-REF c = record { fits = omega (arith, bind_low _
 
 pub expression-made-requires : goal.expression-made-requires
 expression-made-requires c = record {
-      regions_end_in_bounds = c.requires.regions_end_in_bounds;
-      some_expression = (referent_there _ _ _ _ _ c.operand-name.ensures c.kind-which.ensures c.if-which-eq-REF.true c.requires.some_bind).0;
-    }
+  regions_end_in_bounds = c.requires.regions_end_in_bounds;
+  some_expression = (referent_there _ _ _ _ _ c.operand-name.ensures c.kind-which.ensures c.if-which-eq-REF.true c.requires.some_bind).0;
+}
 
 pub put_cell-requires : goal.put_cell-requires
 put_cell-requires c = record {
-      regions_end_in_bounds = c.requires.regions_end_in_bounds;
-      at_lt_most_cells = (referent_there _ _ _ _ _ c.operand-name.ensures c.kind-which.ensures c.if-which-eq-REF.true c.requires.some_bind).1;
-    }
+  regions_end_in_bounds = c.requires.regions_end_in_bounds;
+  at_lt_most_cells = (referent_there _ _ _ _ _ c.operand-name.ensures c.kind-which.ensures c.if-which-eq-REF.true c.requires.some_bind).1;
+}
 
 pub put_row-requires-in-Is : goal.put_row-requires-in-Is
 put_row-requires-in-Is c =
@@ -71,19 +70,19 @@ returns-in-Is c =
 
 pub returns-in-Unsafe : goal.returns-in-Unsafe
 returns-in-Unsafe c = record {
-      declaration_carried = reference_unsafe _ _ _ _ _ c.operand-name.ensures c.kind-which.ensures c.if-which-eq-REF.true _ c.expression-made.ensures c.in-Unsafe.place c.in-Unsafe.is c.requires.some_bind;
-      keeps = keeps_all _ _ _;
-      keeps_cells = keeps_all_cells _ _;
-    }
+  declaration_carried = reference_unsafe _ _ _ _ _ c.operand-name.ensures c.kind-which.ensures c.if-which-eq-REF.true _ c.expression-made.ensures c.in-Unsafe.place c.in-Unsafe.is c.requires.some_bind;
+  keeps = keeps_all _ _ _;
+  keeps_cells = keeps_all_cells _ _;
+}
 
 pub overflow_add-node-2 : goal.overflow_add-node-2
 overflow_add-node-2 c = record { fits = omega (arith, bind_low _ _ _ c.requires.some_bind) }
 
 pub expression-given-requires : goal.expression-given-requires
 expression-given-requires c = record {
-      regions_end_in_bounds = c.requires.regions_end_in_bounds;
-      some_expression = value_there _ _ _ _ _ c.operand-name.ensures c.kind-which.ensures c.if-which-eq-ABS.false c.if-which-eq-REF.false c.requires.some_bind;
-    }
+  regions_end_in_bounds = c.requires.regions_end_in_bounds;
+  some_expression = value_there _ _ _ _ _ c.operand-name.ensures c.kind-which.ensures c.if-which-eq-ABS.false c.if-which-eq-REF.false c.requires.some_bind;
+}
 
 pub put_row-requires-in-Is-given : goal.put_row-requires-in-Is-given
 put_row-requires-in-Is-given c =
@@ -106,7 +105,7 @@ returns-in-Is-given c =
 
 pub returns-in-Unsafe-given : goal.returns-in-Unsafe-given
 returns-in-Unsafe-given c = record {
-      declaration_carried = value_unsafe _ _ _ _ _ c.operand-name.ensures c.kind-which.ensures c.if-which-eq-ABS.false c.if-which-eq-REF.false _ c.expression-given.ensures c.in-Unsafe-given.place c.in-Unsafe-given.is c.requires.some_bind;
-      keeps = keeps_all _ _ _;
-      keeps_cells = keeps_all_cells _ _;
-    }
+  declaration_carried = value_unsafe _ _ _ _ _ c.operand-name.ensures c.kind-which.ensures c.if-which-eq-ABS.false c.if-which-eq-REF.false _ c.expression-given.ensures c.in-Unsafe-given.place c.in-Unsafe-given.is c.requires.some_bind;
+  keeps = keeps_all _ _ _;
+  keeps_cells = keeps_all_cells _ _;
+}

@@ -1,11 +1,8 @@
 -- The proof of `expression`, which calls itself: the node's kind says which expression stands there, and what it gives follows from its children's.
 -- The measure is the size of the tree that stands there.
-use borrow.Author.Rules.{rules}
 use native.Mathlib.Omega.{arith}
-use Rattle.reader.proofs.StandingLaws.{expression_low}
-use Rattle.carrying.proofs.ReachLaws.{subtree_size}
+use Rattle.reader.specs.StandingLaws.{expression_low}
 use Rattle.carrying.proofs.ExpressionLaws.{low_leaf, high_leaf, low_leaf_carried, high_leaf_carried, first_child, first_low, first_unsafe, negation_carried, second_child, second_unsafe, binary_carried}
-use Prim.Native.Nat.{ℕ, ◌<◌}
 use Rattle.carrying.proofs.expressions.+expression.Goals as goal
 
 pub kind-which-requires : goal.kind-which-requires
@@ -13,18 +10,18 @@ kind-which-requires t c = omega (arith, expression_low c.requires.some_expressio
 
 pub leaf-requires : goal.leaf-requires
 leaf-requires t c = record {
-      regions_end_in_bounds = c.requires.regions_end_in_bounds;
-      some_leaf = low_leaf _ _ _ _ c.kind-which.ensures c.if-which-lt-SUM.true c.requires.some_expression;
-    }
+  regions_end_in_bounds = c.requires.regions_end_in_bounds;
+  some_leaf = low_leaf _ _ _ _ c.kind-which.ensures c.if-which-lt-SUM.true c.requires.some_expression;
+}
 
 pub returns-then-which-lt-SUM : goal.returns-then-which-lt-SUM
 returns-then-which-lt-SUM t c = low_leaf_carried _ _ _ _ c.kind-which.ensures c.if-which-lt-SUM.true _ c.leaf.ensures
 
 pub leaf-requires-then-which-gt-NOT : goal.leaf-requires-then-which-gt-NOT
 leaf-requires-then-which-gt-NOT t c = record {
-      regions_end_in_bounds = c.requires.regions_end_in_bounds;
-      some_leaf = high_leaf _ _ _ _ c.kind-which.ensures c.if-which-gt-NOT.true c.requires.some_expression;
-    }
+  regions_end_in_bounds = c.requires.regions_end_in_bounds;
+  some_leaf = high_leaf _ _ _ _ c.kind-which.ensures c.if-which-gt-NOT.true c.requires.some_expression;
+}
 
 pub returns-then-which-gt-NOT : goal.returns-then-which-gt-NOT
 returns-then-which-gt-NOT t c = high_leaf_carried _ _ _ _ c.kind-which.ensures c.if-which-gt-NOT.true _ c.leaf-then-which-gt-NOT.ensures

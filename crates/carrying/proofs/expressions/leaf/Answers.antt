@@ -1,8 +1,7 @@
 -- An expression without children, by its kind.
 use native.Mathlib.Omega.{arith}
-use Rattle.reader.proofs.StandingLaws.{expression_low}
+use Rattle.reader.specs.StandingLaws.{expression_low}
 use Rattle.carrying.proofs.LeafLaws.{number_gives, truth_low, truth_gives, leaf_names, row_found, deref_gives, plain_gives, cell_among, contents_gives, shown_among, shown_gives}
-use borrow.Author.Rules.{rules}
 use Rattle.carrying.proofs.expressions.leaf.Goals as goal
 
 pub kind-which-requires : goal.kind-which-requires
@@ -30,9 +29,9 @@ returns-then-bound-ne-LOCATION c =
 
 pub contents-held-requires : goal.contents-held-requires
 contents-held-requires c = record {
-      regions_end_in_bounds = c.requires.regions_end_in_bounds;
-      at_lt_most_cells = cell_among _ _ _ _ _ c.find-row.ensures.found_at _ c.row_value-bound.ensures c.if-bound-ne-LOCATION.false c.requires.some_leaf.3.sees c.if-which-eq-DEREF.false (leaf_names _ _ _ _ _ c.kind-which.ensures c.operand-word.ensures c.if-which-eq-NUM.false c.if-which-eq-BOO.false c.requires.some_leaf.3 c.requires.some_leaf.5) c.requires.some_leaf.4;
-    }
+  regions_end_in_bounds = c.requires.regions_end_in_bounds;
+  at_lt_most_cells = cell_among _ _ _ _ _ c.find-row.ensures.found_at _ c.row_value-bound.ensures c.if-bound-ne-LOCATION.false c.requires.some_leaf.3.sees c.if-which-eq-DEREF.false (leaf_names _ _ _ _ _ c.kind-which.ensures c.operand-word.ensures c.if-which-eq-NUM.false c.if-which-eq-BOO.false c.requires.some_leaf.3 c.requires.some_leaf.5) c.requires.some_leaf.4;
+}
 
 pub returns-then-which-eq-ID : goal.returns-then-which-eq-ID
 returns-then-which-eq-ID c =
@@ -40,9 +39,9 @@ returns-then-which-eq-ID c =
 
 pub contents-requires : goal.contents-requires
 contents-requires c = record {
-      regions_end_in_bounds = c.requires.regions_end_in_bounds;
-      at_lt_most_cells = shown_among _ _ _ _ _ c.find-row.ensures.found_at _ c.row_value-bound.ensures c.if-bound-ne-LOCATION.false _ c.contents-held.ensures c.requires.some_leaf.3.sees c.if-which-eq-DEREF.false c.if-which-eq-ID.false (leaf_names _ _ _ _ _ c.kind-which.ensures c.operand-word.ensures c.if-which-eq-NUM.false c.if-which-eq-BOO.false c.requires.some_leaf.3 c.requires.some_leaf.5) c.requires.some_leaf.4;
-    }
+  regions_end_in_bounds = c.requires.regions_end_in_bounds;
+  at_lt_most_cells = shown_among _ _ _ _ _ c.find-row.ensures.found_at _ c.row_value-bound.ensures c.if-bound-ne-LOCATION.false _ c.contents-held.ensures c.requires.some_leaf.3.sees c.if-which-eq-DEREF.false c.if-which-eq-ID.false (leaf_names _ _ _ _ _ c.kind-which.ensures c.operand-word.ensures c.if-which-eq-NUM.false c.if-which-eq-BOO.false c.requires.some_leaf.3 c.requires.some_leaf.5) c.requires.some_leaf.4;
+}
 
 pub returns : goal.returns
 returns c =

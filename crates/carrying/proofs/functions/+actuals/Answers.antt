@@ -1,18 +1,16 @@
 -- The proof of `actuals`, which calls itself for the later ones before it carries the first and puts its value in its row. The measure is how many are
 -- left.
 use native.Mathlib.Omega.{arith}
-use borrow.Author.Rules.{rules}
 use Rattle.carrying.proofs.FrameLaws.{keeps_all, keeps_all_cells, keeps_fewer}
 use Rattle.carrying.proofs.ActualLaws.{no_actual_left, actuals_low, later_there, later_unsafe, first_there, first_unsafe, actual_sort, actual_put, actual_keeps}
-use Prim.Native.Nat.{ℕ, ◌<◌}
 use Rattle.carrying.proofs.functions.+actuals.Goals as goal
 
 pub returns-then-left-eq0 : goal.returns-then-left-eq0
 returns-then-left-eq0 t c = record {
-      actuals_carried = no_actual_left _ _ _ _ _ c.if-left-eq0.true;
-      keeps = keeps_all _ _ _;
-      keeps_cells = keeps_all_cells _ _;
-    }
+  actuals_carried = no_actual_left _ _ _ _ _ c.if-left-eq0.true;
+  keeps = keeps_all _ _ _;
+  keeps_cells = keeps_all_cells _ _;
+}
 
 pub end-next-requires : goal.end-next-requires
 end-next-requires t c = omega (arith, (actuals_low _ _ _ _ _ c.if-left-eq0.false c.requires.some_actuals).0, c.requires.regions_end_in_bounds)
@@ -29,16 +27,16 @@ actuals-later-requires t c =
 
 pub returns-in_default : goal.returns-in_default
 returns-in_default t c = record {
-      actuals_carried = later_unsafe _ _ _ _ _ c.if-left-eq0.false _ c.end-next.ensures _ _ c.actuals-later.ensures.actuals_carried _ c.in_default.is;
-      keeps = keeps_fewer (omega arith) (omega arith) c.actuals-later.ensures.keeps;
-      keeps_cells = c.actuals-later.ensures.keeps_cells;
-    }
+  actuals_carried = later_unsafe _ _ _ _ _ c.if-left-eq0.false _ c.end-next.ensures _ _ c.actuals-later.ensures.actuals_carried _ c.in_default.is;
+  keeps = keeps_fewer (omega arith) (omega arith) c.actuals-later.ensures.keeps;
+  keeps_cells = c.actuals-later.ensures.keeps_cells;
+}
 
 pub expression-given-requires : goal.expression-given-requires
 expression-given-requires t c = record {
-      regions_end_in_bounds = omega (arith, c.requires.regions_end_in_bounds, c.actuals-later.ensures.keeps.same_length);
-      some_expression = first_there _ _ _ _ _ c.if-left-eq0.false _ c.end-next.ensures _ _ c.actuals-later.ensures.actuals_carried c.in-Through.is c.actuals-later.ensures.keeps c.actuals-later.ensures.keeps_cells c.requires.some_actuals;
-    }
+  regions_end_in_bounds = omega (arith, c.requires.regions_end_in_bounds, c.actuals-later.ensures.keeps.same_length);
+  some_expression = first_there _ _ _ _ _ c.if-left-eq0.false _ c.end-next.ensures _ _ c.actuals-later.ensures.actuals_carried c.in-Through.is c.actuals-later.ensures.keeps c.actuals-later.ensures.keeps_cells c.requires.some_actuals;
+}
 
 pub put_row-requires : goal.put_row-requires
 put_row-requires t c =
@@ -60,7 +58,7 @@ returns-in-Is t c =
 
 pub returns-in-Unsafe : goal.returns-in-Unsafe
 returns-in-Unsafe t c = record {
-      actuals_carried = first_unsafe _ _ _ _ _ c.if-left-eq0.false _ c.end-next.ensures _ _ c.actuals-later.ensures.actuals_carried c.in-Through.is c.actuals-later.ensures.keeps c.actuals-later.ensures.keeps_cells _ c.expression-given.ensures c.in-Unsafe.place c.in-Unsafe.is;
-      keeps = keeps_fewer (omega arith) (omega arith) c.actuals-later.ensures.keeps;
-      keeps_cells = c.actuals-later.ensures.keeps_cells;
-    }
+  actuals_carried = first_unsafe _ _ _ _ _ c.if-left-eq0.false _ c.end-next.ensures _ _ c.actuals-later.ensures.actuals_carried c.in-Through.is c.actuals-later.ensures.keeps c.actuals-later.ensures.keeps_cells _ c.expression-given.ensures c.in-Unsafe.place c.in-Unsafe.is;
+  keeps = keeps_fewer (omega arith) (omega arith) c.actuals-later.ensures.keeps;
+  keeps_cells = c.actuals-later.ensures.keeps_cells;
+}

@@ -1,30 +1,29 @@
 -- The proof of `formals`, which gives the first row its name and calls itself for the later ones. The measure is how many are left.
 use mathlib.Core.Path.{sym, subst}
 use native.Mathlib.Omega.{arith}
-use borrow.Author.Rules.{rules}
 use Rattle.carrying.specs.Layout.{sorts}
 use Rattle.carrying.proofs.FrameLaws.{keeps_all, keeps_all_cells}
 use Rattle.carrying.proofs.ActualLaws.{no_formal_left, formals_low, formals_later, formals_named, formals_keep}
-use Prim.Native.Nat.{ℕ, ◌<◌}
+use Prim.Native.Nat.{◌<◌}
 use Rattle.carrying.proofs.functions.+formals.Goals as goal
 
 pub returns-then-left-eq0 : goal.returns-then-left-eq0
 returns-then-left-eq0 t c = record {
-      formals_named = no_formal_left _ _ _ _ _ c.if-left-eq0.true;
-      upper_bound = omega (arith, c.requires.some_formals.2.below_older);
-      keeps = keeps_all _ _ _;
-      keeps_cells = keeps_all_cells _ _;
-    }
+  formals_named = no_formal_left _ _ _ _ _ c.if-left-eq0.true;
+  upper_bound = omega (arith, c.requires.some_formals.2.below_older);
+  keeps = keeps_all _ _ _;
+  keeps_cells = keeps_all_cells _ _;
+}
 
 pub overflow_add-row : goal.overflow_add-row
 overflow_add-row t c = record { fits = omega (arith, (formals_low _ _ _ _ _ c.if-left-eq0.false c.requires.some_formals).1) }
 
 pub row_value-value-requires : goal.row_value-value-requires
 row_value-value-requires t c = record {
-      regions_end_in_bounds = c.requires.regions_end_in_bounds;
-      le_at = omega arith;
-      at_le_most_bindings = omega (arith, (formals_low _ _ _ _ _ c.if-left-eq0.false c.requires.some_formals).1);
-    }
+  regions_end_in_bounds = c.requires.regions_end_in_bounds;
+  le_at = omega arith;
+  at_le_most_bindings = omega (arith, (formals_low _ _ _ _ _ c.if-left-eq0.false c.requires.some_formals).1);
+}
 
 pub operand-word-requires : goal.operand-word-requires
 operand-word-requires t c = omega (arith, (formals_low _ _ _ _ _ c.if-left-eq0.false c.requires.some_formals).0, c.requires.regions_end_in_bounds)

@@ -1,10 +1,9 @@
 -- The proof of `enter`: the actuals are carried before the name is looked for, so that where they go through the name is a function of as many Formals.
 use mathlib.Core.Path.{ap}
 use native.Mathlib.Omega.{arith}
-use Rattle.reader.proofs.StandingLaws.{command_low}
+use Rattle.reader.specs.StandingLaws.{command_low}
 use Rattle.carrying.proofs.FrameLaws.{keeps_then, keeps_cells_then}
 use Rattle.carrying.proofs.CallLaws.{call_low, actuals_there, call_unsafe, names_there, function_low, formals_there, call_entered}
-use borrow.Author.Rules.{rules}
 use Rattle.carrying.proofs.functions.enter.Goals as goal
 
 pub operand-word-requires : goal.operand-word-requires
@@ -15,15 +14,15 @@ overflow_add-node c = record { fits = omega (arith, (call_low _ _ _ _ c.operand-
 
 pub actuals-given-requires : goal.actuals-given-requires
 actuals-given-requires c = record {
-      regions_end_in_bounds = c.requires.regions_end_in_bounds;
-      some_actuals = actuals_there _ _ _ _ c.operand-word.ensures c.requires.some_call;
-    }
+  regions_end_in_bounds = c.requires.regions_end_in_bounds;
+  some_actuals = actuals_there _ _ _ _ c.operand-word.ensures c.requires.some_call;
+}
 
 pub find-function-requires : goal.find-function-requires
 find-function-requires c = record {
-      regions_end_in_bounds = omega (arith, c.requires.regions_end_in_bounds, c.actuals-given.ensures.keeps.same_length);
-      some_names = names_there _ _ _ _ c.operand-word.ensures _ _ c.actuals-given.ensures.actuals_carried c.in-Through.is c.actuals-given.ensures.keeps c.actuals-given.ensures.keeps_cells c.requires.some_call;
-    }
+  regions_end_in_bounds = omega (arith, c.requires.regions_end_in_bounds, c.actuals-given.ensures.keeps.same_length);
+  some_names = names_there _ _ _ _ c.operand-word.ensures _ _ c.actuals-given.ensures.actuals_carried c.in-Through.is c.actuals-given.ensures.keeps c.actuals-given.ensures.keeps_cells c.requires.some_call;
+}
 
 pub row_value-place-requires : goal.row_value-place-requires
 row_value-place-requires c =
@@ -73,7 +72,7 @@ returns-in-Through c =
 
 pub returns-in-Unsafe : goal.returns-in-Unsafe
 returns-in-Unsafe c = record {
-      call_carried = call_unsafe _ _ _ _ c.operand-word.ensures _ _ c.actuals-given.ensures.actuals_carried c.in-Unsafe.at c.in-Unsafe.is;
-      keeps = c.actuals-given.ensures.keeps;
-      keeps_cells = c.actuals-given.ensures.keeps_cells;
-    }
+  call_carried = call_unsafe _ _ _ _ c.operand-word.ensures _ _ c.actuals-given.ensures.actuals_carried c.in-Unsafe.at c.in-Unsafe.is;
+  keeps = c.actuals-given.ensures.keeps;
+  keeps_cells = c.actuals-given.ensures.keeps_cells;
+}

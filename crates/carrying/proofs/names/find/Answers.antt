@@ -1,7 +1,6 @@
 -- A name along the chain of rows: so far it was not met.
-use Prim.Native.Nat.{◌≤◌}
 use native.Mathlib.Omega.{arith}
-use Rattle.carrying.proofs.LookupLaws.{Walked, walk_start, walk_low, walk_less, walk_on, walk_found, walk_none}
+use Rattle.carrying.proofs.LookupLaws.{walk_start, walk_low, walk_less, walk_on, walk_found, walk_none}
 use Rattle.carrying.proofs.names.find.Goals as goal
 
 pub loop-at-init : goal.loop-at-init
@@ -21,9 +20,9 @@ bounds-work-at c = omega (arith, walk_low _ _ _ _ c.requires.some_names c.loop-a
 
 pub returns-then-link-name : goal.returns-then-link-name
 returns-then-link-name c = record {
-      found_at = walk_found _ _ _ _ c.requires.some_names c.loop-at.invariant.0 c.loop-at-test.true c.if-link-name.true;
-      upper_bound = c.loop-at.invariant.1;
-    }
+  found_at = walk_found _ _ _ _ c.requires.some_names c.loop-at.invariant.0 c.loop-at-test.true c.if-link-name.true;
+  upper_bound = c.loop-at.invariant.1;
+}
 
 pub loop-at-smaller : goal.loop-at-smaller
 loop-at-smaller c = walk_less _ _ _ _ c.requires.some_names c.loop-at.invariant.0 c.loop-at-test.true
@@ -34,6 +33,6 @@ loop-at-preserved c =
 
 pub returns : goal.returns
 returns c = record {
-      found_at = walk_none _ _ _ _ c.loop-at.invariant.0 c.loop-at-test.false;
-      upper_bound = omega arith;
-    }
+  found_at = walk_none _ _ _ _ c.loop-at.invariant.0 c.loop-at-test.false;
+  upper_bound = omega arith;
+}

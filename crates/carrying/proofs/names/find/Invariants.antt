@@ -1,7 +1,6 @@
 -- A name along the chain of rows: so far it was not met.
 use Prim.Native.Nat.{◌≤◌}
-use native.Mathlib.Omega.{arith}
-use Rattle.carrying.proofs.LookupLaws.{Walked, walk_start, walk_low, walk_less, walk_on, walk_found, walk_none}
+use Rattle.carrying.proofs.LookupLaws.{Walked}
 use Rattle.carrying.proofs.names.find.Given as goal
 
 abbrev pub invariant-loop-at : goal.invariant-loop-at

@@ -4,7 +4,6 @@ use lib.ListN.{set, length-set}
 use Rattle.carrying.specs.Layout.{row_links, row_lows, link}
 use native.Mathlib.Omega.{arith}
 use Rattle.carrying.proofs.FrameLaws.{row_put}
-use borrow.Author.Rules.{rules}
 use Rattle.carrying.proofs.names.put_row.Goals as goal
 
 pub bounds-work-row-2 : goal.bounds-work-row-2
