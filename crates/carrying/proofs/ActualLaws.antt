@@ -12,9 +12,10 @@ use Rattle.rules.specs.paper.Needs.{nothing, over_formals}
 use Rattle.rules.specs.paper.Carried.{Carried, Carrying, carried, unsafe, unfit, ◌>>=◌}
 use Rattle.rules.specs.paper.Carrying.{CarriedCells, CarriedNames, carry_formals, carry_expression, carry_actuals}
 use Rattle.reader.specs.Pack.{packed_end, packed_operand}
-use Rattle.reader.specs.Stored.{operand_is, StoredExpression, StoredActuals, one_actual, StoredFormals, one_formal}
+use Rattle.reader.specs.Stored.{StoredExpression, StoredActuals, one_actual, StoredFormals, one_formal}
+use Rattle.reader.proofs.StoredFields.{operand_is}
 use Rattle.reader.specs.StoredLaws.{same_expression, same_formals}
-use Rattle.reader.specs.StandingLaws.{after_node, operand_name, expression_low, expression_end}
+use Rattle.reader.proofs.StandingLaws.{after_node, operand_name, expression_low, expression_end}
 use Rattle.intervals.specs.Values.{HoldsValue, ExpressedAs}
 use Rattle.intervals.specs.declared.values.Value.{Value}
 use Rattle.intervals.specs.declared.values.Expressed.{Expressed}

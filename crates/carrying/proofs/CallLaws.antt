@@ -13,10 +13,11 @@ use Rattle.rules.specs.paper.Needs.{Need, Needs, nothing, in_turn, need_of, over
 use Rattle.rules.specs.paper.Carried.{Carried, Carrying, carried, unsafe, unfit, ◌>>=◌, fitting}
 use Rattle.rules.specs.paper.Carrying.{CarriedCells, CarriedMeaning, a_value, a_function, CarriedNames, carried_meaning, carry_formals, carry_actuals, carry_call, carry_command, carry_block}
 use Rattle.reader.specs.Pack.{packed_operand}
-use Rattle.reader.specs.Stored.{operand_is, StoredActuals, StoredFormals, StoredCommand, StoredBlock, StoredBound}
+use Rattle.reader.specs.Stored.{StoredActuals, StoredFormals, StoredCommand, StoredBlock, StoredBound}
+use Rattle.reader.proofs.StoredFields.{operand_is}
 use Rattle.reader.specs.Stored as Stored
 use Rattle.reader.specs.StoredLaws.{same_block}
-use Rattle.reader.specs.StandingLaws.{after_node, operand_name, operand_number, command_low, block_low}
+use Rattle.reader.proofs.StandingLaws.{after_node, operand_name, operand_number, command_low, block_low}
 use Rattle.carrying.specs.Layout.{row_value, row_pointer}
 use Rattle.carrying.specs.States.{NamesAt, no_names, one_value, one_function, SomeNames, FoundAt, StateAt, Room}
 use Rattle.carrying.specs.Frames.{Keeps, KeepsCells}

@@ -12,11 +12,12 @@ use Rattle.rules.specs.paper.Carried.{Carried, location, Carrying, carried, unsa
 use Rattle.rules.specs.paper.Carrying.{CarriedCells, CarriedNames, CarriedDeclared, CarriedBound, a_value, carry_expression, carry_declaration, carry_bound}
 use Rattle.reader.specs.KindNumbers.{bind_number, ref_number, abs_number}
 use Rattle.reader.specs.Pack.{packed_kind, packed_operand}
-use Rattle.reader.specs.Stored.{kind_is, operand_is, StoredExpression, StoredDeclaration, StoredBound}
+use Rattle.reader.specs.Stored.{StoredExpression, StoredDeclaration, StoredBound}
+use Rattle.reader.proofs.StoredFields.{kind_is, operand_is}
 use Rattle.reader.specs.Stored as Stored
 use Rattle.reader.specs.StoredLaws.{same_bound}
-use Rattle.reader.specs.StandingLaws.{after_node, expression_low, bound_on}
-use Rattle.reader.specs.KindTrees.{stored_expression_kind}
+use Rattle.reader.proofs.StandingLaws.{after_node, expression_low, bound_on}
+use Rattle.reader.proofs.KindTrees.{stored_expression_kind}
 use Rattle.intervals.specs.Values.{numbers_sort, location_sort, HoldsValue, holds_location, ExpressedAs}
 use Rattle.intervals.specs.declared.values.Value.{Value}
 use Rattle.intervals.specs.declared.values.Expressed.{Expressed}

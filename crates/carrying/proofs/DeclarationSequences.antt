@@ -13,10 +13,11 @@ use Rattle.rules.specs.paper.Carried.{Carrying, carried, unsafe, unfit, â—Œ>>=â—
 use Rattle.rules.specs.paper.Carrying.{CarriedCells, CarriedNames, CarriedDeclared, carry_declaration}
 use Rattle.reader.specs.KindNumbers.{dseq_number}
 use Rattle.reader.specs.Pack.{packed_kind, packed_end}
-use Rattle.reader.specs.Stored.{kind_is, StoredDeclaration}
+use Rattle.reader.specs.Stored.{StoredDeclaration}
+use Rattle.reader.proofs.StoredFields.{kind_is}
 use Rattle.reader.specs.Stored as Stored
 use Rattle.reader.specs.StoredLaws.{same_declaration}
-use Rattle.reader.specs.StandingLaws.{after_node, declaration_low, declaration_end, declaration_on}
+use Rattle.reader.proofs.StandingLaws.{after_node, declaration_low, declaration_end, declaration_on}
 use Rattle.carrying.specs.States.{StateAt, Room}
 use Rattle.carrying.specs.Frames.{Keeps, KeepsCells}
 use Rattle.carrying.specs.Answers.{Fits, SomeDeclaration, SomeBind, DeclaredState, DeclaredAs, DeclarationCarried}

@@ -11,8 +11,9 @@ use Rattle.rules.specs.paper.Carried.{Carried, Carrying, carried, unsafe, unfit,
 use Rattle.rules.specs.paper.Carrying.{CarriedCells, CarriedNames, carry_expression}
 use Rattle.reader.specs.KindNumbers.{not_number}
 use Rattle.reader.specs.Pack.{packed_kind, packed_end}
-use Rattle.reader.specs.Stored.{kind_is, StoredExpression, num, boo, id, deref, valref, binary, negation}
-use Rattle.reader.specs.StandingLaws.{Rooted, after_node, operator_above, operator_below, operator_low, expression_root, expression_low, expression_on, expression_end}
+use Rattle.reader.specs.Stored.{StoredExpression, num, boo, id, deref, valref, binary, negation}
+use Rattle.reader.proofs.StoredFields.{kind_is}
+use Rattle.reader.proofs.StandingLaws.{Rooted, after_node, operator_above, operator_below, operator_low, expression_root, expression_low, expression_on, expression_end}
 use Rattle.intervals.specs.Values.{HoldsValue, ExpressedAs, Gives}
 use Rattle.intervals.specs.declared.values.Value.{Value}
 use Rattle.intervals.specs.declared.values.Expressed.{Expressed}

@@ -19,7 +19,8 @@ use Rattle.rules.specs.paper.Carried.{Carried, numbers, truths, location, unfit,
 use Rattle.rules.specs.paper.Carrying.{CarriedCells, CarriedMeaning, a_value, a_function, CarriedNames, carried_at, carried_meaning, value_of, location_in, contents_at, carry_id, located, carry_expression}
 use Rattle.reader.specs.KindNumbers.{num_number, boo_number, id_number, deref_number, valref_number}
 use Rattle.reader.specs.Pack.{packed_kind, packed_operand}
-use Rattle.reader.specs.Stored.{kind_is, operand_is, StoredExpression, num, boo, id, deref, valref, binary, negation}
+use Rattle.reader.specs.Stored.{StoredExpression, num, boo, id, deref, valref, binary, negation}
+use Rattle.reader.proofs.StoredFields.{kind_is, operand_is}
 use Rattle.integers.specs.Words.{word_of}
 use Rattle.intervals.specs.Values.{location_sort, flag, HoldsValue, holds_numbers, holds_truths, holds_location, Gives}
 use Rattle.intervals.specs.declared.values.Value.{Value}

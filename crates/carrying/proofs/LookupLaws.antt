@@ -11,7 +11,7 @@ use Rattle.rules.specs.paper.Limits.{most_bindings, names}
 use Rattle.rules.specs.paper.Needs.{Need, Needs, nothing, need_of}
 use Rattle.rules.proofs.Basics.{missing, true_test, false_test}
 use Rattle.rules.specs.paper.Carrying.{CarriedMeaning, CarriedName, CarriedNames, carried_meaning}
-use Rattle.reader.specs.StandingLaws.{bound_on}
+use Rattle.reader.proofs.StandingLaws.{bound_on}
 use Rattle.intervals.specs.declared.values.Value.{Value}
 use Rattle.carrying.specs.Layout.{row_links, pointer_unit}
 use Rattle.carrying.specs.States.{RowAt, needing, NamesAt, no_names, one_value, one_function, SomeNames, FoundRow, FoundAt}

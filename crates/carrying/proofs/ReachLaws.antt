@@ -6,7 +6,7 @@ use native.Mathlib.Omega.{arith}
 use lib.ListN.{get_or}
 use Rattle.rules.specs.paper.Limits.{most_nodes}
 use Rattle.reader.specs.Pack.{packed_end}
-use Rattle.reader.specs.StandingLaws.{Rooted, root_end, root_low}
+use Rattle.reader.proofs.StandingLaws.{Rooted, root_end, root_low}
 
 -- The node after the first child and its descendants.
 abbrev pub second_place : List ℕ → (node : ℕ) → ℕ

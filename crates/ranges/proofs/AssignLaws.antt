@@ -11,7 +11,8 @@ use Rattle.rules.specs.paper.Tree.{Expression, Command, Assign}
 use Rattle.rules.specs.paper.Carried.{Carried, numbers, truths, location, carried, unfit}
 use Rattle.rules.specs.paper.Carrying.{CarriedCells, CarriedMeaning, a_value, a_function, CarriedNames, carried_at, carried_meaning, value_of, location_in, contents_at, same_sort, set_cell, carry_assign, carry_to}
 use Rattle.reader.specs.Pack.{packed_operand}
-use Rattle.reader.specs.Stored.{operand_is, StoredCommand}
+use Rattle.reader.specs.Stored.{StoredCommand}
+use Rattle.reader.proofs.StoredFields.{operand_is}
 use Rattle.reader.specs.Stored as Stored
 use Rattle.intervals.specs.Values.{HoldsValue, holds_location}
 use Rattle.intervals.specs.declared.values.Value.{Value}

@@ -13,7 +13,7 @@ use Rattle.rules.specs.paper.Needs.{Needs, command_need}
 use Rattle.rules.specs.paper.Carried.{truths, Carrying, carried, ◌>>=◌, fitting}
 use Rattle.rules.specs.paper.Carrying.{CarriedCells, CarriedNames, wider_cells, carry_expression, carry_choosing, carry_command}
 use Rattle.reader.specs.Pack.{packed_kind, packed_end}
-use Rattle.reader.specs.StandingLaws.{expression_low, command_low}
+use Rattle.reader.proofs.StandingLaws.{expression_low, command_low}
 use Rattle.carrying.specs.States.{CellsAt, Room}
 use Rattle.carrying.specs.Frames.{Keeps, Copied, Exchanged, Widened}
 use Rattle.carrying.specs.Answers.{ExpressionThere, CommandThere, SomeCommand, CommandAs, CommandCarried}

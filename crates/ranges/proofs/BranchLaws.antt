@@ -13,7 +13,7 @@ use Rattle.reader.specs.KindNumbers.{cseq_number, blk_number, call_number}
 use Rattle.reader.specs.Pack.{packed_kind, packed_end}
 use Rattle.reader.specs.Stored.{StoredCommand, block_of}
 use Rattle.reader.specs.StoredLaws.{same_command}
-use Rattle.reader.specs.StandingLaws.{command_on, command_root, block_root}
+use Rattle.reader.proofs.StandingLaws.{command_on, command_root, block_root}
 use Rattle.carrying.specs.States.{CellsAt, StateAt, Room}
 use Rattle.carrying.specs.Frames.{Keeps}
 use Rattle.carrying.specs.Answers.{Fits, DeclarationThere, SomeDeclaration, DeclaredState, DeclarationCarried, CommandThere, SomeCommand, CommandAs, CommandCarried, FunctionThere, EnteredAs, entered, not_entered, never_entered, SomeCall, CallCarried}

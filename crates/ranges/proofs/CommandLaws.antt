@@ -9,9 +9,10 @@ use Rattle.rules.specs.paper.Needs.{Figure, sizes, Need, Needs, step, over, eith
 use Rattle.rules.specs.paper.Carrying.{CarriedCells, CarriedNames}
 use Rattle.reader.specs.KindNumbers.{assign_number, cseq_number, blk_number, call_number, conditional_number}
 use Rattle.reader.specs.Pack.{packed_kind, packed_end}
-use Rattle.reader.specs.Stored.{kind_is, StoredExpression, StoredCommand, blk, StoredDeclaration}
+use Rattle.reader.specs.Stored.{StoredExpression, StoredCommand, blk, StoredDeclaration}
+use Rattle.reader.proofs.StoredFields.{kind_is}
 use Rattle.reader.specs.Stored as Stored
-use Rattle.reader.specs.StandingLaws.{after_node, expression_on, expression_end, command_on, command_end, declaration_on, declaration_end}
+use Rattle.reader.proofs.StandingLaws.{after_node, expression_on, expression_end, command_on, command_end, declaration_on, declaration_end}
 use Rattle.carrying.specs.States.{StateAt, Sees, Room}
 use Rattle.carrying.specs.Answers.{ExpressionThere, DeclarationThere, CommandThere}
 use Rattle.carrying.specs.declared.Held.{Held}

@@ -9,11 +9,11 @@ use Rattle.rules.specs.paper.Needs.{Needs, register_needs, root_need, routine_ne
 use Rattle.rules.specs.paper.Carried.{Carrying, carried, unsafe, unfit, ◌>>=◌}
 use Rattle.rules.specs.paper.Carrying.{CarriedCells, CarriedNames, register_names, register_cells, carry_expression, carry_root, carry_routine}
 use Rattle.reader.specs.KindNumbers.{assign_number}
-use Rattle.reader.specs.KindTrees.{stored_expression_kind, stored_command_kind}
+use Rattle.reader.proofs.KindTrees.{stored_expression_kind, stored_command_kind}
 use Rattle.reader.specs.Pack.{packed_kind}
 use Rattle.reader.specs.Stored.{StoredRoot, root_expression, root_command, root_absent, RootAt}
 use Rattle.reader.specs.StoredLaws.{same_root}
-use Rattle.reader.specs.StandingLaws.{expression_on, command_on}
+use Rattle.reader.proofs.StandingLaws.{expression_on, command_on}
 use Rattle.integers.specs.Words.{integers_of}
 use Rattle.intervals.specs.Values.{numbers_sort}
 use Rattle.intervals.specs.declared.values.Value.{Value}

@@ -13,7 +13,7 @@ use Rattle.rules.specs.paper.Carrying.{CarriedCells, CarriedNames, carry_express
 use Rattle.reader.specs.KindNumbers.{assign_number, cseq_number, blk_number, call_number}
 use Rattle.reader.specs.Pack.{packed_kind, packed_end}
 use Rattle.reader.specs.Stored.{StoredCommand}
-use Rattle.reader.specs.StandingLaws.{expression_low, command_low}
+use Rattle.reader.proofs.StandingLaws.{expression_low, command_low}
 use Rattle.intervals.specs.Values.{HoldsValue, holds_numbers, holds_truths, holds_location, ExpressedAs}
 use Rattle.intervals.specs.declared.values.Value.{Value}
 use Rattle.intervals.specs.declared.values.Expressed.{Expressed}

@@ -1,7 +1,7 @@
 -- The proof of `declaration`, which calls itself: a DSeq carries its second on what its first leaves, and anything else is a Bind. The measure is the
 -- size of the tree that stands there.
 use native.Mathlib.Omega.{arith}
-use Rattle.reader.specs.StandingLaws.{declaration_low}
+use Rattle.reader.proofs.StandingLaws.{declaration_low}
 use Rattle.carrying.proofs.DeclarationSequences.{bind_there, first_there, first_unsafe, second_there, sequence_declared, sequence_keeps}
 use Rattle.carrying.proofs.declarations.+declaration.Goals as goal
 

@@ -1,7 +1,7 @@
 -- The proof of `expression`, which calls itself: the node's kind says which expression stands there, and what it gives follows from its children's.
 -- The measure is the size of the tree that stands there.
 use native.Mathlib.Omega.{arith}
-use Rattle.reader.specs.StandingLaws.{expression_low}
+use Rattle.reader.proofs.StandingLaws.{expression_low}
 use Rattle.carrying.proofs.ExpressionLaws.{low_leaf, high_leaf, low_leaf_carried, high_leaf_carried, first_child, first_low, first_unsafe, negation_carried, second_child, second_unsafe, binary_carried}
 use Rattle.carrying.proofs.expressions.+expression.Goals as goal
 

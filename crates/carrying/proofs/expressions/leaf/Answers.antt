@@ -1,6 +1,6 @@
 -- An expression without children, by its kind.
 use native.Mathlib.Omega.{arith}
-use Rattle.reader.specs.StandingLaws.{expression_low}
+use Rattle.reader.proofs.StandingLaws.{expression_low}
 use Rattle.carrying.proofs.LeafLaws.{number_gives, truth_low, truth_gives, leaf_names, row_found, deref_gives, plain_gives, cell_among, contents_gives, shown_among, shown_gives}
 use Rattle.carrying.proofs.expressions.leaf.Goals as goal
 

@@ -1,7 +1,7 @@
 -- The proof of `enter`: the actuals are carried before the name is looked for, so that where they go through the name is a function of as many Formals.
 use mathlib.Core.Path.{ap}
 use native.Mathlib.Omega.{arith}
-use Rattle.reader.specs.StandingLaws.{command_low}
+use Rattle.reader.proofs.StandingLaws.{command_low}
 use Rattle.carrying.proofs.FrameLaws.{keeps_then, keeps_cells_then}
 use Rattle.carrying.proofs.CallLaws.{call_low, actuals_there, call_unsafe, names_there, function_low, formals_there, call_entered}
 use Rattle.carrying.proofs.functions.enter.Goals as goal

@@ -4,7 +4,7 @@
 use Prim.Native.Nat.{◌≤◌}
 use native.Mathlib.Omega.{arith}
 use Rattle.rules.specs.paper.Limits.{most_cells}
-use Rattle.reader.specs.StandingLaws.{command_low, declaration_low}
+use Rattle.reader.proofs.StandingLaws.{command_low, declaration_low}
 use Rattle.carrying.proofs.FrameLaws.{keeps_all, keeps_then, keeps_fewer}
 use Rattle.ranges.proofs.BranchLaws.{sequence_first, sequence_unsafe, sequence_second, sequence_carried, block_declaration, block_unsafe, more_held, block_inside, block_carried, call_there, call_unsafe, function_inside, call_carried}
 use Rattle.ranges.proofs.TestLaws.{value_there, value_low, value_unsafe, value_known, value_carried, assign_there, assign_tested}

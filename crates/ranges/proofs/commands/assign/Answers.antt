@@ -1,6 +1,6 @@
 -- An Assign: its name's row tells the cell.
 use native.Mathlib.Omega.{arith}
-use Rattle.reader.specs.StandingLaws.{command_low}
+use Rattle.reader.proofs.StandingLaws.{command_low}
 use Rattle.carrying.proofs.FrameLaws.{set_keeps}
 use Rattle.ranges.proofs.AssignLaws.{row_there, cell_low, assign_carried}
 use Rattle.ranges.proofs.commands.assign.Goals as goal
