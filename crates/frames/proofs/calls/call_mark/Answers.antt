@@ -2,7 +2,7 @@
 use mathlib.Core.Path.{sym, ◌∙◌}
 use native.Mathlib.Omega.{arith}
 use Rattle.machine.proofs.state_laws.JudgeLaws.{room_left}
-use Rattle.frames.proofs.call_laws.CallMarkLaws.{call_actuals, call_withheld, called_fits, call_looked, row_low, call_can_bind}
+use Rattle.frames.proofs.call_laws.CallMarkLaws.{call_actuals, call_withheld, call_looked, row_low, call_can_bind}
 use Rattle.frames.proofs.call_laws.CallFrameLaws.{call_formed, call_made}
 use Rattle.frames.proofs.calls.call_mark.Goals as goal
 
@@ -29,8 +29,9 @@ bounds-work-row c = omega (arith, row_low _ _ _ _ _ _ c.requires.3.ready _ c.row
 
 pub bind_formals-called-requires : goal.bind_formals-called-requires
 bind_formals-called-requires c =
+    let f = c.requires.3.ready.fits in
     let some = room_left _ _ _ (sym c.reason_of_room-reason.ensures ∙ c.if-reason-ne0.false) in record {
-      fits = called_fits _ _ _ c.requires.3.ready.fits;
+      fits = record { room = f.room; few_control = f.few_control; few_values = f.few_values; few_bindings = f.few_bindings; few_cells = f.few_cells };
       first_bound = omega (arith, some.0);
       can_bind = call_can_bind _ _ _ _ _ _ c.requires.3.ready _ c.row_of-row.ensures;
     }

@@ -2,7 +2,6 @@
 use mathlib.Core.Path.{ap}
 use native.Mathlib.Omega.{arith}
 use Rattle.machine.proofs.stack_laws.SharedLaws.{value_fits}
-use Rattle.frames.proofs.frame_laws.FrameLaws.{joined_fits}
 use Rattle.frames.proofs.frame_laws.DseqMarkLaws.{extend_some, extend_withheld, extend_made}
 use Rattle.frames.proofs.declarations.dseq_extend_mark.Goals as goal
 
@@ -13,16 +12,20 @@ pub overflow_sub-m : goal.overflow_sub-m
 overflow_sub-m c = extend_some _ _ _ c.requires.ready
 
 pub put_value-kept-requires : goal.put_value-kept-requires
-put_value-kept-requires c = record {
-  fits = joined_fits c.requires.ready.fits;
-  values_lt_most_value_entries = omega (arith, c.requires.ready.fits.few_values, extend_some _ _ _ c.requires.ready);
-}
+put_value-kept-requires c =
+    let f = c.requires.ready.fits in record {
+      fits = record { room = f.room; few_control = f.few_control; few_values = omega (arith, f.few_values); few_bindings = f.few_bindings; few_cells = f.few_cells };
+      values_lt_most_value_entries = omega (arith, f.few_values, extend_some _ _ _ c.requires.ready);
+    }
 
 pub put_value-requires : goal.put_value-requires
 put_value-requires c =
-    let some = extend_some _ _ _ c.requires.ready in record {
-      fits = value_fits _ _ (joined_fits c.requires.ready.fits) _ _ (omega (arith, c.requires.ready.fits.few_values, some)) c.put_value-kept.ensures.value c.put_value-kept.ensures.m_after;
-      values_lt_most_value_entries = omega (arith, ap (λ k. k.values) c.put_value-kept.ensures.value, c.requires.ready.fits.few_values, some, c.if-m-eq-MOST_VALUE_ENTRIES.false);
+    let some = extend_some _ _ _ c.requires.ready in
+    let f = c.requires.ready.fits in record {
+      fits =
+          value_fits _ _ (record { room = f.room; few_control = f.few_control; few_values = omega (arith, f.few_values); few_bindings = f.few_bindings; few_cells = f.few_cells })
+          _ _ (omega (arith, f.few_values, some)) c.put_value-kept.ensures.value c.put_value-kept.ensures.m_after;
+      values_lt_most_value_entries = omega (arith, ap (λ k. k.values) c.put_value-kept.ensures.value, f.few_values, some, c.if-m-eq-MOST_VALUE_ENTRIES.false);
     }
 
 pub returns : goal.returns

@@ -1,4 +1,5 @@
 -- `names::name` answers the name of each kind at its number.
+use Rattle.std.proofs.Common.{rules}
 use mathlib.Core.Path.{refl}
 use Rattle.rules.specs.paper.Tree.{arithmetic, Eq, order, logic, Sum, Sub, Mul, Div, Lt, Le, Gt, Ge, And, Or}
 use Rattle.rules.specs.paper.Kinds.{num, boo, id, deref, valref, binary, negation, assign, loop, cseq, blk, call, conditional, bind, dseq, expression_kind, command_kind, declaration_kind, ref, abs, formal, every_kind}
@@ -91,4 +92,4 @@ returns-in-42 c = name_known formal _ _ c.in-42.is refl
 
 pub returns-in_default : goal.returns-in_default
 unfolding every_kind
-returns-in_default c = name_unknown _ _ c.in_default.in_default-own.rest
+returns-in_default c = name_unknown _ _ (search rules)
