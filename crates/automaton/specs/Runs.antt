@@ -1,7 +1,7 @@
 -- What a step and a run of the machine answer, from the state that it holds.
-use Rattle.std.specs.Prelude.{ℕ, ◌≡◌, false, List, [], ◌∷◌}
+use Rattle.std.specs.Prelude.{ℕ, ◌≡◌, false, List, ◌∷◌}
 use Rattle.rules.specs.paper.Refusals.{Reason, reason_number}
-use Rattle.rules.specs.paper.States.{Environment, Store, Entry, Item, State, state}
+use Rattle.rules.specs.paper.States.{Environment, Store, Entry, Item, State}
 use Rattle.rules.specs.paper.Rules.{Rule, Effect, Table}
 use Rattle.rules.specs.paper.Run.{judge, Ending, ended, stopped, lost}
 use Rattle.rules.specs.paper.Needs.{control, values, cells, bindings, Sizes}

@@ -3,24 +3,24 @@
 use Prim.Native.Nat.{ℕ, ◌+◌, ◌*◌, ◌%◌, ◌<◌, ◌≤◌, max}
 use mathlib.Core.Path.{◌≡◌, refl, sym, ap, ◌∙◌, subst}
 use mathlib.Core.Bool.{Bool, true, false, cond}
-use mathlib.Core.List.{List, [], ◌∷◌}
+use mathlib.Core.List.{List, ◌∷◌}
 use native.Mathlib.Omega.{arith}
 use borrow.Author.Tests.{lt-ltb, le-ltb, ltb-true, ltb-false}
 use lib.Dec.{ltb}
 use lib.ListN.{length, get_or}
 use Rattle.rules.specs.paper.Limits.{names}
-use Rattle.rules.specs.paper.States.{Environment, Store, Entry, Item, mark, Mark, State, state, control_of, values_of, store_of, bindings_of}
-use Rattle.rules.specs.paper.Rules.{Rule, Effect, goes, Table}
+use Rattle.rules.specs.paper.States.{Environment, Store, Entry, Item, mark, Mark, state}
+use Rattle.rules.specs.paper.Rules.{Rule, goes, Table}
 use Rattle.rules.specs.paper.Run.{Verdict, made, withheld, judge}
 use Rattle.rules.proofs.running.Judging.{made_goes}
 use Rattle.rules.proofs.running.StepSizes.{IsNode, KeepsMemory, node_keeps_memory, RaisesNothing, NoneAbove, mark_raises_nothing}
 use Rattle.machine.specs.Layout.{top_control, mark_base, mark_numbers}
 use Rattle.machine.specs.Regions.{regions}
 use Rattle.machine.specs.Represents.{Mode, ControlAs, operator_on, not_on, assign_on, loop_on, conditional_on, ref_on, bind_on, dseq_extend_on, dseq_join_on, extend_on, leave_on, call_on}
-use Rattle.machine.specs.Steps.{Stands, Holds, IsMade, IsWithheld, StepAnswer}
+use Rattle.machine.specs.Steps.{Holds, StepAnswer}
 use Rattle.machine.specs.declared.Machine.{Machine}
 use Rattle.machine.specs.declared.Stepped.{Stepped}
-use Rattle.machine.specs.declared.Stepped.TheVariants.{Made, Withheld}
+use Rattle.machine.specs.declared.Stepped.TheVariants.{Made}
 use Rattle.machine.proofs.state_laws.ModelLaws.{Sizes, sizes}
 use Rattle.automaton.specs.Runs.{EnabledAt, Enabled, StepsFrom}
 use Rattle.automaton.specs.Meter.{first_that_raises, stacks_raised, all_raised, after_step, marks_by_word, Covers}

@@ -1,27 +1,25 @@
 -- What is taken from the last state: the registers' words, and the word of the value that is left.
 use Prim.Native.Nat.{ℕ, zero, suc, ◌+◌, ◌<◌, ◌≤◌}
-use mathlib.Core.Path.{◌≡◌, refl, sym, ap, ◌∙◌, subst}
-use mathlib.Core.List.{List, [], ◌∷◌}
-use mathlib.Core.Option.{some}
+use mathlib.Core.Path.{◌≡◌, refl, sym, ap, ◌∙◌}
+use mathlib.Core.List.{List, ◌∷◌}
 use native.Mathlib.Omega.{arith}
-use native.Mathlib.Nat.{zero-add, add-suc, suc-add}
-use lib.IntN.{ℤ}
-use lib.ListN.{length, get_or, take, drop}
+use native.Mathlib.Nat.{add-suc}
+use lib.ListN.{get_or, take, drop}
 use lib.Seq.{drop-cons}
-use Rattle.rules.specs.paper.States.{Value, integer, truth, location, value, Environment, Store, find, Entry, val, Item, State, state, store_of}
+use Rattle.rules.specs.paper.States.{Value, integer, Environment, Store, find, Entry, val, Item, State, state, store_of}
 use Rattle.rules.specs.claims.Ends.{RegisterHolds}
 use Rattle.rules.specs.paper.Engine.{as_register, registers_from}
 use Rattle.rules.specs.paper.Limits.{most_cells}
 use Rattle.machine.specs.Layout.{cell_payloads, top_payload}
-use Rattle.integers.specs.Words.{integer_of, word_of, words_of}
+use Rattle.integers.specs.Words.{word_of, words_of}
 use Rattle.integers.specs.WordLaws.{word_of_integer}
 use Rattle.machine.specs.Regions.{regions, Fits}
 use Rattle.machine.specs.Represents.{ValueAs, integer_as, truth_as, location_as, StoreAs}
 use Rattle.machine.specs.Steps.{Stands, Holds}
-use Rattle.automaton.specs.Starts.{value_word, ValueLeft}
+use Rattle.automaton.specs.Starts.{value_word}
 use Rattle.machine.specs.declared.Machine.{Machine}
-use Rattle.expressions.proofs.expression_laws.NameLaws.{CellWords, cell_words, bound_value}
-use Rattle.machine.proofs.state_laws.TopLaws.{BindableTop, bindable_top, OneOnTop, one_on_top}
+use Rattle.expressions.proofs.expression_laws.NameLaws.{cell_words, bound_value}
+use Rattle.machine.proofs.state_laws.TopLaws.{bindable_top, one_on_top}
 
 pub word_of_value : {t w : ℕ} {v : Value} → ValueAs t w v → w ≡ value_word v
 word_of_value {w = w} (integer_as q l) = sym (ap word_of q ∙ word_of_integer w l)

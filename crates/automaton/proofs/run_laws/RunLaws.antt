@@ -1,27 +1,25 @@
 -- The run's loop: what holds each time round, and how it ends.
-use Prim.Native.Nat.{ℕ, zero, suc, ◌+◌, ◌-◌, ◌<◌, ◌≤◌}
+use Prim.Native.Nat.{ℕ, zero, suc, ◌-◌, ◌≤◌}
 use mathlib.Core.Path.{◌≡◌, refl, sym, ap, ◌∙◌, subst}
-use mathlib.Core.Bool.{Bool, false}
+use mathlib.Core.Bool.{false}
 use mathlib.Core.List.{List, [], ◌∷◌}
-use mathlib.Core.Option.{Option, none, some}
 use native.Mathlib.Omega.{arith}
-use lib.ListN.{length}
 use Rattle.rules.specs.paper.Refusals.{Reason, Steps, reason_number}
 use Rattle.rules.specs.paper.Checker.{Scope, Passed}
-use Rattle.rules.specs.paper.States.{Environment, Store, Entry, environment, locations, Item, mark, extend_mark, State, state, control_of}
-use Rattle.rules.specs.paper.Rules.{Rule, Effect, goes, fails, Applies}
+use Rattle.rules.specs.paper.States.{Environment, Store, Entry, environment, locations, Item, mark, extend_mark, State, state}
+use Rattle.rules.specs.paper.Rules.{Rule, Effect, Applies}
 use Rattle.rules.specs.paper.Fire.{fire, fires}
 use Rattle.rules.proofs.running.FireExact.{applies→fires}
 use Rattle.rules.proofs.running.Judging.{made_goes}
-use Rattle.rules.specs.paper.Run.{Verdict, made, withheld, judge, Ending, ended, stopped, attempt, run}
+use Rattle.rules.specs.paper.Run.{Verdict, made, withheld, judge, ended, stopped, attempt, run}
 use Rattle.rules.specs.paper.HighMarks.{high_marks}
 use Rattle.rules.specs.claims.History.{History, note}
 use Rattle.rules.proofs.running.Continuation.{StackShape, declared, opened, ControlTyped, extend_mark_typed, ValuesTyped, declared_on, opened_on, Invariant}
 use Rattle.rules.proofs.running.World.{World}
-use Rattle.rules.proofs.running.Progress.{Next, Progress}
+use Rattle.rules.proofs.running.Progress.{Next}
 use Rattle.rules.proofs.running.WholeRun.{progress}
-use Rattle.machine.specs.Steps.{Stands, Holds, Untouched, IsMade, IsWithheld, StepAnswer, AtExtendMark}
-use Rattle.automaton.specs.Runs.{EnabledAt, Enabled, StepsFrom, HasEnded, HasStopped, RunAnswer}
+use Rattle.machine.specs.Steps.{Holds, Untouched, StepAnswer, AtExtendMark}
+use Rattle.automaton.specs.Runs.{EnabledAt, Enabled, StepsFrom, RunAnswer}
 use Rattle.machine.specs.declared.Machine.{Machine}
 use Rattle.machine.specs.declared.Stepped.{Stepped}
 use Rattle.machine.specs.declared.Stepped.TheVariants.{Made, Withheld}

@@ -1,7 +1,7 @@
 -- Which rule's function the item on top of control goes to, by its word and its node's kind.
-use Prim.Native.Nat.{ℕ, zero, suc, ◌+◌, ◌-◌, ◌<◌, ◌≤◌}
-use mathlib.Core.Path.{◌≡◌, refl, sym, ap, ◌∙◌, subst}
-use mathlib.Core.List.{List, [], ◌∷◌}
+use Prim.Native.Nat.{ℕ, ◌+◌, ◌<◌, ◌≤◌}
+use mathlib.Core.Path.{◌≡◌, sym, subst}
+use mathlib.Core.List.{List}
 use native.Mathlib.Omega.{arith}
 use lib.ListN.{get_or}
 use Rattle.rules.specs.paper.Tree.{Expression, Formal, Command, Block, Declaration}
@@ -9,10 +9,10 @@ use Rattle.rules.specs.paper.States.{Item, Mark, expression, command, declaratio
 use Rattle.machine.specs.Layout.{top_control, mark_base}
 use Rattle.reader.specs.Pack.{packed_kind}
 use Rattle.machine.specs.Steps.{Applicable, Steps}
-use Rattle.automaton.specs.Runs.{Enabled, EnabledAt, StepsFrom}
+use Rattle.automaton.specs.Runs.{Enabled, StepsFrom}
 use Rattle.machine.specs.declared.Machine.{Machine}
 use Rattle.machine.specs.declared.Stepped.{Stepped}
-use Rattle.automaton.proofs.step_laws.StepLaws.{lowered, ItemSort, expression_sort, command_sort, declaration_sort, reference_sort, abstraction_sort, mark_sort, Taken, taken}
+use Rattle.automaton.proofs.step_laws.StepLaws.{lowered, ItemSort, expression_sort, command_sort, declaration_sort, reference_sort, abstraction_sort, mark_sort, taken}
 
 -- ---- What the tests say of the item.
 

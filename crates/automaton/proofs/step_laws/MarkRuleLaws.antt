@@ -1,5 +1,5 @@
 -- Which rule a mark has: its number is the low part of its word and fixes the mark.
-use Prim.Native.Nat.{ℕ, ◌+◌, ◌*◌, ◌%◌, ◌<◌, ◌≤◌}
+use Prim.Native.Nat.{ℕ, ◌+◌, ◌*◌, ◌%◌}
 use mathlib.Core.Path.{◌≡◌, refl, sym, subst}
 use mathlib.Core.Bool.{cond}
 use mathlib.Core.List.{List, ◌∷◌}
@@ -7,7 +7,7 @@ use native.Mathlib.Omega.{arith}
 use borrow.Author.Tests.{ne_eqb}
 use lib.Dec.{eqb}
 use Rattle.rules.specs.paper.Kinds.{operator_number}
-use Rattle.rules.specs.paper.Tree.{Arithmetic, Sum, Sub, Mul, Div, Order, Lt, Le, Gt, Ge, Logic, And, Or, Operator, arithmetic, Eq, order, logic}
+use Rattle.rules.specs.paper.Tree.{Sum, Sub, Mul, Div, Lt, Le, Gt, Ge, And, Or, Operator, arithmetic, Eq, order, logic}
 use Rattle.rules.specs.paper.Limits.{names}
 use Rattle.rules.specs.paper.States.{Item, mark, Mark, operator_mark, not_mark, assign_mark, loop_mark, conditional_mark, ref_mark, bind_mark, dseq_extend_mark, dseq_join_mark, extend_mark, leave_mark, call_mark}
 use Rattle.machine.specs.Layout.{mark_base, leave_word, call_word}

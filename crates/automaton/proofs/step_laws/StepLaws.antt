@@ -1,10 +1,10 @@
 -- The item on top of control: where its word stands, and of which sort it is by its word.
-use Prim.Native.Nat.{ℕ, zero, suc, ◌+◌, ◌-◌, ◌<◌, ◌≤◌}
-use mathlib.Core.Path.{◌≡◌, refl, sym, ap, ◌∙◌, subst}
-use mathlib.Core.List.{List, [], ◌∷◌}
+use Prim.Native.Nat.{ℕ, suc, ◌+◌, ◌-◌, ◌<◌, ◌≤◌}
+use mathlib.Core.Path.{◌≡◌, ap, ◌∙◌, subst}
+use mathlib.Core.List.{List, ◌∷◌}
 use native.Mathlib.Omega.{arith}
 use lib.Dec.{lit<}
-use lib.ListN.{length, get_or}
+use lib.ListN.{get_or}
 use Rattle.rules.specs.paper.Tree.{Expression, Formal, Command, Block, Declaration}
 use Rattle.rules.specs.paper.States.{Environment, Store, Entry, Item, Mark, expression, command, declaration, reference, abstraction, mark}
 use Rattle.rules.specs.paper.Rules.{Rule, Effect}
@@ -16,9 +16,9 @@ use Rattle.reader.proofs.StoredFields.{kind_is}
 use Rattle.reader.specs.Stored as Stored
 use Rattle.reader.proofs.StandingLaws.{expression_root, command_root, declaration_root, root_low}
 use Rattle.reader.proofs.KindTrees.{expression_of, expression_kinds, command_of, command_kinds, declaration_of, declaration_kinds}
-use Rattle.machine.specs.Regions.{stack, Regions, regions, Fits, with_control}
+use Rattle.machine.specs.Regions.{stack, regions, with_control}
 use Rattle.machine.specs.Represents.{Mode, ControlAs, expression_on, command_on, declaration_on, reference_on, abstraction_on, operator_on, not_on, assign_on, loop_on, conditional_on, ref_on, bind_on, dseq_extend_on, dseq_join_on, extend_on, leave_on, call_on, Models}
-use Rattle.machine.specs.Steps.{Stands, Ready}
+use Rattle.machine.specs.Steps.{Ready}
 use Rattle.automaton.specs.Runs.{EnabledAt}
 use Rattle.machine.specs.declared.Machine.{Machine}
 use Rattle.machine.proofs.state_laws.ModelLaws.{sizes}
