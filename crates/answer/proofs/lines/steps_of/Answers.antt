@@ -1,0 +1,20 @@
+-- steps_of: by the cases of an answer.
+use mathlib.Core.Path.{sym, ap}
+use Rattle.answer.specs.Writing.{ran_steps}
+use borrow.Author.Rules.{rules}
+use Rattle.answer.proofs.lines.steps_of.Goals as goal
+
+pub returns-in-Number : goal.returns-in-Number
+returns-in-Number c = sym (ap ran_steps c.in-Number.is)
+
+pub returns-in-Truth : goal.returns-in-Truth
+returns-in-Truth c = sym (ap ran_steps c.in-Truth.is)
+
+pub returns-in-Location : goal.returns-in-Location
+returns-in-Location c = sym (ap ran_steps c.in-Location.is)
+
+pub returns-in-Nothing : goal.returns-in-Nothing
+returns-in-Nothing c = sym (ap ran_steps c.in-Nothing.is)
+
+pub returns-in-Refused : goal.returns-in-Refused
+returns-in-Refused c = sym (ap ran_steps c.in-Refused.is)
