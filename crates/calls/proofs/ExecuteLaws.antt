@@ -71,3 +71,4 @@ module _ (image registers : List ℕ) (t : Root) (a : Passed) (passes : check_im
             registers_are = takes r.machine σ r.holds (registers_hold budget k σ h reached);
             beyond = beyond_both starts.untouched r.untouched;
           }
+      by (lost k σ) no_end r = elim no_end [ ]

@@ -98,6 +98,7 @@ stopped_performed count most (stopped y j σ) answer registers before after x k 
       registers_are = t.registers_are;
       beyond = t.beyond;
     }
+stopped_performed count most (lost j σ) answer registers before after x k last t q = elim t [ ]
 
 -- The run of a command ended: nothing is left.
 pub command_performed : (budget : ℕ) (start_state : State) (count : ℕ) (most : Sizes) (e : Ending) → EndsWell budget start_state count a_command e → (answer : Endings.Ending) (registers before after : List ℕ) (k : ℕ) (last : Record) →
@@ -112,6 +113,7 @@ command_performed budget start_state count most (ended j σ) (normally h reached
       beyond = t.beyond;
     }
 command_performed budget start_state count most (stopped x j σ) w answer registers before after k last t q = absurd (not_both answer k last (reason_number x) j _ q t.answer_is)
+command_performed budget start_state count most (lost j σ) w answer registers before after k last t q = elim w [ ]
 
 -- The run of an expression ended: a value of its code is left.
 pub record ValueEnd (most : Sizes) (e : Ending) (code : ℕ) (words : List ℕ) (last : Record) (k : ℕ) : Type 0 where
@@ -142,9 +144,11 @@ value_end budget start_state count code most (ended j (state C X E S L n)) (norm
           ∙ sym (λ i. value_ran final.0 (steps i) (same i).marks);
     }
 value_end budget start_state count code most (stopped x j σ) w answer registers before after k last t q = absurd (not_both answer k last (reason_number x) j _ q t.answer_is)
+value_end budget start_state count code most (lost j σ) w answer registers before after k last t q = elim w [ ]
 
 pub value_performed : (count : ℕ) (most : Sizes) (e : Ending) (answer : Endings.Ending) (registers before after : List ℕ) (k code : ℕ) (last : Record) (r : Ran) (t : ExecuteAnswer most e count answer registers before after) → answer ≡ Ended k last →
     (v : ValueEnd most e code after last k) → r ≡ value_ran v.left k last.marks → Performed (finish count [] most e) r registers before after
 value_performed count most (ended j σ) answer registers before after k code last r t q v p =
     record { reply_is = p ∙ sym (v.replied count); registers_are = t.registers_are; beyond = t.beyond }
 value_performed count most (stopped x j σ) answer registers before after k code last r t q v p = absurd (not_both answer k last (reason_number x) j _ q t.answer_is)
+value_performed count most (lost j σ) answer registers before after k code last r t q v p = elim t [ ]

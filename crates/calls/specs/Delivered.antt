@@ -1,10 +1,10 @@
--- Demand 3 for what `run` runs, proved: `run_is_whole` from the whole_run theorem of the rules; and that its marks are within the needs,
+-- Demand 3 for what `run` runs, proved: `run_is_whole` from the whole-run theorem of the rules; and that its marks are within the needs,
 -- `runs_within_needs`.
 use Rattle.std.specs.Prelude.{ℕ, suc, ◌<◌, ◌≤◌, refl, ◌≡◌, List, [], ◌∷◌, length, get_or}
 use Rattle.std.proofs.Common.{sym, ap, ◌∙◌, subst, arith}
 use borrow.Author.Tests.{le-ltb, le-leb, eq-eqb}
 use Rattle.rules.specs.paper.Limits.{most_budget, work_words}
-use Rattle.rules.specs.paper.Run.{Ending, ended, stopped, run}
+use Rattle.rules.specs.paper.Run.{Ending, ended, stopped, run, lost}
 use Rattle.rules.specs.paper.HighMarks.{high_marks}
 use Rattle.rules.proofs.needs.HighMarks.{high_marks_are_most, replies_within_needs}
 use Rattle.rules.specs.paper.Needs.{Figure, control, values, cells, bindings, sizes}
@@ -39,6 +39,7 @@ delivered image r t a passes registers count ranged budget few work room =
         record { last = σ; history = h; reached = reached; answered = at_its_end empty final; registers_are = refl; marked = high_marks_are_most budget (start r t registers) r; claimed = whole_run image r t a passes registers count ranged budget few }
     by (stopped x k σ) (withheld_for h rule e reached applies w q) =
         record { last = σ; history = h; reached = reached; answered = withheld_there rule e applies w q; registers_are = refl; marked = high_marks_are_most budget (start r t registers) r; claimed = whole_run image r t a passes registers count ranged budget few }
+    by (lost k σ) no_end = elim no_end [ ]
 
 pub run_is_whole : RunsAreWhole
 run_is_whole image registers budget work answer last p q t a passes low few room =

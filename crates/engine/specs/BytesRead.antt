@@ -1,5 +1,5 @@
 -- What an image and registers of bytes come to, in the paper's order. Fewer than 8 bytes are refusal 1; then n or r out of range is 2; then a
--- length other than 8 + 8 n is 1; and 8 + 8 n bytes are read as their 2 + 2 n little_endian words. Registers of 8 r bytes are their r values; any
+-- length other than 8 + 8 n is 1; and 8 + 8 n bytes are read as their 2 + 2 n little-endian words. Registers of 8 r bytes are their r values; any
 -- other length is 20 where the image passes.
 use Rattle.std.specs.Prelude.{ℕ, suc, ◌+◌, ◌-◌, ◌*◌, ◌/◌, ◌%◌, ◌<◌, ◌≤◌, ◌≡◌, refl, Bool, true, false, cond, ◌&&◌, List, [], ◌∷◌, ◌++◌, T, eqb, leb, length, take, drop}
 use Rattle.std.proofs.Common.{sym, ap, ◌∙◌, subst, arith, length-append, le-ltb, lt-ltb, le-leb, eq-eqb, ne_eqb}

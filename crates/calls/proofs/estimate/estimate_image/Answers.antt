@@ -7,7 +7,11 @@ use borrow.Author.Rules.{rules}
 use Rattle.calls.proofs.estimate.estimate_image.Goals as goal
 
 pub figures-requires : goal.figures-requires
-figures-requires c = (omega (arith, c.requires, (loaded_beyond _ _ _ _ c.load-loaded.ensures).same_length), tree_loaded _ _ _ _ c.load-loaded.ensures _ _ _ c.in-Passed.is)
+figures-requires c = let both = tree_loaded _ _ _ _ c.load-loaded.ensures _ _ _ c.in-Passed.is in record {
+      work_words_in_bounds = omega (arith, c.requires, (loaded_beyond _ _ _ _ c.load-loaded.ensures).same_length);
+      registers_le_most_registers = both.0;
+      small_tree = both.1;
+    }
 
 pub returns-in-Passed : goal.returns-in-Passed
 returns-in-Passed c = record {

@@ -32,8 +32,10 @@ overflow_mul-count c =
     record { fits = omega (arith, c.image_count-count.ensures, (image_count_fits (length c.args.image.now)).0) }
 
 pub returns-then-count-image : goal.returns-then-count-image
-returns-then-count-image c =
-    unpacked c.args.image.now c.args.words.now _ _ c.image_count-count.ensures (room (length c.args.image.now) _ _ c.image_count-count.ensures c.requires) c.unpack_words.ensures c.if-count-image.true
+returns-then-count-image c = let both = unpacked c.args.image.now c.args.words.now _ _ c.image_count-count.ensures (room (length c.args.image.now) _ _ c.image_count-count.ensures c.requires) c.unpack_words.ensures c.if-count-image.true in record {
+      upper_bound = both.0;
+      words_after = both.1;
+    }
 
 pub offset_bounds-words-count : goal.offset_bounds-words-count
 offset_bounds-words-count c =
@@ -49,6 +51,7 @@ overflow_add-result c =
     record { fits = omega (arith, c.image_count-count.ensures, (image_count_fits (length c.args.image.now)).0) }
 
 pub returns : goal.returns
-returns c =
-    unpacked_more c.args.image.now c.args.words.now _ _ c.image_count-count.ensures (room (length c.args.image.now) _ _ c.image_count-count.ensures c.requires) c.unpack_words.ensures c.if-count-image.false
-    (room-left (length c.args.image.now) _ _ c.image_count-count.ensures c.requires c.if-count-image.false)
+returns c = let both = unpacked_more c.args.image.now c.args.words.now _ _ c.image_count-count.ensures (room (length c.args.image.now) _ _ c.image_count-count.ensures c.requires) c.unpack_words.ensures c.if-count-image.false (room-left (length c.args.image.now) _ _ c.image_count-count.ensures c.requires c.if-count-image.false) in record {
+      upper_bound = both.0;
+      words_after = both.1;
+    }
