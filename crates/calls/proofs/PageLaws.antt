@@ -9,7 +9,6 @@ use Rattle.rules.proofs.Basics.{true_test, false_test}
 use Rattle.rules.specs.paper.Refusals.{refusal_number, ShortPage}
 use Rattle.rules.specs.paper.Limits.{work_words}
 use Rattle.rules.specs.paper.Tree.{Root}
-use Rattle.rules.specs.paper.Checker.{Passed}
 use Rattle.rules.specs.paper.Engine.{check_image, cleared}
 use Rattle.rules.specs.claims.Listing.{root_nodes}
 use Rattle.reader.specs.Put.{KeptBeyond}

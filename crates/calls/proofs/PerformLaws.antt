@@ -1,32 +1,26 @@
 -- From the run of a tree to the call's answer: the outcome by the root's code, the reasons, and the tests before the run.
-use Prim.Native.Nat.{ℕ, zero, suc, ◌<◌, ◌≤◌}
+use Prim.Native.Nat.{ℕ, suc, ◌≤◌}
 use mathlib.Core.Path.{◌≡◌, refl, sym, ap, ◌∙◌, subst}
-use mathlib.Core.List.{List, [], ◌∷◌}
+use mathlib.Core.List.{List, []}
 use mathlib.Core.Option.{Option, none, some, some-injective, map}
 use native.Mathlib.Omega.{arith}
-use lib.ListN.{length, get_or}
 use Rattle.rules.proofs.Basics.{missing}
-use Rattle.rules.specs.paper.Refusals.{Reason, reason_number, refusal_number}
-use Rattle.rules.specs.paper.Tree.{Root}
-use Rattle.rules.specs.claims.Listing.{truth_word}
-use Rattle.rules.specs.paper.Checker.{Passed, expression_of_code, a_command}
-use Rattle.rules.specs.paper.States.{Value, integer, truth, location, Environment, Store, Entry, val, Item, State, state, values_of, store_of}
+use Rattle.rules.specs.paper.Refusals.{reason_number, refusal_number}
+use Rattle.rules.specs.paper.Checker.{expression_of_code, a_command}
+use Rattle.rules.specs.paper.States.{Value, integer, truth, location, State, state}
 use Rattle.rules.specs.claims.History.{Made, made_with, type_of}
-use Rattle.rules.specs.paper.Run.{Ending, ended, stopped, lost, run}
-use Rattle.rules.specs.claims.Ends.{EndsWell, normally, withheld_for}
-use Rattle.rules.specs.paper.Engine.{check_image, passed, start, registers_from, outcome, outcome_of, outcome_of_value, finish}
-use Rattle.integers.specs.Words.{integers_of, words_of}
-use Rattle.machine.specs.Steps.{Stands, Holds}
+use Rattle.rules.specs.paper.Run.{Ending, ended, stopped, lost}
+use Rattle.rules.specs.claims.Ends.{EndsWell, normally}
+use Rattle.rules.specs.paper.Engine.{outcome, outcome_of, outcome_of_value, finish}
+use Rattle.machine.specs.Steps.{Stands}
 use Rattle.automaton.specs.Starts.{value_word}
-use Rattle.machine.specs.declared.Machine.{Machine}
 use Rattle.rules.specs.paper.Needs.{Sizes}
 use Rattle.automaton.specs.Runs.{marks_of}
 use Rattle.automaton.specs.declared.meter.HighMarks.{HighMarks}
 use Rattle.automaton.specs.declared.meter.Record.{Record}
 use Rattle.automaton.specs.declared.Ending as Endings
 use Rattle.automaton.specs.declared.Ending.TheVariants.{Ended, Stopped}
-use Rattle.reader.specs.Put.{KeptBeyond}
-use Rattle.calls.specs.Runs.{value_ran, ran, run_reply, ExecutedEnd, ExecuteAnswer, Performed, RunOf, KindOf, LeftAs}
+use Rattle.calls.specs.Runs.{value_ran, ran, run_reply, ExecuteAnswer, Performed, KindOf, LeftAs}
 use Rattle.calls.specs.declared.Ran.{Ran}
 use Rattle.calls.specs.declared.Ran.TheVariants.{Number, Truth, Location, Nothing, Refused}
 

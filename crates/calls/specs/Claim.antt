@@ -23,10 +23,8 @@ use Rattle.automaton.specs.Runs.{marks_of}
 use Rattle.automaton.specs.declared.meter.HighMarks.{HighMarks}
 use Rattle.calls.specs.declared.Ran.{Ran}
 use Rattle.calls.specs.declared.Ran.TheVariants.{Number, Truth, Location, Nothing}
-use Rattle.calls.specs.declared.Ran.TheVariants as Ran
 use Rattle.calls.specs.declared.Estimated.{Estimated}
 use Rattle.calls.specs.declared.Estimated.TheVariants.{Figures, Open}
-use Rattle.calls.specs.declared.Estimated.TheVariants as Estimated
 use Rattle.calls.specs.declared.Ranged.{Ranged}
 use Rattle.calls.specs.declared.Ranged.TheVariants.{Ends}
 

@@ -1,6 +1,5 @@
 -- page: 22, then the image and its page, and the work words cleared.
 use Rattle.calls.proofs.PageLaws.{little_room, answered}
-use borrow.Author.Rules.{rules}
 use Rattle.calls.proofs.page.Goals as goal
 
 pub returns-then-work-lt-WORK_WORDS : goal.returns-then-work-lt-WORK_WORDS

@@ -1,6 +1,5 @@
 -- ranges: 22, then the image and its ranges, and the work words cleared.
 use Rattle.calls.proofs.RangesLaws.{little_room, answered}
-use borrow.Author.Rules.{rules}
 use Rattle.calls.proofs.ranges.Goals as goal
 
 pub returns-then-work-lt-WORK_WORDS : goal.returns-then-work-lt-WORK_WORDS

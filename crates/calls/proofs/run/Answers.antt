@@ -1,6 +1,5 @@
 -- run: 22, 21, then the image and the steps, and the work words cleared.
 use Rattle.calls.proofs.OrderLaws.{work_refused, budget_refused, performed}
-use borrow.Author.Rules.{rules}
 use Rattle.calls.proofs.run.Goals as goal
 
 pub returns-then-work-lt-WORK_WORDS : goal.returns-then-work-lt-WORK_WORDS

@@ -3,24 +3,23 @@ use native.Mathlib.Omega.{arith}
 use Rattle.loader.proofs.LoadLaws.{beyond_then}
 use Rattle.calls.proofs.LoadedLaws.{loaded_beyond}
 use Rattle.calls.proofs.NeedsLaws.{tree_loaded, passed_answered, refusal_answered}
-use borrow.Author.Rules.{rules}
 use Rattle.calls.proofs.estimate.estimate_image.Goals as goal
 
 pub figures-requires : goal.figures-requires
 figures-requires c = let both = tree_loaded _ _ _ _ c.load-loaded.ensures _ _ _ c.in-Passed.is in record {
-      work_words_in_bounds = omega (arith, c.requires, (loaded_beyond _ _ _ _ c.load-loaded.ensures).same_length);
-      registers_le_most_registers = both.0;
-      small_tree = both.1;
-    }
+  work_words_in_bounds = omega (arith, c.requires, (loaded_beyond _ _ _ _ c.load-loaded.ensures).same_length);
+  registers_le_most_registers = both.0;
+  small_tree = both.1;
+}
 
 pub returns-in-Passed : goal.returns-in-Passed
 returns-in-Passed c = record {
-      value = passed_answered _ _ _ _ c.load-loaded.ensures _ _ _ c.in-Passed.is _ c.figures.ensures.estimated_as;
-      kept_beyond = beyond_then (loaded_beyond _ _ _ _ c.load-loaded.ensures) c.figures.ensures.kept_beyond;
-    }
+  value = passed_answered _ _ _ _ c.load-loaded.ensures _ _ _ c.in-Passed.is _ c.figures.ensures.estimated_as;
+  kept_beyond = beyond_then (loaded_beyond _ _ _ _ c.load-loaded.ensures) c.figures.ensures.kept_beyond;
+}
 
 pub returns-in-Refused : goal.returns-in-Refused
 returns-in-Refused c = record {
-      value = refusal_answered _ _ _ _ c.load-loaded.ensures _ _ c.in-Refused.is;
-      kept_beyond = loaded_beyond _ _ _ _ c.load-loaded.ensures;
-    }
+  value = refusal_answered _ _ _ _ c.load-loaded.ensures _ _ c.in-Refused.is;
+  kept_beyond = loaded_beyond _ _ _ _ c.load-loaded.ensures;
+}

@@ -5,21 +5,20 @@ use Rattle.loader.proofs.LoadLaws.{beyond_then}
 use Rattle.calls.specs.Ranges.{TreeRefused}
 use Rattle.calls.proofs.NeedsLaws.{beyond_entries}
 use Rattle.calls.proofs.RangesLaws.{tree_refused, routine_there, ends_answered, unsafe_answered, small_tree, beyond_regions}
-use borrow.Author.Rules.{rules}
 use Rattle.calls.proofs.limits.carry_tree.Goals as goal
 
 pub tree_refusal-refusal-requires : goal.tree_refusal-refusal-requires
 tree_refusal-refusal-requires c = let both = small_tree c.requires.tree_stands in record {
-      work_words_in_bounds = c.requires.work_words_in_bounds;
-      registers_le_most_registers = both.0;
-      small_tree = both.1;
-    }
+  work_words_in_bounds = c.requires.work_words_in_bounds;
+  registers_le_most_registers = both.0;
+  small_tree = both.1;
+}
 
 pub returns-then-refusal-ne0 : goal.returns-then-refusal-ne0
 returns-then-refusal-ne0 c = record {
-      tree_ranged = tree_refused c.args.lowest.now c.args.highest.now (λ i h. (c.slice_known-1.given i).fits) (λ i h. (c.slice_known-2-1.given i).fits) _ _ c.requires.highest_len c.requires.highest_value _ c.tree_refusal-refusal.ensures.tree_refused c.if-refusal-ne0.true;
-      kept_beyond = beyond_entries c.tree_refusal-refusal.ensures.writes_entries_from;
-    }
+  tree_ranged = tree_refused c.args.lowest.now c.args.highest.now (λ i h. (c.slice_known-1.given i).fits) (λ i h. (c.slice_known-2-1.given i).fits) _ _ c.requires.highest_len c.requires.highest_value _ c.tree_refusal-refusal.ensures.tree_refused c.if-refusal-ne0.true;
+  kept_beyond = beyond_entries c.tree_refusal-refusal.ensures.writes_entries_from;
+}
 
 pub carry-outcome-requires : goal.carry-outcome-requires
 carry-outcome-requires c =

@@ -1,6 +1,5 @@
 -- The lowest of 33 to 36 whose figure passes its limit.
 use Rattle.calls.proofs.RangesLaws.{cells_full, bindings_full, values_full, control_full, nothing_full}
-use borrow.Author.Rules.{rules}
 use Rattle.calls.proofs.limits.room_refusal.Goals as goal
 
 pub returns-then-need-gt-MOST_CELLS : goal.returns-then-need-gt-MOST_CELLS

@@ -1,17 +1,14 @@
 -- execute: the start, the run, and the registers taken from its last state.
-use Prim.Native.Nat.{ℕ, ◌≤◌, ◌<◌}
-use mathlib.Core.Path.{◌≡◌, sym, ◌∙◌}
 use native.Mathlib.Omega.{arith}
 use Rattle.rules.specs.claims.History.{first_history}
 use Rattle.calls.proofs.ExecuteLaws.{few_registers, starts_sound, executed}
-use borrow.Author.Rules.{rules}
 use Rattle.calls.proofs.perform.execute.Goals as goal
 
 pub start-first-requires : goal.start-first-requires
 start-first-requires c = record {
-      work_words_in_bounds = c.requires.work_words_in_bounds;
-      registers_len_bound = few_registers c.requires.tree_stands.0 c.args.registers.now c.requires.tree_stands.1 c.requires.tree_stands.2 c.requires.tree_stands.3;
-    }
+  work_words_in_bounds = c.requires.work_words_in_bounds;
+  registers_len_bound = few_registers c.requires.tree_stands.0 c.args.registers.now c.requires.tree_stands.1 c.requires.tree_stands.2 c.requires.tree_stands.3;
+}
 
 pub run-ending-requires : goal.run-ending-requires
 run-ending-requires c =
@@ -19,9 +16,9 @@ run-ending-requires c =
 
 pub take_registers-requires : goal.take_registers-requires
 take_registers-requires c = record {
-      work_words_in_bounds = omega (arith, c.run-ending.auto.work, c.start-first.auto.work, c.requires.work_words_in_bounds);
-      registers_len_bound = few_registers c.requires.tree_stands.0 c.args.registers.now c.requires.tree_stands.1 c.requires.tree_stands.2 c.requires.tree_stands.3;
-    }
+  work_words_in_bounds = omega (arith, c.run-ending.auto.work, c.start-first.auto.work, c.requires.work_words_in_bounds);
+  registers_len_bound = few_registers c.requires.tree_stands.0 c.args.registers.now c.requires.tree_stands.1 c.requires.tree_stands.2 c.requires.tree_stands.3;
+}
 
 pub returns : goal.returns
 returns c image t a passes stands =

@@ -1,8 +1,7 @@
 -- result: the value that is left, by the root's code.
-use mathlib.Core.Path.{◌≡◌, ap, ◌∙◌}
+use mathlib.Core.Path.{ap, ◌∙◌}
 use Rattle.calls.specs.declared.Ran.TheVariants.{Number, Truth, Location}
 use Rattle.calls.proofs.PerformLaws.{number_left, truth_left, location_left}
-use borrow.Author.Rules.{rules}
 use Rattle.calls.proofs.perform.result.Goals as goal
 
 pub returns-then-code-eq0 : goal.returns-then-code-eq0

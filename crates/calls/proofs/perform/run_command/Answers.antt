@@ -1,14 +1,12 @@
 -- run_command: nothing is left, or the reason.
-use mathlib.Core.Path.{◌≡◌}
 use lib.ListN.{length}
-use Rattle.rules.specs.paper.Checker.{expression_of_code, a_command}
+use Rattle.rules.specs.paper.Checker.{a_command}
 use Rattle.rules.specs.paper.Run.{run}
 use Rattle.rules.specs.paper.HighMarks.{high_marks}
 use Rattle.rules.specs.paper.Engine as Rules
 use Rattle.integers.specs.Words.{integers_of}
 use Rattle.calls.proofs.ExecuteLaws.{ends_well}
 use Rattle.calls.proofs.PerformLaws.{stopped_performed, command_performed}
-use borrow.Author.Rules.{rules}
 use Rattle.calls.proofs.perform.run_command.Goals as goal
 
 pub returns-in-Ended : goal.returns-in-Ended

@@ -1,14 +1,12 @@
 -- run_expression: a value of the root's code is left, or the reason.
-use mathlib.Core.Path.{◌≡◌}
 use lib.ListN.{length}
-use Rattle.rules.specs.paper.Checker.{expression_of_code, a_command}
+use Rattle.rules.specs.paper.Checker.{expression_of_code}
 use Rattle.rules.specs.paper.Run.{run}
 use Rattle.rules.specs.paper.HighMarks.{high_marks}
 use Rattle.rules.specs.paper.Engine as Rules
 use Rattle.integers.specs.Words.{integers_of}
 use Rattle.calls.proofs.ExecuteLaws.{ends_well}
 use Rattle.calls.proofs.PerformLaws.{stopped_performed, value_end, value_performed}
-use borrow.Author.Rules.{rules}
 use Rattle.calls.proofs.perform.run_expression.Goals as goal
 
 pub result-requires : goal.result-requires

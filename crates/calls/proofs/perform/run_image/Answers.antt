@@ -1,9 +1,6 @@
 -- perform: the image, then 20, then the run.
-use mathlib.Core.Path.{◌≡◌, ap, ◌∙◌}
 use native.Mathlib.Omega.{arith}
-use lib.ListN.{length}
 use Rattle.calls.proofs.OrderLaws.{found_root, found_expression, found_command, image_refused, count_refused, counted, run_performed}
-use borrow.Author.Rules.{rules}
 use Rattle.calls.proofs.perform.run_image.Goals as goal
 
 pub returns-then-registers-count : goal.returns-then-registers-count

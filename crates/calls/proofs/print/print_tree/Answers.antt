@@ -2,7 +2,6 @@
 use native.Mathlib.Omega.{arith}
 use Rattle.reader.proofs.StandingLaws.{nodes_low}
 use Rattle.calls.proofs.PageLaws.{short_page, whole_page}
-use borrow.Author.Rules.{rules}
 use Rattle.calls.proofs.print.print_tree.Goals as goal
 
 pub overflow_mul-nodes : goal.overflow_mul-nodes
