@@ -1,7 +1,6 @@
 -- The answer of `run` in nine numbers.
 use Rattle.engine.proofs.RunNumbers.{called_in}
 use Rattle.calls.specs.declared.Ran.TheVariants.{Number, Truth, Location, Nothing, Refused}
-use borrow.Author.Rules.{rules}
 use Rattle.engine.proofs.pi_run.Goals as goal
 
 pub returns-in-Number : goal.returns-in-Number

@@ -1,6 +1,5 @@
 -- The answer of `page` in two numbers.
 use Rattle.engine.proofs.PageNumbers.{replies_whole, replies_refused}
-use borrow.Author.Rules.{rules}
 use Rattle.engine.proofs.annex.pi_page.Goals as goal
 
 pub returns-in-Whole : goal.returns-in-Whole

@@ -8,7 +8,6 @@ use Rattle.engine.specs.Bytes.{too_many_registers}
 use Rattle.rules.specs.paper.Limits.{most_registers}
 use Rattle.engine.specs.BytesKept.{count_whole}
 use Rattle.engine.proofs.BytesRun.{odd_bytes, many_bytes, some_bytes, no_registers, some_registers}
-use borrow.Author.Rules.{rules}
 use Rattle.engine.proofs.bytes.run_registers.Goals as goal
 
 few-values : (count : ℕ) → count ≤ most_registers → length {A = ℕ} (take count (replicate too_many_registers 0)) ≡ count

@@ -1,6 +1,5 @@
 -- The values are unpacked, run on and packed again.
 use Rattle.engine.proofs.BytesRun.{values_run}
-use borrow.Author.Rules.{rules}
 use Rattle.engine.proofs.bytes.run_values.Goals as goal
 
 pub returns : goal.returns

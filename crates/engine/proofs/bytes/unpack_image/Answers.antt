@@ -7,7 +7,6 @@ use lib.Seq.{length-take-le}
 use Rattle.calls.specs.Sizes.{most_image_words}
 use Rattle.engine.specs.Bytes.{image_count}
 use Rattle.engine.proofs.BytesCounts.{image_count_fits, left_over_fits, same_size, unpacked, unpacked_more}
-use borrow.Author.Rules.{rules}
 use Rattle.engine.proofs.bytes.unpack_image.Goals as goal
 
 room : (bytes count words : ℕ) → count ≡ image_count bytes → most_image_words ≤ words → count ≤ words
@@ -33,9 +32,9 @@ overflow_mul-count c =
 
 pub returns-then-count-image : goal.returns-then-count-image
 returns-then-count-image c = let both = unpacked c.args.image.now c.args.words.now _ _ c.image_count-count.ensures (room (length c.args.image.now) _ _ c.image_count-count.ensures c.requires) c.unpack_words.ensures c.if-count-image.true in record {
-      upper_bound = both.0;
-      words_after = both.1;
-    }
+  upper_bound = both.0;
+  words_after = both.1;
+}
 
 pub offset_bounds-words-count : goal.offset_bounds-words-count
 offset_bounds-words-count c =
@@ -52,6 +51,6 @@ overflow_add-result c =
 
 pub returns : goal.returns
 returns c = let both = unpacked_more c.args.image.now c.args.words.now _ _ c.image_count-count.ensures (room (length c.args.image.now) _ _ c.image_count-count.ensures c.requires) c.unpack_words.ensures c.if-count-image.false (room-left (length c.args.image.now) _ _ c.image_count-count.ensures c.requires c.if-count-image.false) in record {
-      upper_bound = both.0;
-      words_after = both.1;
-    }
+  upper_bound = both.0;
+  words_after = both.1;
+}
