@@ -14,7 +14,7 @@ use Rattle.rules.specs.paper.Integers.{in_range}
 use Rattle.rules.specs.paper.Tree.{Root}
 use Rattle.rules.specs.paper.Checker.{Passed}
 use Rattle.rules.specs.paper.States.{integer, truth, location, value, closure, Entry, bindable, name, node, environment, locations, Store, find, State, values_of, store_of}
-use Rattle.rules.specs.paper.Run.{Ending, ended, stopped, run}
+use Rattle.rules.specs.paper.Run.{Ending, ended, stopped, lost, run}
 use Rattle.rules.specs.paper.HighMarks.{high_marks}
 use Rattle.rules.specs.claims.History.{History, Reach}
 use Rattle.rules.specs.claims.Claim.{AllInRange}
@@ -84,6 +84,7 @@ module _ (image : List ℕ) (zs : List ℤ) (ranged : AllInRange zs) (budget : �
           record { answer = left_ranged (values_of σ) (facts k σ h reached).values_ranged; registers = registers_ranged (store_of σ) r 0 (λ i l. (facts k σ h reached).registers_hold i (omega (arith, l))) }
       by (stopped x k σ) (withheld_for h rule e reached applies w q) =
           record { answer = tt; registers = registers_ranged (store_of σ) r 0 (λ i l. (facts k σ h reached).registers_hold i (omega (arith, l))) }
+      by (lost k σ) no_end = elim no_end [ ]
 
   either : (t : Bool) (c d : Called) → Ranged c → Ranged d → Ranged (cond t c d)
   either true c d p q = p

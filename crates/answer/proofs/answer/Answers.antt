@@ -13,13 +13,6 @@ answer_counted-requires c =
       answer_bytes_in_bounds = search rules;
     }
 
-pub returns-in-Fits : goal.returns-in-Fits
-returns-in-Fits c =
-    let f = fitting _ _ _ _ c.count_input-counted.ensures c.in-Fits.is in let both = whole _ _ _ _ _ c.answer_counted.ensures c.answer_counted.auto.1.1.1.0 c.answer_counted-arg-1.given.0.1 f.answer in record {
-      prefix_len = both.0;
-      output_after = both.1;
-    }
-
 pub returns-in-Refused : goal.returns-in-Refused
 returns-in-Refused c =
     let f = refusing_it _ _ _ c.count_input-counted.ensures c.in-Refused.is in let both = whole _ _ _ _ _ c.put_refusal.ensures c.put_refusal.auto.output c.put_refusal-arg-1.given.0.1 f in record {

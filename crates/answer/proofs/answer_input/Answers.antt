@@ -1,6 +1,5 @@
 -- answer_input: the numbers of the input, and the run on them.
 use Rattle.answer.proofs.AnswerLaws.{input_put}
-use borrow.Author.Rules.{rules}
 use Rattle.answer.proofs.answer_input.Goals as goal
 
 pub returns : goal.returns

@@ -1,6 +1,5 @@
 -- answer_run: the run and its answer.
 use Rattle.answer.proofs.AnswerLaws.{ran_put}
-use borrow.Author.Rules.{rules}
 use Rattle.answer.proofs.answer_run.Goals as goal
 
 pub returns : goal.returns

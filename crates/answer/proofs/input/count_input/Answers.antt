@@ -1,8 +1,6 @@
 -- count_input: the tests in their order.
 use mathlib.Core.Path.{sym, ◌∙◌}
-use borrow.Author.Tests.{not-true, not-false}
 use Rattle.answer.proofs.InputLaws.{too_short, missized, miscounted, counted}
-use borrow.Author.Rules.{rules}
 use Rattle.answer.proofs.input.count_input.Goals as goal
 
 pub returns-then-input-lt8 : goal.returns-then-input-lt8

@@ -1,7 +1,6 @@
 -- marks_of: by the cases of an answer.
 use mathlib.Core.Path.{sym, ap}
 use Rattle.calls.specs.Claim.{marks_in}
-use borrow.Author.Rules.{rules}
 use Rattle.answer.proofs.lines.marks_of.Goals as goal
 
 pub returns-in-Number : goal.returns-in-Number

@@ -1,7 +1,6 @@
 -- put_answer: the outcome, the steps, the marks and the registers.
 use mathlib.Core.Path.{sym, ◌∙◌}
 use Rattle.answer.proofs.LineLaws.{answer_with_registers, answer_without}
-use borrow.Author.Rules.{rules}
 use Rattle.answer.proofs.lines.put_answer.Goals as goal
 
 pub returns-then-shows_registers : goal.returns-then-shows_registers

@@ -1,6 +1,5 @@
 -- put_marks: the four marks, and the end of their line.
 use Rattle.answer.proofs.LineLaws.{marks_line}
-use borrow.Author.Rules.{rules}
 use Rattle.answer.proofs.lines.put_marks.Goals as goal
 
 pub returns : goal.returns

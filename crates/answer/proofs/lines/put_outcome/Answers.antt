@@ -1,6 +1,5 @@
 -- put_outcome: a text for each outcome.
 use Rattle.answer.proofs.LineLaws.{number_text, truth_text, cell_text, none_text, refused_text}
-use borrow.Author.Rules.{rules}
 use Rattle.answer.proofs.lines.put_outcome.Goals as goal
 
 pub returns-in-Number : goal.returns-in-Number

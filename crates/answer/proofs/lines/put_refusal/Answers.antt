@@ -1,6 +1,5 @@
 -- put_refusal: three lines.
 use Rattle.answer.proofs.LineLaws.{refused_answer}
-use borrow.Author.Rules.{rules}
 use Rattle.answer.proofs.lines.put_refusal.Goals as goal
 
 pub returns : goal.returns

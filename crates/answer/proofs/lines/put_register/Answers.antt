@@ -1,6 +1,5 @@
 -- put_register: a register's number and its integer.
 use Rattle.answer.proofs.LineLaws.{register_line}
-use borrow.Author.Rules.{rules}
 use Rattle.answer.proofs.lines.put_register.Goals as goal
 
 pub returns : goal.returns

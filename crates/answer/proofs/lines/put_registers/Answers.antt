@@ -1,8 +1,6 @@
 -- put_registers: a line for each register.
-use Prim.Native.Nat.{◌-◌}
 use native.Mathlib.Omega.{arith}
-use lib.ListN.{length}
-use Rattle.answer.proofs.LineLaws.{Lined, lined_none, lined_next, lined_all}
+use Rattle.answer.proofs.LineLaws.{lined_none, lined_next, lined_all}
 use Rattle.answer.proofs.lines.put_registers.Goals as goal
 
 pub loop-i-init : goal.loop-i-init

@@ -1,6 +1,5 @@
 -- put_steps: the end of a line, and the steps.
 use Rattle.answer.proofs.LineLaws.{steps_lines}
-use borrow.Author.Rules.{rules}
 use Rattle.answer.proofs.lines.put_steps.Goals as goal
 
 pub returns : goal.returns

@@ -1,7 +1,6 @@
 -- steps_of: by the cases of an answer.
 use mathlib.Core.Path.{sym, ap}
 use Rattle.answer.specs.Writing.{ran_steps}
-use borrow.Author.Rules.{rules}
 use Rattle.answer.proofs.lines.steps_of.Goals as goal
 
 pub returns-in-Number : goal.returns-in-Number

@@ -1,9 +1,6 @@
 -- put: the text byte by byte.
-use Prim.Native.Nat.{◌-◌, ◌≤◌}
-use mathlib.Core.Path.{◌≡◌}
 use native.Mathlib.Omega.{arith}
-use lib.ListN.{length}
-use lib.Seq.{paste, paste-zero}
+use lib.Seq.{paste-zero}
 use Rattle.answer.proofs.PutLaws.{put_byte, put_length, put_whole}
 use Rattle.answer.proofs.text.put.Goals as goal
 
@@ -27,11 +24,10 @@ pub loop-i-smaller : goal.loop-i-smaller
 loop-i-smaller c = omega (arith, c.loop-i-test.true)
 
 pub loop-i-preserved : goal.loop-i-preserved
-loop-i-preserved c =
-    (
-      omega (arith, c.loop-i-test.true),
-      put_byte _ _ _ c.requires c.loop-i.output c.loop-i.i c.loop-i.invariant.1 c.loop-i-test.true,
-    )
+loop-i-preserved c = (
+  omega (arith, c.loop-i-test.true),
+  put_byte _ _ _ c.requires c.loop-i.output c.loop-i.i c.loop-i.invariant.1 c.loop-i-test.true,
+)
 
 pub overflow_add-result : goal.overflow_add-result
 overflow_add-result c = record { fits = omega (arith, c.loop-i.invariant.0, c.requires) }

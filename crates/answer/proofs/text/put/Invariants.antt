@@ -1,10 +1,8 @@
 -- put: the text byte by byte.
 use Prim.Native.Nat.{◌-◌, ◌≤◌}
 use mathlib.Core.Path.{◌≡◌}
-use native.Mathlib.Omega.{arith}
 use lib.ListN.{length}
-use lib.Seq.{paste, paste-zero}
-use Rattle.answer.proofs.PutLaws.{put_byte, put_length, put_whole}
+use lib.Seq.{paste}
 use Rattle.answer.proofs.text.put.Given as goal
 
 abbrev pub invariant-loop-i : goal.invariant-loop-i

@@ -1,6 +1,5 @@
 -- put_integer: the digits, behind a minus where the integer is negative.
 use Rattle.answer.proofs.DecimalLaws.{integer_put, minus_put}
-use borrow.Author.Rules.{rules}
 use Rattle.answer.proofs.text.put_integer.Goals as goal
 
 pub returns-then-word-lt-LEAST : goal.returns-then-word-lt-LEAST

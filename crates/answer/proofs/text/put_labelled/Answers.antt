@@ -1,7 +1,6 @@
 -- put_labelled: the text, then the number.
 use native.Mathlib.Omega.{arith}
 use Rattle.answer.proofs.PutLaws.{within, within_then}
-use borrow.Author.Rules.{rules}
 use Rattle.answer.proofs.text.put_labelled.Goals as goal
 
 pub returns : goal.returns

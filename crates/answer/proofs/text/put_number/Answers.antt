@@ -1,7 +1,6 @@
 -- put_number: the digits of a number.
 use native.Mathlib.Omega.{arith}
 use Rattle.answer.proofs.DecimalLaws.{few_digits, number_put}
-use borrow.Author.Rules.{rules}
 use Rattle.answer.proofs.text.put_number.Goals as goal
 
 pub put-requires : goal.put-requires
@@ -10,4 +9,4 @@ put-requires c =
 
 pub returns : goal.returns
 returns c =
-    number_put _ _ c.decimal-count.new.1.0 _ _ _ _ c.ranges.number.fits c.decimal-count.ensures.in_bounds.1 c.decimal-count.ensures.len (c.decimal-count.ensures.digits, c.decimal-count.ensures.rest) c.put.ensures
+    number_put _ _ c.decimal-count.new.out _ _ _ _ c.ranges.number.fits c.decimal-count.ensures.in_bounds.1 c.decimal-count.ensures.len c.decimal-count.ensures.digits c.put.ensures
