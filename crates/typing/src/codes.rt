@@ -69,8 +69,8 @@ pub fn valref_code(node: usize, number: usize) -> Answer
 }
 
 // Both integers: Sum to Div and Lt to Ge.
-fn integers(node: usize, res: usize, first: usize, second: usize) -> Answer
-    ensures { result ≡ code_answer (integers_give res node first second) }
+fn integers(node: usize, outcome: usize, first: usize, second: usize) -> Answer
+    ensures { result ≡ code_answer (integers_give outcome node first second) }
 {
     if first != 0 {
         return Answer::Fault(refusals::MISTYPED, node);
@@ -78,7 +78,7 @@ fn integers(node: usize, res: usize, first: usize, second: usize) -> Answer
     if second != 0 {
         return Answer::Fault(refusals::MISTYPED, node);
     }
-    Answer::Is(res)
+    Answer::Is(outcome)
 }
 
 // Both truth values: And, Or.
@@ -124,13 +124,13 @@ pub fn operation(which: usize, node: usize, first: usize, second: usize) -> Answ
 }
 
 // A truth value alone: Not gives 1 of it, and the test of a Loop or Cond is one.
-pub fn truth(node: usize, res: usize, code: usize) -> Answer
-    ensures { result ≡ code_answer (truth_only node res code) }
+pub fn truth(node: usize, outcome: usize, code: usize) -> Answer
+    ensures { result ≡ code_answer (truth_only node outcome code) }
 {
     if code != 1 {
         return Answer::Fault(refusals::MISTYPED, node);
     }
-    Answer::Is(res)
+    Answer::Is(outcome)
 }
 
 // Assign: the code of the value that a name of this meaning takes.
