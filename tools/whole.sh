@@ -1,6 +1,6 @@
 #!/usr/bin/env bash
 # Runs the program and hands on its answer only if that is whole; or tests an answer that is stored already.
-# The program itself cannot set its exit status: it is 0 also where the answer could not be written.
+# The program's own exit status says nothing of that: it is 0 also where the answer could not be written.
 set -u
 export LC_ALL=C
 
