@@ -114,9 +114,9 @@ fn a_pipe_that_nobody_reads() {
             .expect("a shell starts");
         (String::from_utf8(output.stderr).expect("text"), output.status.signal())
     };
-    let broken = 13;
-    assert_eq!(printed("exec \"$0\""), (String::new(), Some(broken)));
+    // A program made by today's toolchain ignores the signal, whoever starts it.
     let said = format!("{UNWRITTEN}Broken pipe\n");
+    assert_eq!(printed("exec \"$0\""), (said.clone(), None));
     assert_eq!(printed("trap '' PIPE; exec \"$0\""), (said, None));
 }
 
