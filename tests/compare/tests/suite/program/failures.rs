@@ -100,8 +100,8 @@ fn a_device_that_fills_up_is_said() {
     assert_eq!(with_answers("", "1x0", &input()), said(&stopped));
 }
 
-/// A pipe that nobody reads: the system ends the program by a signal, as it does any
-/// other; where the signal is ignored, the program says what is wrong.
+/// A pipe that nobody reads: the program ignores the signal that would end it, and says
+/// what is wrong, as where whoever starts it has the signal ignored.
 #[test]
 fn a_pipe_that_nobody_reads() {
     let printed = |script: &str| {
