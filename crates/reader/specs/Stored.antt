@@ -1,14 +1,13 @@
 -- Which tree the work words hold (the reader's promise): `Stored.. words d i j t` says that the node at place i is the root of t,
 -- that t's nodes end before j and t is at most d deep, and that each of its nodes has its word.
 use Rattle.std.specs.Prelude.{ℕ, suc, ◌+◌, ◌*◌, ◌<◌, ◌≤◌, ◌≡◌, Bool, List, [], ◌∷◌, length, get_or}
-use Rattle.std.proofs.Common.{ap, ◌∙◌}
 use Rattle.rules.specs.paper.Kinds.{operator_number}
 use Rattle.rules.specs.paper.Tree.{Operator, Expression, Num, Boo, Id, DeRef, ValRef, Binary, Not, Formal, Command, Assign, Loop, CSeq, block, Call, Cond, Block, Blk, Declaration, Bind, DSeq, Bound, plain, Ref, Abs, Root, expression, command, absent}
 use Rattle.rules.specs.paper.Limits as Limits
 use Rattle.rules.specs.paper.Limits.{most_nodes, most_depth, names, codes, most_parameters}
 use Rattle.rules.specs.claims.Listing.{truth_word}
 use Rattle.reader.specs.KindNumbers.{num_number, boo_number, id_number, not_number, deref_number, valref_number, assign_number, loop_number, cseq_number, blk_number, call_number, conditional_number, bind_number, dseq_number, ref_number, abs_number, formal_number}
-use Rattle.reader.specs.Pack.{kinds_room, pack, packed_kind, packed_end, packed_operand}
+use Rattle.reader.specs.Pack.{pack}
 
 -- The word of a node: its kind, its operand, and the first node after its descendants.
 pub record HasWord (words : List ℕ) (place kind operand end : ℕ) : Type 0 where

@@ -12,8 +12,8 @@ use Rattle.engine.proofs.bytes.unpack_image.Goals as goal
 room : (bytes count words : ℕ) → count ≡ image_count bytes → most_image_words ≤ words → count ≤ words
 room bytes count words counted h = omega (arith, counted, h, (image_count_fits bytes).0)
 
-room-left : (bytes count words : ℕ) → count ≡ image_count bytes → most_image_words ≤ words → (4 * count ≡ bytes → ⊥) → count < words
-room-left bytes count words counted h more = omega (arith, counted, h, left_over_fits bytes (λ all. more (ap (λ k. 4 * k) counted ∙ all)))
+room_left : (bytes count words : ℕ) → count ≡ image_count bytes → most_image_words ≤ words → (4 * count ≡ bytes → ⊥) → count < words
+room_left bytes count words counted h more = omega (arith, counted, h, left_over_fits bytes (λ all. more (ap (λ k. 4 * k) counted ∙ all)))
 
 pub slice_bounds-unpack_words-end : goal.slice_bounds-unpack_words-end
 slice_bounds-unpack_words-end c = room (length c.args.image.now) _ _ c.image_count-count.ensures c.requires
@@ -42,7 +42,7 @@ offset_bounds-words-count c =
 
 pub bounds-words-count : goal.bounds-words-count
 bounds-words-count c =
-    let low = room-left (length c.args.image.now) _ _ c.image_count-count.ensures c.requires c.if-count-image.false in
+    let low = room_left (length c.args.image.now) _ _ c.image_count-count.ensures c.requires c.if-count-image.false in
     omega (arith, low, same_size c.args.image.now c.args.words.now _ _ c.image_count-count.ensures (room (length c.args.image.now) _ _ c.image_count-count.ensures c.requires) c.unpack_words.ensures)
 
 pub overflow_add-result : goal.overflow_add-result
@@ -50,7 +50,7 @@ overflow_add-result c =
     record { fits = omega (arith, c.image_count-count.ensures, (image_count_fits (length c.args.image.now)).0) }
 
 pub returns : goal.returns
-returns c = let both = unpacked_more c.args.image.now c.args.words.now _ _ c.image_count-count.ensures (room (length c.args.image.now) _ _ c.image_count-count.ensures c.requires) c.unpack_words.ensures c.if-count-image.false (room-left (length c.args.image.now) _ _ c.image_count-count.ensures c.requires c.if-count-image.false) in record {
+returns c = let both = unpacked_more c.args.image.now c.args.words.now _ _ c.image_count-count.ensures (room (length c.args.image.now) _ _ c.image_count-count.ensures c.requires) c.unpack_words.ensures c.if-count-image.false (room_left (length c.args.image.now) _ _ c.image_count-count.ensures c.requires c.if-count-image.false) in record {
   upper_bound = both.0;
   words_after = both.1;
 }
