@@ -5,7 +5,7 @@ use little_endian::word_at;
 use reader::{refusals, size_fits};
 
 // The counts of nodes and of registers that the byte count fits, or the refusal.
-#[derive(Drop)]
+#[derive(Clone, Copy)]
 pub(crate) enum Counted {
     Fits(usize, usize),
     Refused(u64),

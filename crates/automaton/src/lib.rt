@@ -36,7 +36,7 @@ const DECLARATIONS: usize = kinds::BIND;
 
 // How a run ends, with the steps made and the run's record, the machine in its last state: control is empty, or a step is withheld, with the
 // number of the reason.
-#[derive(Drop)]
+#[derive(Clone, Copy)]
 pub enum Ending {
     Ended(u64, Record),
     Stopped(u64, u64, Record),

@@ -29,7 +29,7 @@ pub struct Record {
 }
 
 // A step and the marks after it.
-#[derive(Drop)]
+#[derive(Clone, Copy)]
 pub(crate) struct Metered {
     pub(crate) stepped: Stepped,
     pub(crate) marks: HighMarks,

@@ -33,7 +33,7 @@ pub const MOST_BUDGET: u64 = 1000000;
 pub const MOST_IMAGE_WORDS: usize = 2 + 2 * MOST_NODES;
 
 // What a check answers: the root's code, a command, or a refusal with its place.
-#[derive(Drop)]
+#[derive(Clone, Copy)]
 pub enum Checked {
     Code(usize),
     Command,
@@ -42,7 +42,7 @@ pub enum Checked {
 
 // What the needs come to: control, values, cells, bindings and steps; the first four where a Loop leaves the steps open; or a refusal with
 // its place.
-#[derive(Drop)]
+#[derive(Clone, Copy)]
 pub enum Estimated {
     Figures(u64, u64, u64, u64, u64),
     Open(u64, u64, u64, u64),
@@ -50,14 +50,14 @@ pub enum Estimated {
 }
 
 // What the annex page answers: the page is written, a line for each node; or a refusal with its place, and no byte is.
-#[derive(Drop)]
+#[derive(Clone, Copy)]
 pub enum Printed {
     Whole,
     Refused(u64, usize),
 }
 
 // What the ranges answer: both lists have the registers' ends; or a refusal with its place, and both lists are as they were.
-#[derive(Drop)]
+#[derive(Clone, Copy)]
 pub enum Ranged {
     Ends,
     Refused(u64, usize),

@@ -12,7 +12,7 @@ use intervals::values::{Expressed, LOCATION, NUMBERS, Value};
 use reader::{end, kind, kinds, operand};
 
 // What a declaration comes to: the names and cells that there are then, or the node at which it is unsafe.
-#[derive(Drop)]
+#[derive(Clone, Copy)]
 pub enum Declared {
     Names(Held),
     Unsafe(usize),

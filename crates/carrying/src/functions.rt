@@ -12,7 +12,7 @@ use intervals::values::Expressed;
 use reader::{NAMES, end, operand};
 
 // What a Call comes to before its function's Blk: the names and cells that the Blk finds and its node, or the node at which an actual is unsafe.
-#[derive(Drop)]
+#[derive(Clone, Copy)]
 pub enum Entered {
     Function(Held, usize),
     Unsafe(usize),

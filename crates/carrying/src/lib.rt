@@ -18,7 +18,7 @@ pub struct Held {
 }
 
 // What carrying comes to: it goes through, or is unsafe at a node, where an end leaves the integers or a divisor's range holds 0.
-#[derive(Drop)]
+#[derive(Clone, Copy)]
 pub enum Outcome {
     Through,
     Unsafe(usize),

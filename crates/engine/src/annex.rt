@@ -6,7 +6,7 @@ use calls::Printed;
 
 // What the annex page answers to a C host: refusal 0 where the page is written.
 #[repr(C)]
-#[derive(Drop)]
+#[derive(Clone, Copy)]
 pub struct PageReply {
     pub refusal: u64,
     pub place: u64,

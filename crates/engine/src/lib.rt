@@ -18,7 +18,7 @@ use calls::{Checked, Estimated, Ran, check, needs, run};
 
 // What a check answers to a C host: refusal 0 where the image passes, and then the value is the root's code or 8 for a command.
 #[repr(C)]
-#[derive(Drop)]
+#[derive(Clone, Copy)]
 pub struct CheckReply {
     pub refusal: u64,
     pub value: u64,
@@ -27,7 +27,7 @@ pub struct CheckReply {
 
 // What the needs come to for a C host: refusal 0 where there are figures; open 1 where a Loop leaves the steps open, which are 0 then.
 #[repr(C)]
-#[derive(Drop)]
+#[derive(Clone, Copy)]
 pub struct NeedsReply {
     pub refusal: u64,
     pub place: u64,
@@ -42,7 +42,7 @@ pub struct NeedsReply {
 // A run's answer for a C host: refusal 0 where the run ends, and then the outcome is 1 for a number, 2 for a truth, 3 for a cell and 0
 // for none. The high marks are 0 for refusals 1 to 22.
 #[repr(C)]
-#[derive(Drop)]
+#[derive(Clone, Copy)]
 pub struct RunReply {
     pub refusal: u64,
     pub outcome: u64,

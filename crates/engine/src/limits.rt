@@ -6,7 +6,7 @@ use calls::Ranged;
 
 // What the ranges answer to a C host: refusal 0 where the ends are given.
 #[repr(C)]
-#[derive(Drop)]
+#[derive(Clone, Copy)]
 pub struct RangesReply {
     pub refusal: u64,
     pub place: u64,

@@ -12,7 +12,7 @@ use crate::names::{keep, need_of};
 use reader::{NAMES, end, kind, kinds, operand};
 
 // A declaration's need, and the pointer of its newest name.
-#[derive(Drop)]
+#[derive(Clone, Copy)]
 pub(crate) struct Declared {
     pub need: Need,
     pub newest: usize,

@@ -9,7 +9,7 @@ pub const MOST_STEPS: u32 = 1000000;
 const STOP: u32 = MOST_STEPS + 1;
 
 // How far each size rises over what lies there already, how many steps are made, and how many with both commands of every Cond counted.
-#[derive(Drop)]
+#[derive(Clone, Copy)]
 pub struct Need {
     pub control: u32,
     pub values: u32,

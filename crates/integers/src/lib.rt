@@ -15,7 +15,7 @@ const ZERO_DIVISOR: u64 = 31;
 const OUT_OF_RANGE: u64 = 32;
 
 // What an arithmetic mark comes to: the word of an integer, or the number of the reason for which its step is withheld.
-#[derive(Drop)]
+#[derive(Clone, Copy)]
 pub enum Computed {
     Number(u64),
     Failed(u64),

@@ -13,7 +13,7 @@ use integers::{Computed, difference, less, product, quotient, sum};
 use reader::kinds;
 
 // The two ends of a result; or none, where one leaves the integers or a divisor may be 0.
-#[derive(Drop)]
+#[derive(Clone, Copy)]
 pub(crate) enum Span {
     Ends(u64, u64),
     Open,

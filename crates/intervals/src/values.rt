@@ -10,7 +10,7 @@ pub const LOCATION: u64 = 1;
 
 pub const TRUTHS: u64 = 2;
 
-#[derive(Drop)]
+#[derive(Clone, Copy)]
 pub struct Value {
     pub sort: u64,
     pub low: u64,
@@ -18,7 +18,7 @@ pub struct Value {
 }
 
 // What carrying an expression comes to: a value, or the node at which an end leaves the integers or a divisor's range holds 0.
-#[derive(Drop)]
+#[derive(Clone, Copy)]
 pub enum Expressed {
     Is(Value),
     Unsafe(usize),

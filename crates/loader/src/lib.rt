@@ -15,7 +15,7 @@ pub const WORK_WORDS: usize = 8192;
 
 // What an image is found to be: the number of what its root is (a code, or the checker's COMMAND), its count of registers and its count of
 // nodes; or a refusal with its place.
-#[derive(Drop)]
+#[derive(Clone, Copy)]
 pub enum Loaded {
     Passed(usize, usize, usize),
     Refused(u64, usize),

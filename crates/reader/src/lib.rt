@@ -22,14 +22,14 @@ pub const MOST_REGISTERS: usize = 16;
 pub const NAMES: usize = 1 << tables::NAME_BITS;
 
 // What reading a node and its descendants comes to: the first node after them, or a refusal with its place.
-#[derive(Drop)]
+#[derive(Clone, Copy)]
 pub enum Scanned {
     Next(usize),
     Refused(u64, usize),
 }
 
 // The shape of an image: its nodes and its registers, or a refusal with its place.
-#[derive(Drop)]
+#[derive(Clone, Copy)]
 pub enum Shape {
     Image(usize, usize),
     Refused(u64, usize),

@@ -12,7 +12,7 @@ use reader::kinds;
 pub const CODES: usize = 8;
 
 // A judgement: what was asked for, or a fault with its place.
-#[derive(Drop)]
+#[derive(Clone, Copy)]
 pub enum Answer {
     Is(usize),
     Fault(u64, usize),

@@ -24,7 +24,7 @@ const LINK_FACTOR: usize = NAMES * MEANING_NUMBERS;
 pub const FUNCTION: usize = 8;
 
 // What a look-up finds: the number of the meaning, a type code or FUNCTION, and the pointer; or nothing.
-#[derive(Drop)]
+#[derive(Clone, Copy)]
 pub enum Found {
     Bound(usize, usize),
     Nothing,

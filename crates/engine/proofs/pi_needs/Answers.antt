@@ -1,4 +1,4 @@
--- The answer of `rules` in eight numbers.
+-- The answer of `needs` in eight numbers.
 use Rattle.engine.proofs.NeedsNumbers.{replies_figures, replies_open, replies_refused}
 use Rattle.engine.proofs.pi_needs.Goals as goal
 

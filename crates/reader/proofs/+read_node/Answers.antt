@@ -1,7 +1,5 @@
 -- The proof of `read_node`: it answers what the reader of Scan.antt reads. The measure is the levels that are left. The loop over the
 -- children keeps what was read so far (SiblingLaws.antt), and its measure is how many are left.
--- In a need's answer, `start` is where the function begins; `row`, `fault`, `count`, `sort` and `child` are where the calls of row,
--- node_fault, child_count, child_sort and read_node have returned, `loop` where the loop's test is reached.
 use Prim.Native.Nat.{◌+◌}
 use native.Mathlib.Omega.{arith}
 use mathlib.Core.Path.{refl, sym, ◌∙◌, subst}

@@ -1,6 +1,4 @@
--- `read_image` answers what the rules' reader reads of the image. In a need's answer, `start` is where the function begins, `long` the test
--- for two words, `size` the test of the image's length, `some` the test for a node, `root` the call of read_node, `arm` the arm of the match.
--- Behind the second test n and r fit.
+-- `read_image` answers what the rules' reader reads of the image. Behind the second test n and r fit.
 use Prim.Native.Nat.{◌≤◌}
 use mathlib.Core.Path.{◌≡◌, sym, ◌∙◌}
 use mathlib.Core.Bool.{true}

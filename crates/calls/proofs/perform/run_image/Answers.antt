@@ -1,4 +1,4 @@
--- perform: the image, then 20, then the run.
+-- run_image: the image, then 20, then the run.
 use native.Mathlib.Omega.{arith}
 use Rattle.calls.proofs.OrderLaws.{found_root, found_expression, found_command, image_refused, count_refused, counted, run_performed}
 use Rattle.calls.proofs.perform.run_image.Goals as goal

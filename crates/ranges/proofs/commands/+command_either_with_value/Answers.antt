@@ -1,6 +1,5 @@
--- What the proof of `command` needs: its parts by the kind of its node, and what it leaves from what they leave.
--- What the proof of `either` needs: both commands of a Cond, each from the cells before it.
--- What the proof of `with_value` needs: an Assign's cell, or the command that a Cond takes.
+-- The answers of the cycle {command, either, with_value}. A command has its parts by the kind of its node, and leaves what follows from what
+-- they leave; `either` carries both commands of a Cond, each from the cells before it; `with_value` an Assign's cell, or the command that a Cond takes.
 use Prim.Native.Nat.{◌≤◌}
 use native.Mathlib.Omega.{arith}
 use Rattle.rules.specs.paper.Limits.{most_cells}

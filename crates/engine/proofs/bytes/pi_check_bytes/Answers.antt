@@ -1,1 +1,0 @@
--- The image's words are unpacked and handed on.

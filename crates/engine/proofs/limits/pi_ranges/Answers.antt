@@ -1,1 +1,0 @@
--- The answer of `ranges` in two numbers.

@@ -1,1 +1,0 @@
--- truths: each word tells whether its truth is possible.
