@@ -1,8 +1,11 @@
 #!/usr/bin/env python3
 """Brings the repository's own names to one spelling: words in snake case, types in upper camel case.
 
-usage: python3 tools/respell.py            at the top of the repository; writes the files in place
-       python3 tools/respell.py --list     prints each name and what it becomes, and names that would fall together
+usage: tools/respell.py            at the top of the repository; writes the files in place
+       tools/respell.py --list     prints each name and what it becomes, and names that would fall together
+
+It served once, for the move to today's Rattle (docs/PORT.md), and knows files Proof.antt of the older form, not Answers.antt: on
+today's crates it would turn goals' names too.
 
 A name is the repository's own where a file of specs/ or proofs/ declares or binds it. Names of the library, names of
 src/ and names that the check makes for a function's proof (the files Proof.antt declare those) stay as they are.
@@ -124,7 +127,16 @@ def imported(text):
 
 
 def main():
+    if sys.argv[1:] in (["-h"], ["--help"]):
+        print(__doc__.strip())
+        return 0
+    if sys.argv[1:] not in ([], ["--list"]):
+        print("tools/respell.py: one option, --list, or none; see --help", file=sys.stderr)
+        return 2
     top = "."
+    if next(files(top, "Answers.antt"), None) is not None and os.path.exists(os.path.join(top, "docs/PORT.md")):
+        print("tools/respell.py: the crates are in today's form already; see --help", file=sys.stderr)
+        return 2
     listing = "--list" in sys.argv
     texts = {p: read(p) for p in files(top, ".antt", ".rt")}
     own, fields = set(), set()

@@ -23,7 +23,8 @@ abbrev pub is_interruption_kind : ErrorKind → Bool
 is_interruption_kind Interrupted = true
 is_interruption_kind _ = false
 
--- Whether an error is an interruption. One of the system is where its number is that of an interruption (`interruption_by_number`).
+-- Whether an error is an interruption. One with the kind that std gives a number is where that number is an interruption's
+-- (`interruption_by_number`).
 abbrev pub is_interruption : Error → Bool
 is_interruption error = is_interruption_kind (error_kind error)
 

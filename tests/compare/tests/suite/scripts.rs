@@ -4,12 +4,14 @@
 use std::path::{Path, PathBuf};
 use std::process::{Command, Stdio};
 
-const SCRIPTS: [&str; 6] = [
+const SCRIPTS: [&str; 8] = [
     ".ci/run",
     "bench/placements.sh",
     "examples/run.sh",
     "tests/cases/run.sh",
     "tests/host/run.sh",
+    "tools/build.sh",
+    "tools/respell.py",
     "tools/whole.sh",
 ];
 
