@@ -1,19 +1,19 @@
 -- The fewest digits that hold a number are its decimal digits, and a word's integer has those of its magnitude.
-use Prim.Native.Nat.{ℕ, zero, suc, ◌+◌, ◌-◌, ◌*◌, ◌/◌, ◌%◌, ◌^◌, ◌<◌, ◌≤◌}
-use mathlib.Core.Path.{◌≡◌, sym, ap, ◌∙◌, subst}
+use Prim.Native.Nat.{ℕ, zero, suc, ◌-◌, ◌*◌, ◌/◌, ◌%◌, ◌^◌, ◌<◌, ◌≤◌}
+use mathlib.Core.Path.{◌≡◌, refl, sym, ap, ◌∙◌, subst}
 use mathlib.Core.List.{List, [], ◌∷◌, ◌++◌}
 use native.Mathlib.Omega.{arith}
 use native.Mathlib.Nat.{pow-suc, pow-le-pow_right, mod-lt, mod-eq_of_lt, le-div_iff_mul-le, div-lt_iff_lt-mul}
-use borrow.Author.Tests.{lt-ltb, le-ltb}
+use borrow.Author.Tests.{lt-ltb, le-ltb, ltb-true}
 use lib.ListN.{length, take}
 use Rattle.answer.specs.Sizes.{number_bytes, integer_bytes}
 use Rattle.io.specs.Digits.{hex_digit_ascii, last_digits, IsDigitCount}
-use Rattle.integers.specs.Words.{integer_of}
-use Rattle.integers.specs.WordLaws.{integer_low, integer_high}
+use Rattle.std.specs.Prelude.{ℤ, pos, negsuc, int_lt, unsigned_abs, true, false}
+use Rattle.std.proofs.lemmas.Bool.{false≢true}
 use Rattle.rules.proofs.Basics.{by_order}
-use Rattle.rules.specs.paper.Decimal.{ascii, digit, digits_within, decimal, integer}
-use Rattle.answer.specs.Writing.{Put, PutWithin}
-use Rattle.answer.proofs.PutLaws.{within, within_then, within_as}
+use Rattle.rules.specs.paper.Decimal.{digit, digits_within, decimal, integer}
+use Rattle.answer.specs.Adding.{Adds}
+use Rattle.answer.proofs.PutLaws.{adds_then, adds_as}
 
 glyph_digit : (d : ℕ) → d < 10 → digit d ≡ hex_digit_ascii d
 glyph_digit d h = rw (lt-ltb d 10 h)
@@ -75,20 +75,16 @@ few_digits n k small few = by_order number_bytes k (λ more. absurd (many more))
 
 -- ---- A number, and an integer.
 
-pub number_put : (before after digits_now : List ℕ) (at next n k : ℕ) → n < 18446744073709551616 → k ≡ length (take k digits_now) → IsDigitCount 10 1 n k → take k digits_now ≡ last_digits 10 k n →
-    Put before at (take k digits_now) next after → PutWithin number_bytes before at (decimal n) next after
-number_put before after digits_now at next n k small count fewest same p =
-    within_as number_bytes (same ∙ digits_are n k fewest) (few_digits n k small fewest) (within k p (omega (arith, count)))
+pub number_put : (before after digits_now : List ℕ) (n k : ℕ) → n < 18446744073709551616 → k ≡ length (take k digits_now) → IsDigitCount 10 1 n k → take k digits_now ≡ last_digits 10 k n →
+    Adds (length (take k digits_now)) before (take k digits_now) after → Adds number_bytes before (decimal n) after
+number_put before after digits_now n k small count fewest same p = adds_as number_bytes (same ∙ digits_are n k fewest) (omega (arith, few_digits n k small fewest, count)) p
 
-pub integer_put : (before after : List ℕ) (at next w : ℕ) → w < 9223372036854775808 → PutWithin number_bytes before at (decimal w) next after → PutWithin integer_bytes before at (integer (integer_of w)) next after
+pub integer_put : {before after : List ℕ} (z : ℤ) → false ≡ int_lt z (pos 0) → Adds number_bytes before (decimal (unsigned_abs z)) after → Adds integer_bytes before (integer z) after
 unfolding integer
-integer_put before after at next w low p = within_as integer_bytes (ap integer (sym (integer_low w low))) (omega arith) p
+integer_put (pos n) sign p = adds_as integer_bytes refl (omega arith) p
+integer_put (negsuc n) sign p = absurd (false≢true sign)
 
-pub minus_put : (before middle after : List ℕ) (at next last w : ℕ) → 9223372036854775808 ≤ w → Put before at (45 ∷ []) next middle →
-    PutWithin number_bytes middle next (decimal (18446744073709551615 - w + 1)) last after → PutWithin integer_bytes before at (integer (integer_of w)) last after
+pub minus_put : {before middle after : List ℕ} (z : ℤ) → true ≡ int_lt z (pos 0) → Adds 1 before (45 ∷ []) middle → Adds number_bytes middle (decimal (unsigned_abs z)) after → Adds integer_bytes before (integer z) after
 unfolding integer
-minus_put before middle after at next last w high p q =
-    within_as integer_bytes (ap (λ n. ascii "-" ++ decimal n) (one_more (18446744073709551615 - w)) ∙ ap integer (sym (integer_high w high))) (omega arith) (within_then (within 1 p (omega arith)) q)
-  where
-    one_more : (n : ℕ) → n + 1 ≡ suc n
-    one_more n = omega arith
+minus_put (pos n) sign p q = absurd (omega (arith, ltb-true n 0 (sym sign)))
+minus_put (negsuc n) sign p q = adds_as integer_bytes refl (omega arith) (adds_then p q)

@@ -1,80 +1,78 @@
 -- The lines of an answer, put together from their texts.
 use Prim.Native.Nat.{ℕ, suc, ◌+◌, ◌*◌, ◌<◌, ◌≤◌}
 use mathlib.Core.Path.{◌≡◌, refl, sym, ap, ◌∙◌}
-use mathlib.Core.Bool.{true, false, cond}
+use mathlib.Core.Bool.{Bool, true, false, cond}
 use mathlib.Core.List.{List, [], ◌∷◌, ◌++◌, append-nil, append_assoc}
 use native.Mathlib.Omega.{arith}
 use native.Mathlib.Nat.{add-zero, zero-add}
 use lib.IntN.{ℤ}
 use lib.ListN.{length, take, get_or}
-use lib.Seq.{take-suc, take-length, length-take-le}
-use Rattle.rules.specs.paper.Limits.{most_registers}
-use Rattle.answer.specs.Sizes.{outcome_bytes, steps_bytes, marks_bytes, register_line_bytes, register_lines_bytes, answer_bytes}
+use lib.Seq.{take-suc, length-take-le}
+use Rattle.answer.specs.Sizes.{outcome_bytes, steps_bytes, marks_bytes, register_line_bytes, register_lines_bytes}
 use Rattle.integers.specs.Words.{integer_of, integers_of}
 use Rattle.integers.specs.WordLaws.{integers_length}
-use Rattle.rules.specs.paper.HighMarks.{no_high_marks}
-use Rattle.automaton.specs.Runs.{marks_of}
+use Rattle.rules.specs.paper.Refusals.{refusal_number}
+use Rattle.rules.specs.declared.refusals.Refused.{Refused}
+use Rattle.rules.specs.claims.Listing.{truth_word}
 use Rattle.automaton.specs.declared.meter.HighMarks.{HighMarks}
-use Rattle.calls.specs.Claim.{marks_in}
 use Rattle.calls.specs.declared.Ran.{Ran}
-use Rattle.calls.specs.declared.Ran.TheVariants.{Number, Truth, Location, Nothing, Refused}
+use Rattle.calls.specs.declared.Outcome.TheVariants.{Number, Truth, Location, Nothing}
+use Rattle.std.specs.Prelude.{Ok, Err}
 use Rattle.rules.specs.paper.Decimal.{ascii, decimal, integer}
 use Rattle.answer.specs.Program.{line, spaced, register_text, register_lines}
-use Rattle.answer.specs.Writing.{Put, PutWithin, ran_text, ran_steps, ran_shows, marks_text, ran_answer, refusal_answer}
-use Rattle.answer.proofs.PutLaws.{within, within_then, within_as}
+use Rattle.answer.specs.Adding.{Adds}
+use Rattle.answer.specs.Writing.{refused_text, ran_text, ran_shows, marks_text, ran_answer}
+use Rattle.answer.proofs.PutLaws.{adds_then, adds_as}
 
 -- ---- The outcome.
 
-module _ (before after : List ℕ) (answer : Ran) (last : ℕ) where
-  pub number_text : (w k : ℕ) (h : HighMarks) → answer ≡ Number w k h → PutWithin 28 before 0 (ascii "number " ++ integer (integer_of w)) last after → PutWithin outcome_bytes before 0 (ran_text answer) last after
+module _ {before after : List ℕ} where
+  pub number_text : (w : ℕ) → Adds 28 before (ascii "number " ++ integer (integer_of w)) after → Adds outcome_bytes before (ran_text (Ok (Number w))) after
   unfolding ran_text
-  number_text w k h e p = within_as outcome_bytes (sym (ap ran_text e)) (omega arith) p
+  number_text w p = adds_as outcome_bytes refl (omega arith) p
 
-  pub truth_text : (w k : ℕ) (h : HighMarks) → answer ≡ Truth w k h → PutWithin 26 before 0 (ascii "truth " ++ decimal w) last after → PutWithin outcome_bytes before 0 (ran_text answer) last after
+  pub truth_text : (b : Bool) → Adds 26 before (ascii "truth " ++ decimal (truth_word b)) after → Adds outcome_bytes before (ran_text (Ok (Truth b))) after
   unfolding ran_text
-  truth_text w k h e p = within_as outcome_bytes (sym (ap ran_text e)) (omega arith) p
+  truth_text b p = adds_as outcome_bytes refl (omega arith) p
 
-  pub cell_text : (w k : ℕ) (h : HighMarks) → answer ≡ Location w k h → PutWithin 25 before 0 (ascii "cell " ++ decimal w) last after → PutWithin outcome_bytes before 0 (ran_text answer) last after
+  pub cell_text : (l : ℕ) → Adds 25 before (ascii "cell " ++ decimal l) after → Adds outcome_bytes before (ran_text (Ok (Location l))) after
   unfolding ran_text
-  cell_text w k h e p = within_as outcome_bytes (sym (ap ran_text e)) (omega arith) p
+  cell_text l p = adds_as outcome_bytes refl (omega arith) p
 
-  pub none_text : (k : ℕ) (h : HighMarks) → answer ≡ Nothing k h → Put before 0 (ascii "none") last after → PutWithin outcome_bytes before 0 (ran_text answer) last after
+  pub none_text : Adds 4 before (ascii "none") after → Adds outcome_bytes before (ran_text (Ok Nothing)) after
   unfolding ran_text
-  none_text k h e p = within_as outcome_bytes (sym (ap ran_text e)) (omega arith) (within 4 p (omega arith))
+  none_text p = adds_as outcome_bytes refl (omega arith) p
 
-  pub refused_text : (middle : List ℕ) (next x p k : ℕ) (h : HighMarks) → answer ≡ Refused x p k h → PutWithin 28 before 0 (ascii "refused " ++ decimal x) next middle →
-      PutWithin 24 middle next (ascii " at " ++ decimal p) last after → PutWithin outcome_bytes before 0 (ran_text answer) last after
+  pub refusal_text : (r : Refused) → Adds outcome_bytes before (refused_text r) after → Adds outcome_bytes before (ran_text (Err r)) after
   unfolding ran_text
-  refused_text middle next x p k h e f g =
-      within_as outcome_bytes (sym (append_assoc (ascii "refused " ++ decimal x) (ascii " at ") (decimal p)) ∙ sym (ap ran_text e)) (omega arith) (within_then f g)
+  refusal_text r p = p
 
--- ---- The steps, the marks, and a register.
+  pub refused_parts : (r : Refused) {middle : List ℕ} → Adds 28 before (ascii "refused " ++ decimal (refusal_number r.refusal)) middle → Adds 24 middle (ascii " at " ++ decimal r.place) after →
+      Adds outcome_bytes before (refused_text r) after
+  unfolding refused_text
+  refused_parts r f g =
+      adds_as outcome_bytes (sym (append_assoc (ascii "refused " ++ decimal (refusal_number r.refusal)) (ascii " at ") (decimal r.place))) (omega arith) (adds_then f g)
 
-pub steps_lines : (before middle after : List ℕ) (at next last n : ℕ) → PutWithin 27 before at (ascii "\nsteps " ++ decimal n) next middle → Put middle next (ascii "\n") last after →
-    PutWithin steps_bytes before at (ascii "\n" ++ line (ascii "steps " ++ decimal n)) last after
-steps_lines before middle after at next last n p q = within_then p (within 1 q (omega arith))
+-- ---- The marks, and a register.
 
-pub marks_line : (before second third fourth fifth after : List ℕ) (at a b c d last : ℕ) (h : HighMarks) → PutWithin 25 before at (ascii "most " ++ decimal h.cells) a second →
-    PutWithin 21 second a (spaced h.bindings) b third → PutWithin 21 third b (spaced h.values) c fourth → PutWithin 21 fourth c (spaced h.control) d fifth → Put fifth d (ascii "\n") last after →
-    PutWithin marks_bytes before at (line (marks_text h)) last after
-unfolding marks_text
-marks_line before second third fourth fifth after at a b c d last h p q r s t = within_as marks_bytes refl (omega arith) (within_then (within_then (within_then (within_then p q) r) s) (within 1 t (omega arith)))
+module _ {before after : List ℕ} where
+  pub marks_line : {second third fourth fifth : List ℕ} (h : HighMarks) → Adds 25 before (ascii "most " ++ decimal h.cells) second → Adds 21 second (spaced h.bindings) third → Adds 21 third (spaced h.values) fourth →
+      Adds 21 fourth (spaced h.control) fifth → Adds 1 fifth (ascii "\n") after → Adds marks_bytes before (line (marks_text h)) after
+  unfolding marks_text
+  marks_line h p q r s t = adds_as marks_bytes refl (omega arith) (adds_then (adds_then (adds_then (adds_then p q) r) s) t)
 
-pub register_line : (before second third after : List ℕ) (at a b last i w : ℕ) → PutWithin 29 before at (ascii "register " ++ decimal i) a second →
-    PutWithin 22 second a (ascii " " ++ integer (integer_of w)) b third → Put third b (ascii "\n") last after →
-    PutWithin register_line_bytes before at (line (register_text i (integer_of w))) last after
-unfolding register_text
-register_line before second third after at a b last i w p q r =
-    within_as register_line_bytes (ap line (sym (append_assoc (ascii "register " ++ decimal i) (ascii " ") (integer (integer_of w))))) (omega arith)
-    (within_then (within_then p q) (within 1 r (omega arith)))
+  pub register_line : {second third : List ℕ} (i w : ℕ) → Adds 29 before (ascii "register " ++ decimal i) second → Adds 22 second (ascii " " ++ integer (integer_of w)) third → Adds 1 third (ascii "\n") after →
+      Adds register_line_bytes before (line (register_text i (integer_of w))) after
+  unfolding register_text
+  register_line i w p q r =
+      adds_as register_line_bytes (ap line (sym (append_assoc (ascii "register " ++ decimal i) (ascii " ") (integer (integer_of w))))) (omega arith) (adds_then (adds_then p q) r)
 
 -- ---- The registers, one by one.
 
--- The lines of the first i registers stand in the output.
-pub record Lined (before : List ℕ) (at : ℕ) (registers : List ℕ) (i next : ℕ) (after : List ℕ) : Type 0 where
+-- The lines of the first i registers are written.
+pub record Lined (before registers : List ℕ) (i : ℕ) (after : List ℕ) : Type 0 where
   pub some : i ≤ length registers
-  pub put : PutWithin (register_line_bytes * i) before at (register_lines 0 (integers_of (take i registers))) next after
-  pub same_length : length after ≡ length before
+  pub lines : Adds (register_line_bytes * i) before (register_lines 0 (integers_of (take i registers))) after
 
 one_more_integer : (ws : List ℕ) (w : ℕ) → integers_of (ws ++ (w ∷ [])) ≡ integers_of ws ++ (integer_of w ∷ [])
 unfolding integers_of
@@ -106,57 +104,29 @@ next_lines registers i h =
     counted : 0 + length (integers_of (take i registers)) ≡ i
     counted = zero-add (length (integers_of (take i registers))) ∙ integers_length (take i registers) ∙ length-take-le i registers (omega (arith, h))
 
-pub lined_none : (before registers : List ℕ) (at : ℕ) → Lined before at registers 0 at before
+pub lined_none : (before registers : List ℕ) → Lined before registers 0 before
 unfolding register_lines integers_of
-lined_none before registers at =
-    record { some = omega arith; put = record { put = record { next_is = omega arith; written = sym (append-nil (take at before)) }; short = omega arith }; same_length = refl }
+lined_none before registers = record { some = omega arith; lines = record { added = sym (append-nil before); short = omega arith } }
 
-pub lined_next : (before registers middle after : List ℕ) (at i next last : ℕ) → Lined before at registers i next middle → i < length registers →
-    PutWithin register_line_bytes middle next (line (register_text i (integer_of (get_or registers i 0)))) last after → length after ≡ length middle → Lined before at registers (i + 1) last after
-lined_next before registers middle after at i next last l h p q =
-    record {
-      some = omega (arith, h);
-      put = within_as (register_line_bytes * (i + 1)) (next_lines registers i h) (omega arith) (within_then l.put p);
-      same_length = q ∙ l.same_length;
-    }
-
-pub lined_all : (before registers after : List ℕ) (at i next : ℕ) → length registers ≤ most_registers → Lined before at registers i next after → length registers ≤ i →
-    PutWithin register_lines_bytes before at (register_lines 0 (integers_of registers)) next after
-lined_all before registers after at i next few l h =
-    within_as register_lines_bytes (ap (λ l. register_lines 0 (integers_of l)) (ap (λ k. take k registers) (same i (length registers) l.some h) ∙ take-length registers)) (omega (arith, few, l.some)) l.put
-  where
-    same : (i n : ℕ) → i ≤ n → n ≤ i → i ≡ n
-    same i n a b = omega arith
+pub lined_next : (before registers : List ℕ) {middle after : List ℕ} (i : ℕ) → Lined before registers i middle → i < length registers →
+    Adds register_line_bytes middle (line (register_text i (integer_of (get_or registers i 0)))) after → Lined before registers (i + 1) after
+lined_next before registers i l h p = record { some = omega (arith, h); lines = adds_as (register_line_bytes * (i + 1)) (next_lines registers i h) (omega arith) (adds_then l.lines p) }
 
 -- ---- The whole answer.
 
-module _ (before second third fourth : List ℕ) (answer : Ran) (a b c steps : ℕ) (marks : HighMarks) (outcome : PutWithin outcome_bytes before 0 (ran_text answer) a second)
-    (counted : PutWithin steps_bytes second a (ascii "\n" ++ line (ascii "steps " ++ decimal steps)) b third) (marked : PutWithin marks_bytes third b (line (marks_text marks)) c fourth) where
-  abbrev texts : (steps : ℕ) → HighMarks → List ℕ
-  texts k h = line (ran_text answer) ++ line (ascii "steps " ++ decimal k) ++ line (marks_text h)
+module _ {second third fourth : List ℕ} (answer : Ran) (outcome : Adds outcome_bytes [] (ran_text answer.outcome) second) (counted : Adds steps_bytes second (ascii "\n" ++ line (ascii "steps " ++ decimal answer.steps)) third)
+    (marked : Adds marks_bytes third (line (marks_text answer.marks)) fourth) where
+  abbrev texts : List ℕ
+  texts = line (ran_text answer.outcome) ++ line (ascii "steps " ++ decimal answer.steps) ++ line (marks_text answer.marks)
 
-  three_lines : PutWithin 169 before 0 (texts steps marks) c fourth
+  three_lines : fourth ≡ texts
   three_lines =
-      within_then (within_as 80 (sym (append_assoc (ran_text answer) (ascii "\n") (line (ascii "steps " ++ decimal steps)))) (omega arith) (within_then outcome counted)) marked
+      (adds_then (adds_as 80 (sym (append_assoc (ran_text answer.outcome) (ascii "\n") (line (ascii "steps " ++ decimal answer.steps)))) (omega arith) (adds_then outcome counted)) marked).added
 
-  pub answer_with_registers : (after : List ℕ) (last : ℕ) (zs : List ℤ) → steps ≡ ran_steps answer → marks ≡ marks_in answer → ran_shows answer ≡ true → PutWithin register_lines_bytes fourth c (register_lines 0 zs) last after →
-      PutWithin answer_bytes before 0 (ran_answer answer zs) last after
+  pub answer_with_registers : {after : List ℕ} (zs : List ℤ) → true ≡ ran_shows answer.outcome → Adds register_lines_bytes fourth (register_lines 0 zs) after → after ≡ ran_answer answer zs
   unfolding ran_answer
-  answer_with_registers after last zs e m shows p =
-      within_as answer_bytes ((λ i. texts (e i) (m i) ++ register_lines 0 zs) ∙ ap (λ t. texts (ran_steps answer) (marks_in answer) ++ cond t (register_lines 0 zs) []) (sym shows)) (omega arith) (within_then three_lines p)
+  answer_with_registers zs shows p = p.added ∙ ap (λ l. l ++ register_lines 0 zs) three_lines ∙ ap (λ t. texts ++ cond t (register_lines 0 zs) []) shows
 
-  pub answer_without : (zs : List ℤ) → steps ≡ ran_steps answer → marks ≡ marks_in answer → ran_shows answer ≡ false → PutWithin answer_bytes before 0 (ran_answer answer zs) c fourth
+  pub answer_without : (zs : List ℤ) → false ≡ ran_shows answer.outcome → fourth ≡ ran_answer answer zs
   unfolding ran_answer
-  answer_without zs e m shows =
-      within_as answer_bytes
-      ((λ i. texts (e i) (m i)) ∙
-      sym (append-nil (texts (ran_steps answer) (marks_in answer))) ∙
-      ap (λ t. texts (ran_steps answer) (marks_in answer) ++ cond t (register_lines 0 zs) []) (sym shows))
-      (omega arith) three_lines
-
-pub refused_answer : (before second third after : List ℕ) (a b last x : ℕ) (none : HighMarks) → none ≡ marks_of no_high_marks → PutWithin outcome_bytes before 0 (ran_text (Refused x 0 0 none)) a second →
-    PutWithin steps_bytes second a (ascii "\n" ++ line (ascii "steps " ++ decimal 0)) b third → PutWithin marks_bytes third b (line (marks_text none)) last after → PutWithin answer_bytes before 0 (refusal_answer x) last after
-unfolding refusal_answer
-refused_answer before second third after a b last x none e p q r =
-    within_as answer_bytes (λ i. line (ran_text (Refused x 0 0 (e i))) ++ line (ascii "steps " ++ decimal 0) ++ line (marks_text (e i))) (omega arith)
-    (three_lines before second third after (Refused x 0 0 none) a b last 0 none p q r)
+  answer_without zs shows = three_lines ∙ sym (append-nil texts) ∙ ap (λ t. texts ++ cond t (register_lines 0 zs) []) shows

@@ -8,11 +8,12 @@ use borrow.Author.Tests.{eqb-true}
 use lib.Dec.{T, eqb, leb, ltb}
 use lib.IntN.{ℤ}
 use lib.ListN.{length}
-use Rattle.rules.specs.paper.Refusals as Refusals
+use Rattle.rules.specs.declared.refusals.Refusal.{Refusal}
+use Rattle.rules.specs.declared.refusals.Refusal.TheVariants as Refusals
 use Rattle.rules.specs.paper.Limits.{most_budget, work_words}
 use Rattle.rules.specs.paper.Integers.{in_range}
 use Rattle.rules.specs.paper.Tree.{Root}
-use Rattle.rules.specs.paper.Checker.{Passed}
+use Rattle.rules.specs.declared.kinds.Passed.{Passed}
 use Rattle.rules.specs.paper.States.{integer, truth, location, value, closure, Entry, bindable, name, node, environment, locations, Store, find, State, values_of, store_of}
 use Rattle.rules.specs.paper.Run.{Ending, ended, stopped, lost, run}
 use Rattle.rules.specs.paper.HighMarks.{high_marks}
@@ -70,7 +71,7 @@ left_ranged (locations L ∷ X) h = tt
 -- ---- A call.
 
 module _ (image : List ℕ) (zs : List ℤ) (ranged : AllInRange zs) (budget : ℕ) where
-  kept : (x : Refusals.Refusal) (p : ℕ) (ws : List ℕ) → Ranged (refusing x p zs ws)
+  kept : (x : Refusal) (p : ℕ) (ws : List ℕ) → Ranged (refusing x p zs ws)
   kept x p ws = record { answer = tt; registers = ranged }
 
   run_ranged : (ws : List ℕ) (r : ℕ) (t : Root) (a : Passed) → check_image image ≡ passed r t a → length zs ≡ r → Ranged (finish r ws (high_marks budget (start r t zs)) (run budget 0 (start r t zs)))

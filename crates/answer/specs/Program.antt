@@ -1,6 +1,7 @@
 -- The program as one function (paper, "The program and its cases"): from the bytes of standard input to the bytes of standard output.
 use Rattle.std.specs.Prelude.{ℕ, suc, ◌+◌, ◌*◌, Bool, true, cond, List, [], ◌∷◌, ◌++◌, eqb, ltb, ℤ, length, take, drop, replicate}
-use Rattle.rules.specs.paper.Refusals.{Length, Size, refusal_number}
+use Rattle.rules.specs.paper.Refusals.{refusal_number}
+use Rattle.rules.specs.declared.refusals.Refusal.TheVariants.{Length, Size}
 use Rattle.rules.specs.paper.Limits.{most_budget, work_words}
 use Rattle.rules.specs.claims.Listing.{truth_word}
 use Rattle.rules.specs.paper.Reader.{size_fits}

@@ -2,7 +2,8 @@
 -- lines there must be (`Whole`).
 use Rattle.std.specs.Prelude.{ℕ, zero, suc, ◌+◌, ◌*◌, ◌≡◌, refl, Bool, true, false, cond, List, [], T, eqb, leb, ltb, ℤ, length, take, drop, replicate}
 use Rattle.std.proofs.Common.{sym, ap, ◌∙◌, subst, eqb-true}
-use Rattle.rules.specs.paper.Refusals as Refusals
+use Rattle.rules.specs.paper.Refusals.{refusal_number}
+use Rattle.rules.specs.declared.refusals.Refusal.TheVariants as Refusals
 use Rattle.rules.specs.paper.Limits.{most_budget, work_words}
 use Rattle.rules.specs.paper.Reader.{size_fits}
 use Rattle.rules.specs.paper.Run.{Ending, ended, stopped, lost, run}
@@ -55,11 +56,11 @@ input_shows n r input =
 
 -- A refusal of the image shows none.
 length_shows : (r : ℕ) → ShowsAll r (refusing Refusals.Length 0 [] [])
-unfolding Refusals.refusal_number
+unfolding refusal_number
 length_shows r = record { as_many = λ t. absurd (subst T (sym t) tt) }
 
 size_shows : (r : ℕ) → ShowsAll r (refusing Refusals.Size 0 [] [])
-unfolding Refusals.refusal_number
+unfolding refusal_number
 size_shows r = record { as_many = λ t. absurd (subst T (sym t) tt) }
 
 pub registers_shown : (input : List ℕ) → ShowsAll (little_endian (take 4 (drop 4 input))) (call_input input)

@@ -7,19 +7,21 @@ mod text;
 
 ghost use Rattle.std.specs.Prelude.{◌≡◌, ◌+◌, ◌*◌, ◌≤◌, length, take, drop};
 ghost use Rattle.rules.specs.paper.Limits.{most_nodes, most_registers, most_budget};
-ghost use Rattle.answer.specs.Sizes.{answer_bytes};
 ghost use Rattle.io.specs.Counts.{IsPrefixLen};
 ghost use Rattle.little_endian.specs.Numbers.{numbers};
 ghost use Rattle.calls.specs.Runs.{run_call};
 ghost use Rattle.answer.specs.Program.{answer_text, input_bytes, run_numbers, run_input, program};
-ghost use Rattle.answer.specs.Writing.{PutWithin};
+ghost use Rattle.answer.specs.Writing.{refusal_answer};
 
-use crate::input::{Counted, count_input};
-use crate::lines::{put_answer, put_refusal};
-use calls::{MOST_BUDGET, MOST_IMAGE_WORDS, run};
+use crate::input::{Counts, count_input};
+use crate::lines::answer_text;
+use crate::text::Text;
+use automaton::meter::no_marks;
+use calls::{MOST_BUDGET, MOST_IMAGE_WORDS, Ran, run};
 use little_endian::{unpack_values, unpack_words};
 use loader::WORK_WORDS;
 use reader::{MOST_NODES, MOST_REGISTERS};
+use rules::refusals::{Refusal, Refused};
 
 // The largest input: an image of the most nodes, 8 bytes for n and r and 8 a node, and 8 bytes for each of the most registers.
 pub const MOST_INPUT_BYTES: usize = 8 + 8 * MOST_NODES + 8 * MOST_REGISTERS;
@@ -37,52 +39,55 @@ fn unpack_input(input: &[u8], image: &mut [u32], registers: &mut [u64])
     unpack_values(input, 4 * image.len(), registers);
 }
 
-// The run is made, and its answer is written.
-fn answer_run(image: &[u32], registers: &mut [u64], work: &mut [u64], output: &mut [u8]) -> usize
-    requires registers_len_bound { length registers.old ≤ most_registers }
-    requires answer_bytes_in_bounds { answer_bytes ≤ length output.old }
-    ensures { PutWithin answer_bytes output.old 0 (answer_text (run_call image.now registers.old most_budget work.old)) result output.new }
+// The run is made: the text of its answer.
+fn answer_run(image: &[u32], registers: &mut [u64], work: &mut [u64]) -> Text
+    requires { length registers.old ≤ most_registers }
+    ensures { result ≡ answer_text (run_call image.now registers.old most_budget work.old) }
 {
     let answer = run(image, registers, MOST_BUDGET, work);
-    put_answer(output, answer, registers)
+    answer_text(answer, registers)
 }
 
 // The image and the starting values are taken from the input and run.
-fn answer_input(
-    input: &[u8],
-    image: &mut [u32],
-    registers: &mut [u64],
-    work: &mut [u64],
-    output: &mut [u8],
-) -> usize
-    requires registers_in_bounds { 4 * length image.old + 8 * length registers.old ≤ length input.now }
-    requires registers_len_bound { length registers.old ≤ most_registers }
-    requires answer_bytes_in_bounds { answer_bytes ≤ length output.old }
-    ensures { PutWithin answer_bytes output.old 0 (answer_text (run_numbers (length image.old) (length registers.old) input.now work.old)) result output.new }
+fn answer_input(input: &[u8], image: &mut [u32], registers: &mut [u64], work: &mut [u64]) -> Text
+    requires in_bounds { 4 * length image.old + 8 * length registers.old ≤ length input.now }
+    requires few_registers { length registers.old ≤ most_registers }
+    ensures { result ≡ answer_text (run_numbers (length image.old) (length registers.old) input.now work.old) }
 {
     unpack_input(input, image, registers);
-    answer_run(image, registers, work, output)
+    answer_run(image, registers, work)
 }
 
 // An input of the right byte count. The room for the image, the registers and the work words, 80 KB, is on the stack.
-fn answer_counted(input: &[u8], nodes: usize, count: usize, output: &mut [u8]) -> usize
-    requires nodes_le_most_nodes { nodes ≤ most_nodes }
-    requires count_le_most_registers { count ≤ most_registers }
-    requires input_len { length input.now ≡ input_bytes nodes count }
-    requires answer_bytes_in_bounds { answer_bytes ≤ length output.old }
-    ensures { PutWithin answer_bytes output.old 0 (answer_text (run_input nodes count input.now)) result output.new }
+fn answer_counted(input: &[u8], counts: Counts) -> Text
+    requires few_nodes { counts.nodes ≤ most_nodes }
+    requires few_registers { counts.registers ≤ most_registers }
+    requires input_len { length input.now ≡ input_bytes counts.nodes counts.registers }
+    ensures { result ≡ answer_text (run_input counts.nodes counts.registers input.now) }
 {
     let mut image = [0u32; MOST_IMAGE_WORDS];
     let mut registers = [0u64; MOST_REGISTERS];
     let mut work = [0u64; WORK_WORDS];
-    let words = 2 + 2 * nodes;
+    let words = 2 + 2 * counts.nodes;
     answer_input(
         input,
         &mut image[..words],
-        &mut registers[..count],
+        &mut registers[..counts.registers],
         &mut work,
-        output,
     )
+}
+
+// The answer to an input that is refused before its image is read: no step is made, and there are no registers.
+fn answer_refused(refusal: Refusal) -> Text
+    ensures { result ≡ refusal_answer refusal }
+{
+    let refused = Refused { refusal, place: 0 };
+    let answer = Ran {
+        outcome: Err(refused),
+        steps: 0,
+        marks: no_marks(),
+    };
+    answer_text(answer, &[])
 }
 
 // The program: any input. The answer is the first bytes of the output, as many as are returned.
@@ -90,9 +95,9 @@ pub fn answer(input: &[u8], output: &mut [u8; ANSWER_BYTES]) -> usize
     ensures prefix_len { IsPrefixLen result output.new }
     ensures output_after { take result output.new ≡ program input.now }
 {
-    let counted = count_input(input);
-    match counted {
-        Counted::Fits(nodes, count) => answer_counted(input, nodes, count, output),
-        Counted::Refused(number) => put_refusal(output, number),
-    }
+    let text = match count_input(input) {
+        Ok(counts) => answer_counted(input, counts),
+        Err(refusal) => answer_refused(refusal),
+    };
+    text.copied_to(output)
 }

@@ -1,65 +1,98 @@
-// Texts and numbers, put into an output one after the other.
-ghost use Rattle.std.specs.Prelude.{◌++◌, ◌+◌, ◌≤◌, length};
-ghost use Rattle.answer.specs.Sizes.{number_bytes, integer_bytes};
+// The text of an answer as far as it is written: texts and numbers, one behind the other.
+ghost use Rattle.std.specs.Prelude.{◌≡◌, ◌++◌, ◌+◌, ◌≤◌, List, [], ℕ, length, take};
+ghost use Rattle.io.specs.Counts.{IsPrefixLen};
+ghost use Rattle.answer.specs.Sizes.{number_bytes, integer_bytes, answer_bytes};
 ghost use Rattle.integers.specs.Words.{integer_of};
 ghost use Rattle.rules.specs.paper.Decimal.{decimal, integer};
-ghost use Rattle.answer.specs.Writing.{Put, PutWithin};
+ghost use Rattle.answer.specs.Adding.{Adds};
 
-// 2^63: the words from here on hold the negative integers.
-const LEAST: u64 = 9223372036854775808;
+use crate::ANSWER_BYTES;
+use integers::{is_negative, magnitude};
+use std::marker::Model;
 
 // A number below 2^64 has at most 20 digits.
 const NUMBER_BYTES: usize = 20;
 
-// A text from a place on; the answer is the next place.
-pub(crate) fn put(output: &mut [u8], at: usize, text: &[u8]) -> usize
-    requires { at + length text.now ≤ length output.old }
-    ensures { Put output.old at text.now result output.new }
-{
-    let mut i = 0;
-    while i < text.len() {
-        output[at + i] = text[i];
-        i = i + 1;
+// The first bytes, as many as the length says. Contracts see the list of them.
+#[derive(Drop)]
+pub(crate) struct Text {
+    bytes: [u8; ANSWER_BYTES],
+    length: usize,
+}
+
+impl Model for Text {
+    ghost Value = { List ℕ };
+
+    ghost view = { λ t. take t.length t.bytes };
+
+    ghost invariant = { λ t. t.length ≤ answer_bytes };
+}
+
+impl Text {
+    pub(crate) fn new() -> Text
+        ensures { result ≡ [] }
+    {
+        Text {
+            bytes: [0; ANSWER_BYTES],
+            length: 0,
+        }
     }
-    at + i
-}
 
-// A number in decimal.
-pub(crate) fn put_number(output: &mut [u8], at: usize, number: u64) -> usize
-    requires { at + number_bytes ≤ length output.old }
-    ensures { PutWithin number_bytes output.old at (decimal number) result output.new }
-{
-    let mut digits = [0u8; NUMBER_BYTES];
-    let count = io::decimal(number, &mut digits);
-    put(output, at, &digits[..count])
-}
-
-// The integer that a word holds, in decimal.
-pub(crate) fn put_integer(output: &mut [u8], at: usize, word: u64) -> usize
-    requires { at + integer_bytes ≤ length output.old }
-    ensures { PutWithin integer_bytes output.old at (integer (integer_of word)) result output.new }
-{
-    if word < LEAST {
-        return put_number(output, at, word);
+    // A text behind what is there.
+    pub(crate) fn put(&mut self, text: &[u8])
+        requires { length self.old + length text.now ≤ answer_bytes }
+        ensures { Adds (length text.now) self.old text.now self.new }
+    {
+        let next = self.length + text.len();
+        self.bytes[self.length..next].copy_from_slice(text);
+        self.length = next;
     }
-    let next = put(output, at, b"-");
-    put_number(output, next, u64::MAX - word + 1)
-}
 
-// A text, and a number behind it.
-pub(crate) fn put_labelled(output: &mut [u8], at: usize, label: &[u8], number: u64) -> usize
-    requires { at + length label.now + number_bytes ≤ length output.old }
-    ensures { PutWithin (length label.now + number_bytes) output.old at (label.now ++ decimal number) result output.new }
-{
-    let next = put(output, at, label);
-    put_number(output, next, number)
-}
+    // A number in decimal.
+    pub(crate) fn put_number(&mut self, number: u64)
+        requires { length self.old + number_bytes ≤ answer_bytes }
+        ensures { Adds number_bytes self.old (decimal number) self.new }
+    {
+        let mut digits = [0u8; NUMBER_BYTES];
+        let count = io::decimal(number, &mut digits);
+        self.put(&digits[..count]);
+    }
 
-// A text, and the integer that a word holds behind it.
-pub(crate) fn put_labelled_integer(output: &mut [u8], at: usize, label: &[u8], word: u64) -> usize
-    requires { at + length label.now + integer_bytes ≤ length output.old }
-    ensures { PutWithin (length label.now + integer_bytes) output.old at (label.now ++ integer (integer_of word)) result output.new }
-{
-    let next = put(output, at, label);
-    put_integer(output, next, word)
+    // The integer that a word holds, in decimal.
+    pub(crate) fn put_integer(&mut self, word: u64)
+        requires { length self.old + integer_bytes ≤ answer_bytes }
+        ensures { Adds integer_bytes self.old (integer (integer_of word)) self.new }
+    {
+        if is_negative(word) {
+            self.put(b"-");
+        }
+        self.put_number(magnitude(word));
+    }
+
+    // A text, and a number behind it.
+    pub(crate) fn put_labelled(&mut self, label: &[u8], number: u64)
+        requires { length self.old + length label.now + number_bytes ≤ answer_bytes }
+        ensures { Adds (length label.now + number_bytes) self.old (label.now ++ decimal number) self.new }
+    {
+        self.put(label);
+        self.put_number(number);
+    }
+
+    // A text, and the integer that a word holds behind it.
+    pub(crate) fn put_labelled_integer(&mut self, label: &[u8], word: u64)
+        requires { length self.old + length label.now + integer_bytes ≤ answer_bytes }
+        ensures { Adds (length label.now + integer_bytes) self.old (label.now ++ integer (integer_of word)) self.new }
+    {
+        self.put(label);
+        self.put_integer(word);
+    }
+
+    // The text becomes the first bytes of an output, as many as are returned.
+    pub(crate) fn copied_to(&self, output: &mut [u8; ANSWER_BYTES]) -> usize
+        ensures prefix_len { IsPrefixLen result output.new }
+        ensures text { take result output.new ≡ self.now }
+    {
+        *output = self.bytes;
+        self.length
+    }
 }

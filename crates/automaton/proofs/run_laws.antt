@@ -3,4 +3,3 @@ pub mod RunLaws
 pub mod MeterLaws
 pub mod StartLaws
 pub mod ResultLaws
-pub mod CopyLaws

@@ -1,16 +1,14 @@
 -- What a step and a run of the machine answer, from the state that it holds.
-use Rattle.std.specs.Prelude.{ℕ, ◌≡◌, false, List, ◌∷◌}
-use Rattle.rules.specs.paper.Refusals.{Reason, reason_number}
+use Rattle.std.specs.Prelude.{ℕ, ◌≡◌, false, List, ◌∷◌, Result, Ok, Err}
+use Rattle.rules.specs.declared.refusals.Reason.{Reason}
 use Rattle.rules.specs.paper.States.{Environment, Store, Entry, Item, State}
 use Rattle.rules.specs.paper.Rules.{Rule, Effect, Table}
 use Rattle.rules.specs.paper.Run.{judge, Ending, ended, stopped, lost}
 use Rattle.rules.specs.paper.Needs.{control, values, cells, bindings, Sizes}
 use Rattle.machine.specs.Steps.{Stands, Holds, Untouched, StepAnswer, AtExtendMark}
 use Rattle.machine.specs.declared.Machine.{Machine}
-use Rattle.machine.specs.declared.Stepped.{Stepped}
 use Rattle.automaton.specs.declared.meter.HighMarks.{HighMarks}
 use Rattle.automaton.specs.declared.Ending as Endings
-use Rattle.automaton.specs.declared.Ending.TheVariants.{Ended, Stopped}
 
 -- The marks of the rules, one field a size.
 abbrev pub marks_of : Sizes → HighMarks
@@ -35,22 +33,26 @@ pub record Enabled (words : List ℕ) (m : Machine) : Type 0 where
   pub enabled : EnabledAt words m item control values environment store locations bindings rule effect
 
 -- The step of whatever state the machine holds.
-abbrev pub StepsFrom : (before : List ℕ) → Machine → Stepped → (after : List ℕ) → Type 0
+abbrev pub StepsFrom : (before : List ℕ) → Machine → Result Machine Reason → (after : List ℕ) → Type 0
 StepsFrom before m answer after =
     (i : Item) (C : List Item) (X : List Entry) (E : Environment) (S : Store) (L : List ℕ) (n : ℕ) (r : Rule) (e : Effect) →
     EnabledAt before m i C X E S L n r e → StepAnswer (judge false e) answer before after
+
+-- How a run ends: the outcome, the steps made, and the run's record with the machine in its last state.
+abbrev pub ending_of : (outcome : Result (Unit {0}) Reason) (steps : ℕ) → Machine → HighMarks → Endings.Ending
+ending_of o k m h = record { outcome = o; steps = k; «record» = record { machine = m; marks = h } }
 
 -- The run ended in a state with control empty, or a step was withheld in its last state; the machine holds that state, and the meter has
 -- these marks.
 pub record HasEnded (most : Sizes) (steps : ℕ) (σ : State) (answer : Endings.Ending) (before after : List ℕ) : Type 0 where
   pub machine : Machine
-  pub answer_is : answer ≡ Ended steps (record { machine = machine; marks = marks_of most })
+  pub answer_is : answer ≡ ending_of (Ok tt) steps machine (marks_of most)
   pub holds : Holds after machine σ
   pub untouched : Untouched before after
 
 pub record HasStopped (most : Sizes) (x : Reason) (steps : ℕ) (σ : State) (answer : Endings.Ending) (before after : List ℕ) : Type 0 where
   pub machine : Machine
-  pub answer_is : answer ≡ Stopped (reason_number x) steps (record { machine = machine; marks = marks_of most })
+  pub answer_is : answer ≡ ending_of (Err x) steps machine (marks_of most)
   pub holds : Holds after machine σ
   pub untouched : Untouched before after
 

@@ -12,11 +12,8 @@ pub fn take_registers(work: &[u64], registers: &mut [u64])
     requires registers_len_bound { length registers.old ≤ most_registers }
     ensures { RegistersTaken work.now (length registers.old) registers.new }
 {
-    let mut i = 0;
-    while i < registers.len() {
-        registers[i] = work[CELL_PAYLOADS + i];
-        i = i + 1;
-    }
+    let count = registers.len();
+    registers.copy_from_slice(&work[CELL_PAYLOADS..CELL_PAYLOADS + count]);
 }
 
 // The word of the value on top of the value stack.

@@ -8,12 +8,13 @@ use expressions::marks::{not_mark, operator_mark};
 use frames::blocks::{extend_mark, leave_mark};
 use frames::calls::call_mark;
 use frames::declarations::{bind_mark, dseq_extend_mark, dseq_join_mark};
+use machine::Machine;
 use machine::layout::{DSEQ_EXTEND, DSEQ_JOIN, EXTEND, LEAVE, MARK_NUMBERS};
-use machine::{Machine, Stepped};
 use reader::kinds;
+use rules::refusals::Reason;
 
-// The rule of a mark, by its number.
-pub fn mark_rule(work: &mut [u64], m: Machine, word: u64) -> Stepped
+// The rule of a mark, by its number: a mark is a word of control, in memory that is lent.
+pub fn mark_rule(work: &mut [u64], m: Machine, word: u64) -> Result<Machine, Reason>
     requires { (k : Mark) × Applicable work.old m word (mark k) }
     ensures { (k : Mark) → Steps work.old m word (mark k) result work.new }
 {

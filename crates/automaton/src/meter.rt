@@ -1,13 +1,14 @@
 // The meter: the high marks of a run. It is lent to each step, which changes it where it lies in the run's record.
-ghost use Rattle.std.specs.Prelude.{◌≡◌, max};
+ghost use Rattle.std.specs.Prelude.{◌≡◌};
 ghost use Rattle.rules.specs.paper.HighMarks.{no_high_marks};
 ghost use Rattle.automaton.specs.Runs.{marks_of, Enabled, StepsFrom};
 ghost use Rattle.automaton.specs.Meter.{first_marks, stacks_raised, all_raised, marks_by_word, after_step, Covers, MeteredStep};
 
 use crate::step;
+use machine::Machine;
 use machine::layout::{MARK, MARK_NUMBERS, TOP_CONTROL};
-use machine::{Machine, Stepped};
 use reader::kinds;
+use rules::refusals::Reason;
 
 // The marks with lower numbers, of the operators, of Not and of Assign, raise nothing.
 const FIRST_THAT_RAISES: u64 = kinds::LOOP as u64;
@@ -31,7 +32,7 @@ pub struct Record {
 // A step and the marks after it.
 #[derive(Clone, Copy)]
 pub(crate) struct Metered {
-    pub(crate) stepped: Stepped,
+    pub(crate) stepped: Result<Machine, Reason>,
     pub(crate) marks: HighMarks,
 }
 
@@ -59,23 +60,14 @@ pub fn no_marks() -> HighMarks
     }
 }
 
-fn higher(mark: usize, size: usize) -> usize
-    ensures { result ≡ max mark size }
-{
-    if mark < size {
-        return size;
-    }
-    mark
-}
-
 fn stacks_raised(marks: HighMarks, m: Machine) -> HighMarks
     ensures { result ≡ stacks_raised marks m }
 {
     HighMarks {
         cells: marks.cells,
         bindings: marks.bindings,
-        values: higher(marks.values, m.values),
-        control: higher(marks.control, m.control),
+        values: marks.values.max(m.values),
+        control: marks.control.max(m.control),
     }
 }
 
@@ -83,19 +75,19 @@ fn all_raised(marks: HighMarks, m: Machine) -> HighMarks
     ensures { result ≡ all_raised marks m }
 {
     HighMarks {
-        cells: higher(marks.cells, m.cells),
-        bindings: higher(marks.bindings, m.bindings),
-        values: higher(marks.values, m.values),
-        control: higher(marks.control, m.control),
+        cells: marks.cells.max(m.cells),
+        bindings: marks.bindings.max(m.bindings),
+        values: marks.values.max(m.values),
+        control: marks.control.max(m.control),
     }
 }
 
 // The marks after a step, by the word of the item that was taken off control: a node raises the stacks alone.
-fn marks_by_word(marks: HighMarks, word: u64, stepped: Stepped) -> HighMarks
+fn marks_by_word(marks: HighMarks, word: u64, stepped: Result<Machine, Reason>) -> HighMarks
     ensures { result ≡ marks_by_word marks word stepped }
 {
     match stepped {
-        Stepped::Made(next) => {
+        Ok(next) => {
             if word < MARK {
                 return stacks_raised(marks, next);
             }
@@ -104,7 +96,7 @@ fn marks_by_word(marks: HighMarks, word: u64, stepped: Stepped) -> HighMarks
             }
             all_raised(marks, next)
         }
-        Stepped::Withheld(reason) => marks,
+        Err(_) => marks,
     }
 }
 
@@ -124,7 +116,7 @@ fn metered_step(work: &mut [u64], m: Machine, marks: HighMarks) -> Metered
 }
 
 // One step. The meter is lent to it, and it changes it where it lies.
-fn make_step(work: &mut [u64], m: Machine, meter: &mut HighMarks) -> Stepped
+fn make_step(work: &mut [u64], m: Machine, meter: &mut HighMarks) -> Result<Machine, Reason>
     requires { Enabled work.old m × Covers meter.old m }
     ensures { StepsFrom work.old m result work.new × (meter.new ≡ after_step meter.old result) }
 {

@@ -27,20 +27,19 @@ pub fn start(work: &mut [u64], registers: &[u64], nodes: usize) -> Machine
         base: 0,
         bindings: 0,
     };
-    let mut i = 0;
-    while i < registers.len() {
+    for (i, register) in registers.iter().enumerate() {
         let named = put_row(work, m, LABEL_UNIT + REGISTER_UNIT * i as u64, i as u64);
-        m = put_cell(work, named, 0, registers[i]);
-        i = i + 1;
+        m = put_cell(work, named, 0, *register);
     }
+    let count = registers.len();
     let ready = Machine {
         control: 0,
         values: 0,
-        environment: i,
-        declared: i,
-        cells: i,
-        base: i,
-        bindings: i,
+        environment: count,
+        declared: count,
+        cells: count,
+        base: count,
+        bindings: count,
     };
     if nodes == 0 {
         return ready;

@@ -5,7 +5,7 @@ use mathlib.Core.List.{List}
 use lib.ListN.{length, get_or}
 use Rattle.rules.specs.paper.Limits.{work_words}
 use Rattle.rules.specs.paper.Tree.{Root}
-use Rattle.rules.specs.paper.Checker.{Passed}
+use Rattle.rules.specs.declared.kinds.Passed.{Passed}
 use Rattle.rules.specs.paper.States.{State, store_of}
 use Rattle.rules.specs.paper.Run.{Ending, ended, stopped, lost, run}
 use Rattle.rules.specs.paper.HighMarks.{high_marks}

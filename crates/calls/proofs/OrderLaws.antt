@@ -1,113 +1,74 @@
--- The tests before a run, in their order: 22, 21, the image, 20.
+-- The tests before a run, in their order: the work words, the budget, the image, the count of registers.
 use Prim.Native.Nat.{ℕ, ◌<◌, ◌≤◌}
 use mathlib.Core.Path.{◌≡◌, refl, sym, ap, ◌∙◌, subst}
 use mathlib.Core.Bool.{Bool, true, false, cond}
 use mathlib.Core.List.{List, []}
-use native.Mathlib.Omega.{arith}
 use borrow.Author.Tests.{le-ltb, lt-ltb, le-leb, lt-leb, eq-eqb, ne_eqb}
 use lib.Dec.{eqb}
 use lib.IntN.{ℤ}
-use lib.ListN.{length, get_or}
-use Rattle.rules.specs.paper.Limits.{codes, work_words, most_budget}
-use Rattle.rules.specs.paper.Refusals.{refusal_number}
-use Rattle.rules.specs.paper.Refusals as Refusals
-use Rattle.rules.specs.paper.Tree.{Root}
-use Rattle.rules.specs.paper.Checker.{Passed, expression_of_code, a_command}
+use lib.ListN.{length}
+use Rattle.std.specs.Prelude.{Result, Ok, Err}
+use Rattle.rules.specs.paper.Limits.{work_words, most_budget}
+use Rattle.rules.specs.declared.refusals.Refusal.{Refusal}
+use Rattle.rules.specs.declared.refusals.Refusal.TheVariants as Refusals
+use Rattle.rules.specs.declared.refusals.Refused.{Refused}
 use Rattle.rules.specs.paper.Engine.{Checked, turned_back, passed, check_image, run_checked, refusing, Called, engine, cleared, finish, start}
 use Rattle.rules.specs.paper.Run.{Ending, ended, stopped, lost, run}
 use Rattle.rules.specs.paper.Needs.{Sizes}
-use Rattle.rules.specs.paper.HighMarks.{no_high_marks, high_marks}
-use Rattle.automaton.specs.Runs.{marks_of}
-use Rattle.automaton.specs.declared.meter.HighMarks.{HighMarks}
+use Rattle.rules.specs.paper.HighMarks.{high_marks}
 use Rattle.integers.specs.Words.{integers_of, words_of}
 use Rattle.integers.specs.WordLaws.{integers_length, words_back}
-use Rattle.reader.specs.Stored.{RootAt}
-use Rattle.reader.specs.Put.{KeptBeyond}
-use Rattle.checker.specs.Commands.{command_number, root_number}
 use Rattle.loader.specs.Answers.{LoadAnswer}
 use Rattle.loader.specs.declared.Loaded.{Loaded}
-use Rattle.loader.specs.declared.Loaded.TheVariants as Load
 use Rattle.loader.proofs.LoadLaws.{beyond_then}
-use Rattle.calls.specs.Runs.{run_reply, run_call, RanAs, Performed, RunOf, run_of_image}
+use Rattle.calls.specs.Answers.{without_place}
+use Rattle.calls.specs.Ranges.{WordsFit}
+use Rattle.calls.specs.Runs.{unstarted_with, run_reply, run_call, RanAs, TreeStandsAs, RunsTreeAs, Performed, RunOf, run_of_image}
 use Rattle.calls.specs.declared.Ran.{Ran}
-use Rattle.calls.specs.declared.Ran.TheVariants.{Refused}
-use Rattle.calls.proofs.LoadedLaws.{loaded_beyond, loaded_passes, loaded_refused}
+use Rattle.calls.proofs.LoadedLaws.{Passes, loaded_beyond, loaded_passes, loaded_refused}
 use Rattle.calls.proofs.CheckLaws.{cleared_same}
 
 -- ---- What was loaded.
 
-pub record FoundPassed (image : List ℕ) (registers nodes : ℕ) (a : Passed) (before after : List ℕ) : Type 0 where
-  pub tree : Root
-  pub passes : check_image image ≡ passed registers tree a
-  pub stands : RootAt after nodes tree
-  pub beyond : KeptBeyond work_words before after
-
--- What the root is, by its number.
-pub record FoundRoot (image : List ℕ) (number registers nodes : ℕ) (before after : List ℕ) : Type 0 where
-  pub root : Passed
-  pub number_is : number ≡ root_number root
-  pub code_low : (k : ℕ) → root ≡ expression_of_code k → k < codes
-  pub found : FoundPassed image registers nodes root before after
-
-module _ (image before after : List ℕ) (e : Loaded) (a : LoadAnswer (check_image image) e before after) where
-  module _ (number n nodes : ℕ) (q : e ≡ Load.Passed number n nodes) where
-    pub found_root : FoundRoot image number n nodes before after
-    found_root =
-        let l = loaded_passes image before after e a number n nodes q in
-        record {
-          root = l.root_is;
-          number_is = l.number_is;
-          code_low = l.code_low;
-          found = record { tree = l.tree; passes = l.passes; stands = l.stands; beyond = loaded_beyond image before after e a };
-        }
-
-    pub found_command : number ≡ command_number → FoundPassed image n nodes a_command before after
-    found_command eight = let o = found_root in by o.root o.number_is o.code_low o.found
-      where
-        by : (c : Passed) → number ≡ root_number c → ((k : ℕ) → c ≡ expression_of_code k → k < codes) → FoundPassed image n nodes c before after → FoundPassed image n nodes a_command before after
-        by (expression_of_code k) is low f = absurd (omega (arith, is, eight, low k refl))
-        by a_command is low f = f
-
-    pub found_expression : (number ≡ command_number → ⊥) → FoundPassed image n nodes (expression_of_code number) before after
-    found_expression other = let o = found_root in by o.root o.number_is o.found
-      where
-        by : (c : Passed) → number ≡ root_number c → FoundPassed image n nodes c before after → FoundPassed image n nodes (expression_of_code number) before after
-        by (expression_of_code k) is f = subst (λ i. FoundPassed image n nodes (expression_of_code i) before after) (sym is) f
-        by a_command is f = absurd (other is)
-
+module _ (image before after : List ℕ) (e : Result Loaded Refused) (loaded : LoadAnswer (check_image image) e before after) (registers : List ℕ) (budget : ℕ) where
   -- The image is refused: 0 steps, and the registers are kept.
-  pub image_refused : (registers : List ℕ) (budget x p : ℕ) → ((i : ℕ) → i < length registers → get_or registers i 0 < 18446744073709551616) → e ≡ Load.Refused x p →
-      (marks : HighMarks) → marks ≡ marks_of no_high_marks → Performed (run_checked (check_image image) (integers_of registers) budget []) (Refused x p 0 marks) registers before after
-  image_refused registers budget x p low q marks none =
-      let l = loaded_refused image before after e a x p q in
-      subst (λ k. Performed (run_checked k (integers_of registers) budget []) (Refused x p 0 marks) registers before after) (sym l.refused)
-      (record { reply_is = λ i. Refused (l.number_is i) p 0 (none i); registers_are = sym (words_back registers low); beyond = loaded_beyond image before after e a })
+  pub image_refused : WordsFit registers → (x : Refused) → e ≡ Err x → (answer : Ran) → answer ≡ unstarted_with x → Performed (run_of_image image registers budget) answer registers before after
+  image_refused low x q answer p =
+      subst (λ k. Performed (run_checked k (integers_of registers) budget []) answer registers before after) (sym (loaded_refused image before after e loaded x q))
+      (record { reply_is = p; registers_are = sym (words_back registers low); beyond = loaded_beyond image before after e loaded })
 
--- ---- 20.
+  module _ (l : Loaded) (q : e ≡ Ok l) where
+    there : Passes image after l
+    there = loaded_passes image before after e loaded l q
 
-module _ (image registers : List ℕ) (n nodes : ℕ) (a : Passed) (budget : ℕ) (before middle : List ℕ) (found : FoundPassed image n nodes a before middle) where
-  pub count_refused : ((i : ℕ) → i < length registers → get_or registers i 0 < 18446744073709551616) → (length registers ≡ n → ⊥) →
-      (marks : HighMarks) → marks ≡ marks_of no_high_marks → Performed (run_checked (check_image image) (integers_of registers) budget []) (Refused 20 0 0 marks) registers before middle
-  unfolding refusal_number
-  count_refused low d marks none =
-      subst (λ k. Performed (run_checked k (integers_of registers) budget []) (Refused 20 0 0 marks) registers before middle) (sym found.passes)
-      (subst (λ c. Performed c (Refused 20 0 0 marks) registers before middle) (sym other) (record { reply_is = ap (Refused 20 0 0) none; registers_are = sym (words_back registers low); beyond = found.beyond }))
-    where
-      other : run_checked (passed n found.tree a) (integers_of registers) budget [] ≡ refusing Refusals.Registers 0 (integers_of registers) []
-      other = rw (ne_eqb (length (integers_of registers)) n (λ q. d (sym (integers_length registers) ∙ q)))
+    -- There are not as many registers as the image asks.
+    pub count_refused : WordsFit registers → (length registers ≡ l.registers → ⊥) → (x : Refused) → x ≡ without_place Refusals.Registers → (answer : Ran) → answer ≡ unstarted_with x →
+        Performed (run_of_image image registers budget) answer registers before after
+    count_refused low d x p answer r =
+        subst (λ k. Performed (run_checked k (integers_of registers) budget []) answer registers before after) (sym there.passes)
+        (subst (λ c. Performed c answer registers before after) (sym other)
+        (record { reply_is = r ∙ ap unstarted_with p; registers_are = sym (words_back registers low); beyond = loaded_beyond image before after e loaded }))
+      where
+        other : run_checked (passed l.registers there.tree l.root) (integers_of registers) budget [] ≡ refusing Refusals.Registers 0 (integers_of registers) []
+        other = rw (ne_eqb (length (integers_of registers)) l.registers (λ z. d (sym (integers_length registers) ∙ z)))
 
-  pub counted : length registers ≡ n → check_image image ≡ passed (length registers) found.tree a
-  counted q = found.passes ∙ ap (λ k. passed k found.tree a) (sym q)
+    module _ (same : length registers ≡ l.registers) where
+      counted : check_image image ≡ passed (length registers) there.tree l.root
+      counted = there.passes ∙ ap (λ k. passed k there.tree l.root) (sym same)
 
-  pub run_performed : (r : Ran) (last after : List ℕ) → length registers ≡ n → Performed (RunOf registers found.tree budget) r last middle after →
-      Performed (run_of_image image registers budget) r last before after
-  run_performed r last after q done =
-      subst (λ k. Performed (run_checked k (integers_of registers) budget []) r last before after) (sym (counted q))
-      (subst (λ c. Performed c r last before after) (sym same)
-      (record { reply_is = done.reply_is; registers_are = done.registers_are; beyond = beyond_then found.beyond done.beyond }))
-    where
-      same : run_checked (passed (length registers) found.tree a) (integers_of registers) budget [] ≡ RunOf registers found.tree budget
-      same = rw (eq-eqb (length (integers_of registers)) (length registers) (integers_length registers))
+      pub tree_stands : TreeStandsAs (length registers) l.root after l.nodes
+      tree_stands = (image, there.tree, counted, there.stands)
+
+      pub run_performed : (r : Ran) (last last_words : List ℕ) → RunsTreeAs l.root registers budget l.nodes r last after last_words →
+          Performed (run_of_image image registers budget) r last before last_words
+      run_performed r last last_words runs =
+          let done = runs image there.tree counted there.stands in
+          subst (λ k. Performed (run_checked k (integers_of registers) budget []) r last before last_words) (sym counted)
+          (subst (λ c. Performed c r last before last_words) (sym as_many)
+          (record { reply_is = done.reply_is; registers_are = done.registers_are; beyond = beyond_then (loaded_beyond image before after e loaded) done.beyond }))
+        where
+          as_many : run_checked (passed (length registers) there.tree l.root) (integers_of registers) budget [] ≡ RunOf registers there.tree budget
+          as_many = rw (eq-eqb (length (integers_of registers)) (length registers) (integers_length registers))
 
 -- ---- A call's reply and registers do not depend on the work words that it is handed on.
 
@@ -151,27 +112,24 @@ module _ (zs : List ℤ) (budget : ℕ) (ws vs : List ℕ) where
       by true = finish_work r ws (high_marks budget (start r t zs)) (run budget 0 (start r t zs))
       by false = refl
 
--- ---- 22 and 21: nothing is touched.
+-- ---- The work words and the budget: nothing is touched.
 
-module _ (image registers : List ℕ) (budget : ℕ) (work : List ℕ) (low : (i : ℕ) → i < length registers → get_or registers i 0 < 18446744073709551616) where
+module _ (image registers : List ℕ) (budget : ℕ) (work : List ℕ) (low : WordsFit registers) where
   as_called : (c : Called) (r : Ran) (last_registers last_work : List ℕ) → run_call image registers budget work ≡ c → r ≡ run_reply c.reply → last_registers ≡ words_of c.registers → last_work ≡ c.work →
       RanAs (run_call image registers budget work) r last_registers last_work
   as_called c r last_registers last_work e p q s =
       record { answer_is = p ∙ sym (ap (λ k. run_reply k.reply) e); registers_are = q ∙ sym (ap (λ k. words_of k.registers) e); work_is = s ∙ sym (ap (λ k. k.work) e) }
 
-  pub work_refused : length work < work_words → (marks : HighMarks) → marks ≡ marks_of no_high_marks → RanAs (run_call image registers budget work) (Refused 22 0 0 marks) registers work
-  unfolding refusal_number
-  work_refused h marks none = as_called (refusing Refusals.Work 0 (integers_of registers) work) (Refused 22 0 0 marks) registers work little (ap (Refused 22 0 0) none) (sym (words_back registers low)) refl
-    where
-      little : run_call image registers budget work ≡ refusing Refusals.Work 0 (integers_of registers) work
-      little = unfold engine in (rw (lt-ltb (length work) work_words h))
+  refused_at_once : (x : Refusal) → run_call image registers budget work ≡ refusing x 0 (integers_of registers) work → (r : Refused) → r ≡ without_place x → (answer : Ran) → answer ≡ unstarted_with r →
+      RanAs (run_call image registers budget work) answer registers work
+  refused_at_once x e r q answer p = as_called (refusing x 0 (integers_of registers) work) answer registers work e (p ∙ ap unstarted_with q) (sym (words_back registers low)) refl
 
-  pub budget_refused : work_words ≤ length work → most_budget < budget → (marks : HighMarks) → marks ≡ marks_of no_high_marks → RanAs (run_call image registers budget work) (Refused 21 0 0 marks) registers work
-  unfolding refusal_number
-  budget_refused room h marks none = as_called (refusing Refusals.Budget 0 (integers_of registers) work) (Refused 21 0 0 marks) registers work much (ap (Refused 21 0 0) none) (sym (words_back registers low)) refl
-    where
-      much : run_call image registers budget work ≡ refusing Refusals.Budget 0 (integers_of registers) work
-      much = unfold engine in (rw (le-ltb (length work) work_words room, lt-leb budget most_budget h))
+  pub work_refused : (r : Refused) → (length work < work_words) × (r ≡ without_place Refusals.Work) → (answer : Ran) → answer ≡ unstarted_with r → RanAs (run_call image registers budget work) answer registers work
+  work_refused r h = refused_at_once Refusals.Work (unfold engine in (rw (lt-ltb (length work) work_words h.0))) r h.1
+
+  pub budget_refused : work_words ≤ length work → most_budget < budget → (r : Refused) → r ≡ without_place Refusals.Budget → (answer : Ran) → answer ≡ unstarted_with r →
+      RanAs (run_call image registers budget work) answer registers work
+  budget_refused room h = refused_at_once Refusals.Budget (unfold engine in (rw (le-ltb (length work) work_words room, lt-leb budget most_budget h)))
 
   -- ---- Every other call: what was performed, and the first 8,192 work words 0.
 

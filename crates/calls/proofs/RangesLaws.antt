@@ -1,19 +1,27 @@
--- The ranges: 22 first, then the image, 20 for either list, 42, 43, 40, 33 to 36, and 44; a refusal keeps both lists.
+-- The ranges: the work words first, then the image, as many limits as registers, limits that do not cross, no Loop, few steps, room, and safe
+-- arithmetic; a refusal keeps both lists.
 use Prim.Native.Nat.{ℕ, ◌<◌, ◌≤◌}
 use mathlib.Core.Path.{◌≡◌, refl, sym, ap, ◌∙◌, subst}
 use mathlib.Core.Bool.{Bool, true, false, cond}
+use mathlib.Core.Logic.{◌⊎◌, inl, inr}
 use mathlib.Core.List.{List}
-use mathlib.Core.Option.{Option, none, some}
+use mathlib.Core.Option as Rules
+use mathlib.Core.Option.{none, some}
 use native.Mathlib.Omega.{arith}
 use borrow.Author.Tests.{le-ltb, lt-ltb, ltb-false, eq-eqb, ne_eqb}
 use lib.Dec.{ltb}
 use lib.IntN.{ℤ}
 use lib.ListN.{length}
+use Rattle.std.specs.Prelude.{Option, Some, None, Result, Ok, Err}
 use Rattle.rules.specs.paper.Limits.{most_registers, most_steps, most_cells, most_bindings, most_value_entries, most_control_entries, work_words}
-use Rattle.rules.specs.paper.Refusals.{Reason, Steps, ZeroDivisor, OutOfRange, Cells, Bindings, ValueEntries, ControlEntries, Refusal, TooManySteps, HasLoop, reason_number, refusal_number}
-use Rattle.rules.specs.paper.Refusals as Refusals
+use Rattle.rules.specs.declared.refusals.Reason.{Reason}
+use Rattle.rules.specs.declared.refusals.Reason.TheVariants.{Cells, Bindings, ValueEntries, ControlEntries}
+use Rattle.rules.specs.declared.refusals.Refusal.{Refusal}
+use Rattle.rules.specs.declared.refusals.Refusal.TheVariants.{Withheld, TooManySteps, HasLoop, UnsafeArithmetic}
+use Rattle.rules.specs.declared.refusals.Refusal.TheVariants as Refusals
+use Rattle.rules.specs.declared.refusals.Refused.{Refused}
 use Rattle.rules.specs.paper.Tree.{Root}
-use Rattle.rules.specs.paper.Checker.{Passed}
+use Rattle.rules.specs.declared.kinds.Passed.{Passed}
 use Rattle.rules.specs.paper.Needs.{Sizes, control, values, cells, bindings, routine_need, has_loop}
 use Rattle.rules.specs.paper.Engine.{check_image, passed, cleared}
 use Rattle.rules.specs.paper.Carried.{Carrying, carried, unsafe, unfit}
@@ -35,46 +43,42 @@ use Rattle.estimator.specs.declared.figures.Need.{Need}
 use Rattle.estimator.proofs.EntryLaws.{entries_nodes}
 use Rattle.carrying.specs.Frames.{Keeps}
 use Rattle.ranges.specs.Routine.{EnoughRoom, SomeRoutine, CarriedAs, RoutineCarried}
-use Rattle.carrying.specs.declared.Outcome.{Outcome}
-use Rattle.carrying.specs.declared.Outcome.TheVariants.{Through, Unsafe}
 use Rattle.loader.specs.Answers.{LoadAnswer}
 use Rattle.loader.specs.declared.Loaded.{Loaded}
-use Rattle.loader.specs.declared.Loaded.TheVariants as Load
 use Rattle.loader.proofs.LoadLaws.{drop_same}
+use Rattle.calls.specs.Answers.{without_place}
 use Rattle.calls.specs.Needs.{SmallRoom, SmallTree}
 use Rattle.calls.specs.DeliveredRanges.{integers_back}
 use Rattle.calls.specs.Runs.{TreeStands}
 use Rattle.calls.specs.Ranges.{WordsFit, ranges_call, RangedAs, told, room_refused, room_of, tree_refusal, TreeRefused, TreeRanged, ImageRanged}
-use Rattle.calls.specs.declared.Ranged.{Ranged}
-use Rattle.calls.specs.declared.Ranged.TheVariants.{Ends, Refused}
 use Rattle.calls.proofs.CheckLaws.{cleared_same}
 use Rattle.calls.proofs.LoadedLaws.{loaded_passes, loaded_refused}
 use Rattle.calls.proofs.NeedsLaws.{is_control, is_values, is_cells, is_bindings}
 
--- ---- 33 to 36.
+-- ---- The room.
 
 module _ (n : Need) where
-  pub cells_full : most_cells < n.cells → 33 ≡ told (room_refused (room_refusal (room_of n)))
-  unfolding room_refusal refusal_number reason_number
+  pub cells_full : most_cells < n.cells → Some (Withheld Cells) ≡ told (room_refused (room_refusal (room_of n)))
+  unfolding room_refusal
   cells_full h = rw (lt-ltb most_cells n.cells h) refl
 
   module _ (few_cells : n.cells ≤ most_cells) where
-    pub bindings_full : most_bindings < n.bindings → 34 ≡ told (room_refused (room_refusal (room_of n)))
-    unfolding room_refusal refusal_number reason_number
+    pub bindings_full : most_bindings < n.bindings → Some (Withheld Bindings) ≡ told (room_refused (room_refusal (room_of n)))
+    unfolding room_refusal
     bindings_full h = rw (le-ltb most_cells n.cells few_cells, lt-ltb most_bindings n.bindings h) refl
 
     module _ (few_bindings : n.bindings ≤ most_bindings) where
-      pub values_full : most_value_entries < n.values → 35 ≡ told (room_refused (room_refusal (room_of n)))
-      unfolding room_refusal refusal_number reason_number
+      pub values_full : most_value_entries < n.values → Some (Withheld ValueEntries) ≡ told (room_refused (room_refusal (room_of n)))
+      unfolding room_refusal
       values_full h = rw (le-ltb most_cells n.cells few_cells, le-ltb most_bindings n.bindings few_bindings, lt-ltb most_value_entries n.values h) refl
 
       module _ (few_values : n.values ≤ most_value_entries) where
-        pub control_full : most_control_entries < n.control → 36 ≡ told (room_refused (room_refusal (room_of n)))
-        unfolding room_refusal refusal_number reason_number
+        pub control_full : most_control_entries < n.control → Some (Withheld ControlEntries) ≡ told (room_refused (room_refusal (room_of n)))
+        unfolding room_refusal
         control_full h =
             rw (le-ltb most_cells n.cells few_cells, le-ltb most_bindings n.bindings few_bindings, le-ltb most_value_entries n.values few_values, lt-ltb most_control_entries n.control h) refl
 
-        pub nothing_full : n.control ≤ most_control_entries → 0 ≡ told (room_refused (room_refusal (room_of n)))
+        pub nothing_full : n.control ≤ most_control_entries → None ≡ told (room_refused (room_refusal (room_of n)))
         unfolding room_refusal
         nothing_full h =
             rw (le-ltb most_cells n.cells few_cells, le-ltb most_bindings n.bindings few_bindings, le-ltb most_value_entries n.values few_values, le-ltb most_control_entries n.control h) refl
@@ -83,23 +87,21 @@ same_room : (s z : Sizes) → s control ≡ z control → s values ≡ z values 
 unfolding room_refusal
 same_room s z k v c b = rw (k, v, c, b) refl
 
--- ---- 43, 40, 33 to 36 of the tree that stands in the work words.
+-- ---- The Loop, the steps and the room of the tree that stands in the work words.
 
 module _ (words : List ℕ) (registers nodes : ℕ) where
-  pub loop_refused : LoopFound words nodes true → TreeRefused words registers nodes 43
-  unfolding refusal_number
+  pub loop_refused : LoopFound words nodes true → TreeRefused words registers nodes (Some HasLoop)
   loop_refused loop t at small = rw (sym (loop t at)) refl
 
   module _ (words' : List ℕ) (no_loop : LoopFound words nodes false) (need : Need) (routine : RoutineNeeds words registers nodes need) (kept : WritesEntriesFrom words words' 0) where
     is_all_steps : (t : Root) → RootAt words nodes t → need.all_steps ≡ stopped (routine_need registers t).all_steps
     is_all_steps t at = ap (λ n. n.all_steps) (routine t at)
 
-    pub all_steps_refused : most_steps < need.all_steps → TreeRefused words registers nodes 40
-    unfolding refusal_number
+    pub all_steps_refused : most_steps < need.all_steps → TreeRefused words registers nodes (Some TooManySteps)
     all_steps_refused l t at small =
         rw (sym (no_loop t at), lt-ltb most_steps (routine_need registers t).all_steps (omega (arith, l, is_all_steps t at))) refl
 
-    pub room_answered : need.all_steps ≤ most_steps → (r : ℕ) → r ≡ told (room_refused (room_refusal (room_of need))) → TreeRefused words registers nodes r
+    pub room_answered : need.all_steps ≤ most_steps → (r : Option Refusal) → r ≡ told (room_refused (room_refusal (room_of need))) → TreeRefused words registers nodes r
     room_answered l r q t at small =
         rw (sym (no_loop t at), le-ltb most_steps (routine_need registers t).all_steps (omega (arith, l, is_all_steps t at)))
         (q ∙ ap (λ o. told (room_refused o)) (same_room (room_of need) (routine_need registers t).most
@@ -111,37 +113,26 @@ nothing_written words = record { same_length = refl; same_below = λ i h. refl; 
 
 -- ---- Where no refusal is told.
 
-no_reason : (x : Reason) → 0 ≡ reason_number x → ⊥
-unfolding reason_number
-no_reason Steps q = omega (arith, q)
-no_reason ZeroDivisor q = omega (arith, q)
-no_reason OutOfRange q = omega (arith, q)
-no_reason Cells q = omega (arith, q)
-no_reason Bindings q = omega (arith, q)
-no_reason ValueEntries q = omega (arith, q)
-no_reason ControlEntries q = omega (arith, q)
-
-untold : (loop many : Bool) (room : Option Reason) → 0 ≡ told (cond loop (some HasLoop) (cond many (some TooManySteps) (room_refused room))) →
+untold : (loop many : Bool) (room : Rules.Option Reason) → None ≡ told (cond loop (some HasLoop) (cond many (some TooManySteps) (room_refused room))) →
     (loop ≡ false) × (many ≡ false) × (room ≡ none)
-unfolding refusal_number
-untold true many room q = absurd (omega (arith, q))
-untold false true room q = absurd (omega (arith, q))
-untold false false (some x) q = absurd (no_reason x q)
+untold true many room q = cc
+untold false true room q = cc
+untold false false (some x) q = cc
 untold false false none q = (refl, refl, refl)
 
 room_left : (s : Sizes) → room_refusal s ≡ none → (s bindings ≤ most_bindings) × (s cells ≤ most_cells)
 unfolding room_refusal
 room_left s q = by _ (ltb most_cells (s cells)) (ltb most_bindings (s bindings)) refl refl q
   where
-    by : (o : Option Reason) (c b : Bool) → ltb most_cells (s cells) ≡ c → ltb most_bindings (s bindings) ≡ b → cond c (some Cells) (cond b (some Bindings) o) ≡ none →
+    by : (o : Rules.Option Reason) (c b : Bool) → ltb most_cells (s cells) ≡ c → ltb most_bindings (s bindings) ≡ b → cond c (some Cells) (cond b (some Bindings) o) ≡ none →
         (s bindings ≤ most_bindings) × (s cells ≤ most_cells)
     by o true b g h e = missing (sym e)
     by o false true g h e = missing (sym e)
     by o false false g h e = (ltb-false most_bindings (s bindings) h, ltb-false most_cells (s cells) g)
 
--- ---- The tests after 20 and 42.
+-- ---- The tests after those of the limits.
 
-abbrev unless : Option Refusal → RangesCalled → (lowest highest : List ℤ) → List ℕ → RangesCalled
+abbrev unless : Rules.Option Refusal → RangesCalled → (lowest highest : List ℤ) → List ℕ → RangesCalled
 unless none body ls hs ws = body
 unless (some x) body ls hs ws = no_ranges x 0 ls hs ws
 
@@ -166,7 +157,7 @@ module _ (r : ℕ) (t : Root) (ls hs : List ℤ) (ws : List ℕ) where
           rw (eq-eqb (length ls) r many_low, eq-eqb (length hs) r many_high, q)
           (tests (has_loop t) (ltb most_steps (routine_need r t).all_steps) (room_refusal (routine_need r t).most) (carried_ranges r (carry_routine r t ls hs) ls hs ws))
         where
-          tests : (loop many : Bool) (room : Option Reason) (c : RangesCalled) →
+          tests : (loop many : Bool) (room : Rules.Option Reason) (c : RangesCalled) →
               cond loop (no_ranges HasLoop 0 ls hs ws) (cond many (no_ranges TooManySteps 0 ls hs ws) (with_room room c ls hs ws))
               ≡ unless (cond loop (some HasLoop) (cond many (some TooManySteps) (room_refused room))) c ls hs ws
           tests true many room c = refl
@@ -174,43 +165,29 @@ module _ (r : ℕ) (t : Root) (ls hs : List ℤ) (ws : List ℕ) where
           tests false false none c = refl
           tests false false (some x) c = refl
 
-both_outcomes : (r : Outcome) (p : ℕ) → r ≡ Through → r ≡ Unsafe p → ⊥
-both_outcomes r p g h = let z : ◌≡◌ {A = ℕ} 0 1 = cc in omega arith
-
-same_place : (r : Outcome) (p q : ℕ) → r ≡ Unsafe p → r ≡ Unsafe q → p ≡ q
-same_place r p q g h = cc
-
 -- ---- Both lists kept.
 
 module _ (lowest highest : List ℕ) (low : WordsFit lowest) (high : WordsFit highest) where
-  pub both_kept : (x : Refusal) (n p : ℕ) (work : List ℕ) → n ≡ refusal_number x → RangedAs (no_ranges x p (integers_of lowest) (integers_of highest) work) (Refused n p) lowest highest work
-  both_kept x n p work q =
-      record { answer_is = ap (λ k. Refused k p) q; lowest_are = sym (words_back lowest low); highest_are = sym (words_back highest high); lowest_hold = refl; highest_hold = refl; work_is = refl }
+  pub both_kept : (x : Refusal) (p : ℕ) (work : List ℕ) (e : Refused) → e ≡ record { refusal = x; place = p } → RangedAs (no_ranges x p (integers_of lowest) (integers_of highest) work) (Err e) lowest highest work
+  both_kept x p work e q =
+      record { answer_is = ap Err q; lowest_are = sym (words_back lowest low); highest_are = sym (words_back highest high); lowest_hold = refl; highest_hold = refl; work_is = refl }
 
-  -- ---- 20 and 42.
+  -- ---- The limits.
 
-  module _ (words : List ℕ) (registers nodes : ℕ) where
-    pub too_few_lowest : (length lowest ≡ registers → ⊥) → TreeRanged registers words nodes lowest highest (Refused 20 0) lowest highest
-    unfolding refusal_number
-    too_few_lowest d image t a passes at work =
-        subst (λ c. RangedAs c (Refused 20 0) lowest highest work)
-        (sym (lowest_refused registers t (integers_of lowest) (integers_of highest) work (λ q. d (sym (integers_length lowest) ∙ q)))) (both_kept Refusals.Registers 20 0 work refl)
+  module _ (words : List ℕ) (registers nodes : ℕ) (e : Refused) where
+    pub too_few : (length lowest ≡ registers → ⊥) ⊎ ((length lowest ≡ registers) × (length highest ≡ registers → ⊥)) → e ≡ without_place Refusals.Registers → TreeRanged registers words nodes lowest highest (Err e) lowest highest
+    too_few d q image t a passes at work =
+        subst (λ c. RangedAs c (Err e) lowest highest work) (sym (by d)) (both_kept Refusals.Registers 0 work e q)
+      where
+        by : (length lowest ≡ registers → ⊥) ⊎ ((length lowest ≡ registers) × (length highest ≡ registers → ⊥)) → ranges_of registers t (integers_of lowest) (integers_of highest) work ≡ no_ranges Refusals.Registers 0 (integers_of lowest) (integers_of highest) work
+        by (inl d) = lowest_refused registers t (integers_of lowest) (integers_of highest) work (λ z. d (sym (integers_length lowest) ∙ z))
+        by (inr d) = highest_refused registers t (integers_of lowest) (integers_of highest) work (integers_length lowest ∙ d.0) (λ z. d.1 (sym (integers_length highest) ∙ z))
 
-    module _ (many_low : length lowest ≡ registers) where
-      many_integers : length (integers_of lowest) ≡ registers
-      many_integers = integers_length lowest ∙ many_low
-
-      pub too_few_highest : (length highest ≡ registers → ⊥) → TreeRanged registers words nodes lowest highest (Refused 20 0) lowest highest
-      unfolding refusal_number
-      too_few_highest d image t a passes at work =
-          subst (λ c. RangedAs c (Refused 20 0) lowest highest work)
-          (sym (highest_refused registers t (integers_of lowest) (integers_of highest) work many_integers (λ q. d (sym (integers_length highest) ∙ q)))) (both_kept Refusals.Registers 20 0 work refl)
-
-      pub limits_refused : length highest ≡ registers → true ≡ limits_cross (integers_of lowest) (integers_of highest) → TreeRanged registers words nodes lowest highest (Refused 42 0) lowest highest
-      unfolding refusal_number
-      limits_refused many_high q image t a passes at work =
-          subst (λ c. RangedAs c (Refused 42 0) lowest highest work)
-          (sym (crossed_refused registers t (integers_of lowest) (integers_of highest) work many_integers (integers_length highest ∙ many_high) (sym q))) (both_kept Refusals.CrossedLimits 42 0 work refl)
+    pub limits_refused : length lowest ≡ registers → length highest ≡ registers → limits_cross (integers_of lowest) (integers_of highest) ≡ true → e ≡ without_place Refusals.CrossedLimits →
+        TreeRanged registers words nodes lowest highest (Err e) lowest highest
+    limits_refused many_low many_high c q image t a passes at work =
+        subst (λ c. RangedAs c (Err e) lowest highest work)
+        (sym (crossed_refused registers t (integers_of lowest) (integers_of highest) work (integers_length lowest ∙ many_low) (integers_length highest ∙ many_high) c)) (both_kept Refusals.CrossedLimits 0 work e q)
 
   -- ---- The tree over limits that do not cross.
 
@@ -224,7 +201,7 @@ module _ (lowest highest : List ℕ) (low : WordsFit lowest) (high : WordsFit hi
           ≡ unless (tree_refusal (length lowest) t) (carried_ranges (length lowest) (carry_routine (length lowest) t (integers_of lowest) (integers_of highest)) (integers_of lowest) (integers_of highest) work) (integers_of lowest) (integers_of highest) work
       is_unless work = past_limits (length lowest) t (integers_of lowest) (integers_of highest) work (integers_length lowest) (integers_length highest ∙ as_many) ordered
 
-      module _ (at : RootAt words nodes t) (nothing_told : TreeRefused words (length lowest) nodes 0) where
+      module _ (at : RootAt words nodes t) (nothing_told : TreeRefused words (length lowest) nodes None) where
         untested : (has_loop t ≡ false) × (ltb most_steps (routine_need (length lowest) t).all_steps ≡ false) × (room_refusal (routine_need (length lowest) t).most ≡ none)
         untested = untold _ _ _ (nothing_told t at small)
 
@@ -239,22 +216,28 @@ module _ (lowest highest : List ℕ) (low : WordsFit lowest) (high : WordsFit hi
             ≡ carried_ranges (length lowest) (carry_routine (length lowest) t (integers_of lowest) (integers_of highest)) (integers_of lowest) (integers_of highest) work
         is_carried work = is_unless work ∙ none_told (has_loop t) (ltb most_steps (routine_need (length lowest) t).all_steps) (room_refusal (routine_need (length lowest) t).most) untested
           where
-            none_told : (loop many : Bool) (room : Option Reason) → (loop ≡ false) × (many ≡ false) × (room ≡ none) →
+            none_told : (loop many : Bool) (room : Rules.Option Reason) → (loop ≡ false) × (many ≡ false) × (room ≡ none) →
                 unless (cond loop (some HasLoop) (cond many (some TooManySteps) (room_refused room))) (carried_ranges (length lowest) (carry_routine (length lowest) t (integers_of lowest) (integers_of highest)) (integers_of lowest) (integers_of highest) work) (integers_of lowest) (integers_of highest) work
                 ≡ carried_ranges (length lowest) (carry_routine (length lowest) t (integers_of lowest) (integers_of highest)) (integers_of lowest) (integers_of highest) work
             none_told loop many room q = rw (q.0, q.1, q.2) refl
 
-    pub tree_refused : (n : ℕ) → TreeRefused words (length lowest) nodes n → (n ≡ 0 → ⊥) → TreeRanged (length lowest) words nodes lowest highest (Refused n 0) lowest highest
-    tree_refused n refusal d image t a passes at work =
-        subst (λ c. RangedAs c (Refused n 0) lowest highest work) (sym (is_unless image t a passes work)) (by _ (tree_refusal (length lowest) t) (refusal t at (small image t a passes)))
+    pub tree_refused : (x : Refusal) → TreeRefused words (length lowest) nodes (Some x) → (e : Refused) → e ≡ without_place x → TreeRanged (length lowest) words nodes lowest highest (Err e) lowest highest
+    tree_refused x refusal e p image t a passes at work =
+        subst (λ c. RangedAs c (Err e) lowest highest work) (sym (is_unless image t a passes work)) (by _ (tree_refusal (length lowest) t) (refusal t at (small image t a passes)))
       where
-        by : (c : RangesCalled) (o : Option Refusal) → n ≡ told o → RangedAs (unless o c (integers_of lowest) (integers_of highest) work) (Refused n 0) lowest highest work
-        by c none q = absurd (d q)
-        by c (some x) q = both_kept x n 0 work q
+        by : (c : RangesCalled) (o : Rules.Option Refusal) → Some x ≡ told o → RangedAs (unless o c (integers_of lowest) (integers_of highest) work) (Err e) lowest highest work
+        by c none q = absurd (never q)
+          where
+            never : Some x ≡ None → ⊥
+            never q = cc
+        by c (some y) q = both_kept y 0 work e (p ∙ ap without_place (same q))
+          where
+            same : Some x ≡ Some y → x ≡ y
+            same q = cc
 
     -- ---- Carried: the work words have changed behind the nodes.
 
-    module _ (words' : List ℕ) (nothing_told : TreeRefused words (length lowest) nodes 0) (kept : WritesEntriesFrom words words' 0) where
+    module _ (words' : List ℕ) (nothing_told : TreeRefused words (length lowest) nodes None) (kept : WritesEntriesFrom words words' 0) where
       moved : (t : Root) → RootAt words nodes t → RootAt words' nodes t
       moved t at = record { depth = at.depth; depth_low = at.depth_low; stored = same_root words words' (entries_nodes kept) at.stored }
 
@@ -262,73 +245,61 @@ module _ (lowest highest : List ℕ) (low : WordsFit lowest) (high : WordsFit hi
       routine_there s =
           (s.1, moved s.1 s.4, enough s.0 s.1 s.2 s.3 s.4 nothing_told, fits s.0 s.1 s.2 s.3 s.4 nothing_told)
 
-      module _ (lowest' highest' : List ℕ) (r : Outcome) (done : RoutineCarried words' nodes lowest highest lowest' highest' r) where
-        pub ends_answered : r ≡ Through → TreeRanged (length lowest) words nodes lowest highest Ends lowest' highest'
-        ends_answered q image t a passes at work =
-            subst (λ c. RangedAs c Ends lowest' highest' work) (sym (is_carried image t a passes at nothing_told work))
-            (by (carry_routine (length lowest) t (integers_of lowest) (integers_of highest)) (fits image t a passes at nothing_told) (done t (moved t at) (enough image t a passes at nothing_told)))
-          where
-            by : (c : Carrying CarriedCells) → (c ≡ unfit → ⊥) → CarriedAs c lowest highest lowest' highest' r →
-                RangedAs (carried_ranges (length lowest) c (integers_of lowest) (integers_of highest) work) Ends lowest' highest' work
-            by (carried K) fit ends =
-                record {
-                  answer_is = refl;
-                  lowest_are = ends.lowest_are;
-                  highest_are = ends.highest_are;
-                  lowest_hold = ap integers_of ends.lowest_are ∙ integers_back _ ends.lowest_ranged;
-                  highest_hold = ap integers_of ends.highest_are ∙ integers_back _ ends.highest_ranged;
-                  work_is = refl;
-                }
-            by (unsafe p) fit lists = absurd (both_outcomes r p q lists.is_unsafe)
-            by unfit fit lists = absurd (fit refl)
-
-        pub unsafe_answered : (p : ℕ) → r ≡ Unsafe p → TreeRanged (length lowest) words nodes lowest highest (Refused 44 p) lowest' highest'
-        unfolding refusal_number
-        unsafe_answered p q image t a passes at work =
-            subst (λ c. RangedAs c (Refused 44 p) lowest' highest' work) (sym (is_carried image t a passes at nothing_told work))
-            (by (carry_routine (length lowest) t (integers_of lowest) (integers_of highest)) (fits image t a passes at nothing_told) (done t (moved t at) (enough image t a passes at nothing_told)))
-          where
-            by : (c : Carrying CarriedCells) → (c ≡ unfit → ⊥) → CarriedAs c lowest highest lowest' highest' r →
-                RangedAs (carried_ranges (length lowest) c (integers_of lowest) (integers_of highest) work) (Refused 44 p) lowest' highest' work
-            by (carried K) fit ends = absurd (both_outcomes r p ends.went_through q)
-            by (unsafe o) fit lists =
-                record {
-                  answer_is = ap (Refused 44) (same_place r p o q lists.is_unsafe);
-                  lowest_are = lists.same_lowest ∙ sym (words_back lowest low);
-                  highest_are = lists.same_highest ∙ sym (words_back highest high);
-                  lowest_hold = ap integers_of lists.same_lowest;
-                  highest_hold = ap integers_of lists.same_highest;
-                  work_is = refl;
-                }
-            by unfit fit lists = absurd (fit refl)
+      pub carried_answered : (lowest' highest' : List ℕ) (r : Result (Unit {0}) Refused) → RoutineCarried words' nodes lowest highest lowest' highest' r → TreeRanged (length lowest) words nodes lowest highest r lowest' highest'
+      carried_answered lowest' highest' r done image t a passes at work =
+          subst (λ c. RangedAs c r lowest' highest' work) (sym (is_carried image t a passes at nothing_told work))
+          (by (carry_routine (length lowest) t (integers_of lowest) (integers_of highest)) (fits image t a passes at nothing_told) (done t (moved t at) (enough image t a passes at nothing_told)))
+        where
+          by : (c : Carrying CarriedCells) → (c ≡ unfit → ⊥) → CarriedAs c lowest highest lowest' highest' r →
+              RangedAs (carried_ranges (length lowest) c (integers_of lowest) (integers_of highest) work) r lowest' highest' work
+          by (carried K) fit ends =
+              record {
+                answer_is = ends.went_through;
+                lowest_are = ends.lowest_are;
+                highest_are = ends.highest_are;
+                lowest_hold = ap integers_of ends.lowest_are ∙ integers_back _ ends.lowest_ranged;
+                highest_hold = ap integers_of ends.highest_are ∙ integers_back _ ends.highest_ranged;
+                work_is = refl;
+              }
+          by (unsafe p) fit lists =
+              record {
+                answer_is = lists.is_unsafe;
+                lowest_are = lists.same_lowest ∙ sym (words_back lowest low);
+                highest_are = lists.same_highest ∙ sym (words_back highest high);
+                lowest_hold = ap integers_of lists.same_lowest;
+                highest_hold = ap integers_of lists.same_highest;
+                work_is = refl;
+              }
+          by unfit fit lists = absurd (fit refl)
 
   -- ---- An image.
 
-  module _ (image before after : List ℕ) (e : Loaded) (loaded : LoadAnswer (check_image image) e before after) where
-    pub passed_ranged : (number count nodes : ℕ) → e ≡ Load.Passed number count nodes → (r : Ranged) (lowest' highest' : List ℕ) → TreeRanged count after nodes lowest highest r lowest' highest' →
+  module _ (image before after : List ℕ) (e : Result Loaded Refused) (loaded : LoadAnswer (check_image image) e before after) where
+    pub passed_ranged : (l : Loaded) → e ≡ Ok l → (r : Result (Unit {0}) Refused) (lowest' highest' : List ℕ) → TreeRanged l.registers after l.nodes lowest highest r lowest' highest' →
         ImageRanged (check_image image) lowest highest r lowest' highest'
-    passed_ranged number count nodes g r lowest' highest' done work =
-        let l = loaded_passes image before after e loaded number count nodes g in
-        subst (λ c. RangedAs (ranges_checked c (integers_of lowest) (integers_of highest) work) r lowest' highest' work) (sym l.passes)
-        (done image l.tree l.root_is l.passes l.stands work)
+    passed_ranged l g r lowest' highest' done work =
+        let p = loaded_passes image before after e loaded l g in
+        subst (λ c. RangedAs (ranges_checked c (integers_of lowest) (integers_of highest) work) r lowest' highest' work) (sym p.passes)
+        (done image p.tree l.root p.passes p.stands work)
 
-    pub refusal_ranged : (x p : ℕ) → e ≡ Load.Refused x p → ImageRanged (check_image image) lowest highest (Refused x p) lowest highest
-    refusal_ranged x p g work =
-        let l = loaded_refused image before after e loaded x p g in
-        subst (λ c. RangedAs (ranges_checked c (integers_of lowest) (integers_of highest) work) (Refused x p) lowest highest work) (sym l.refused)
-        (both_kept l.refusal x p work l.number_is)
+    pub refusal_ranged : (x : Refused) → e ≡ Err x → (r : Result (Unit {0}) Refused) → r ≡ Err x → ImageRanged (check_image image) lowest highest r lowest highest
+    refusal_ranged x g r p work =
+        subst (λ c. RangedAs (ranges_checked c (integers_of lowest) (integers_of highest) work) r lowest highest work) (sym (loaded_refused image before after e loaded x g))
+        (subst (λ a. RangedAs (no_ranges x.refusal x.place (integers_of lowest) (integers_of highest) work) a lowest highest work) (sym p) (both_kept x.refusal x.place work x refl))
 
   -- ---- The call.
 
-  -- Under 8,192 work words: 22, and nothing is touched.
-  pub little_room : (image work : List ℕ) → length work < work_words → RangedAs (ranges_call image lowest highest work) (Refused 22 0) lowest highest work
-  unfolding ranges refusal_number
-  little_room image work h = rw (lt-ltb (length work) work_words h) (both_kept Refusals.Work 22 0 work refl)
+  -- Under 8,192 work words: nothing is touched.
+  pub little_room : (image work : List ℕ) (x : Refused) → (length work < work_words) × (x ≡ without_place Refusals.Work) → (r : Result (Unit {0}) Refused) → r ≡ Err x →
+      RangedAs (ranges_call image lowest highest work) r lowest highest work
+  unfolding ranges
+  little_room image work x h r p =
+      rw (lt-ltb (length work) work_words h.0)
+      (subst (λ a. RangedAs (no_ranges Refusals.Work 0 (integers_of lowest) (integers_of highest) work) a lowest highest work) (sym p) (both_kept Refusals.Work 0 work x h.1))
 
 -- A tree passed so stands in the work words.
-pub tree_loaded : (image before after : List ℕ) (e : Loaded) → LoadAnswer (check_image image) e before after → (number count nodes : ℕ) → e ≡ Load.Passed number count nodes → TreeStands count after nodes
-tree_loaded image before after e loaded number count nodes g =
-    let l = loaded_passes image before after e loaded number count nodes g in (image, l.tree, l.root_is, l.passes, l.stands)
+pub tree_loaded : (image before after : List ℕ) (e : Result Loaded Refused) → LoadAnswer (check_image image) e before after → (l : Loaded) → e ≡ Ok l → TreeStands l.registers after l.nodes
+tree_loaded image before after e loaded l g = let p = loaded_passes image before after e loaded l g in (image, p.tree, l.root, p.passes, p.stands)
 
 -- What the functions below ask of such a tree.
 pub small_tree : {count nodes : ℕ} {words : List ℕ} → TreeStands count words nodes → (count ≤ most_registers) × SmallTree words count nodes
@@ -338,7 +309,7 @@ small_tree {count} s = (((check_exact s.0 count s.1 s.2).0 s.3).shape.registers,
 pub stands_counted : (count registers : ℕ) (words : List ℕ) (nodes : ℕ) → count ≡ registers → TreeStands registers words nodes → TreeStands count words nodes
 stands_counted count registers words nodes q s = subst (λ n. TreeStands n words nodes) (sym q) s
 
-pub ranged_counted : (count registers : ℕ) (words : List ℕ) (nodes : ℕ) (lowest highest : List ℕ) (r : Ranged) (lowest' highest' : List ℕ) → count ≡ registers →
+pub ranged_counted : (count registers : ℕ) (words : List ℕ) (nodes : ℕ) (lowest highest : List ℕ) (r : Result (Unit {0}) Refused) (lowest' highest' : List ℕ) → count ≡ registers →
     TreeRanged count words nodes lowest highest r lowest' highest' → TreeRanged registers words nodes lowest highest r lowest' highest'
 ranged_counted count registers words nodes lowest highest r lowest' highest' q done = subst (λ n. TreeRanged n words nodes lowest highest r lowest' highest') q done
 
@@ -348,7 +319,7 @@ beyond_regions {a} {b} k = record { same_length = k.same_length; same_beyond = d
 pub none_touched : (work : List ℕ) → KeptBeyond work_words work work
 none_touched work = record { same_length = refl; same_beyond = refl }
 
-pub answered : (image lowest highest lowest' highest' work after last : List ℕ) (r : Ranged) → work_words ≤ length work → ImageRanged (check_image image) lowest highest r lowest' highest' →
+pub answered : (image lowest highest lowest' highest' work after last : List ℕ) (r : Result (Unit {0}) Refused) → work_words ≤ length work → ImageRanged (check_image image) lowest highest r lowest' highest' →
     KeptBeyond work_words work after → last ≡ cleared after → RangedAs (ranges_call image lowest highest work) r lowest' highest' last
 unfolding ranges
 answered image lowest highest lowest' highest' work after last r h done b q =

@@ -1,11 +1,14 @@
 -- Demand 3 for what `run` runs: which reached state its reply and its registers are taken from, with the whole-run claim about every
 -- state that the run reaches; what its marks are, and that they are within the needs; and that from starts within limits for which `ranges` gives
 -- ends it stays within them. `Delivered` and `DeliveredRanges` have the proofs.
-use Rattle.std.specs.Prelude.{ℕ, ◌<◌, ◌≤◌, ◌≡◌, List, [], ℤ, length, get_or}
+use Rattle.std.specs.Prelude.{ℕ, ◌<◌, ◌≤◌, ◌≡◌, List, [], ℤ, length, get_or, Result, Ok, Err}
 use Rattle.rules.specs.paper.Tree.{Root}
-use Rattle.rules.specs.paper.Refusals.{Reason, Withheld}
+use Rattle.rules.specs.paper.Refusals.{refusal_number}
+use Rattle.rules.specs.declared.refusals.Reason.{Reason}
+use Rattle.rules.specs.declared.refusals.Refusal.TheVariants.{Withheld}
+use Rattle.rules.specs.declared.refusals.Refused.{Refused}
 use Rattle.rules.specs.paper.Limits.{most_budget, work_words}
-use Rattle.rules.specs.paper.Checker.{Passed}
+use Rattle.rules.specs.declared.kinds.Passed.{Passed}
 use Rattle.rules.specs.paper.States.{State, control_of, values_of, store_of}
 use Rattle.rules.specs.paper.Rules.{Rule, Effect, Applies}
 use Rattle.rules.specs.paper.Engine.{check_image, passed, start, Answer, outcome, refused, outcome_of, registers_from, Called, engine, needs}
@@ -21,12 +24,9 @@ use Rattle.calls.specs.Needs.{needs_reply}
 use Rattle.calls.specs.Ranges.{ranges_call, RangedAs}
 use Rattle.automaton.specs.Runs.{marks_of}
 use Rattle.automaton.specs.declared.meter.HighMarks.{HighMarks}
+use Rattle.calls.specs.declared.Outcome.{Outcome}
 use Rattle.calls.specs.declared.Ran.{Ran}
-use Rattle.calls.specs.declared.Ran.TheVariants.{Number, Truth, Location, Nothing}
 use Rattle.calls.specs.declared.Estimated.{Estimated}
-use Rattle.calls.specs.declared.Estimated.TheVariants.{Figures, Open}
-use Rattle.calls.specs.declared.Ranged.{Ranged}
-use Rattle.calls.specs.declared.Ranged.TheVariants.{Ends}
 
 -- The answer that a state with these steps made comes to: control is empty, and what is left is the outcome; or the step is withheld
 -- for a reason that holds, the first in the order.
@@ -79,36 +79,25 @@ RunsAreWhole =
 
 -- ---- The marks and the needs.
 
-abbrev pub marks_in : Ran → HighMarks
-marks_in (Number w k h) = h
-marks_in (Truth w k h) = h
-marks_in (Location w k h) = h
-marks_in (Nothing k h) = h
-marks_in (Ran.Refused x p k h) = h
-
 -- No mark is above its figure, where there are figures.
-abbrev pub MarksWithin : HighMarks → Estimated → Type 0
-MarksWithin h (Figures k v c b s) = (h.control ≤ k) × (h.values ≤ v) × (h.cells ≤ c) × (h.bindings ≤ b)
-MarksWithin h (Open k v c b) = (h.control ≤ k) × (h.values ≤ v) × (h.cells ≤ c) × (h.bindings ≤ b)
-MarksWithin h (Estimated.Refused x p) = Unit {0}
+abbrev pub MarksWithin : HighMarks → Result Estimated Refused → Type 0
+MarksWithin h (Ok e) = (h.control ≤ e.control) × (h.values ≤ e.values) × (h.cells ≤ e.cells) × (h.bindings ≤ e.bindings)
+MarksWithin h (Err r) = Unit {0}
 
 -- `answer` and `estimated` stand for what `run` and `needs` answer for one image, which their contracts give by the two equations; whatever else
 -- they are called with.
 abbrev pub RunsWithinNeeds : Type 0
 RunsWithinNeeds =
-    (image registers : List ℕ) (budget : ℕ) (work lent : List ℕ) (answer : Ran) (estimated : Estimated) →
+    (image registers : List ℕ) (budget : ℕ) (work lent : List ℕ) (answer : Ran) (estimated : Result Estimated Refused) →
     answer ≡ run_reply (run_call image registers budget work).reply → estimated ≡ needs_reply (needs image lent).answer →
-    ((i : ℕ) → i < length registers → get_or registers i 0 < 18446744073709551616) → MarksWithin (marks_in answer) estimated
+    ((i : ℕ) → i < length registers → get_or registers i 0 < 18446744073709551616) → MarksWithin answer.marks estimated
 
 -- ---- The runs and the ranges.
 
 -- None of 31 to 36 is answered; and where the run has an outcome this holds.
-abbrev pub OutcomeHas : Ran → Type 0 → Type 0
-OutcomeHas (Number w k h) Fact = Fact
-OutcomeHas (Truth w k h) Fact = Fact
-OutcomeHas (Location w k h) Fact = Fact
-OutcomeHas (Nothing k h) Fact = Fact
-OutcomeHas (Ran.Refused x p k h) Fact = 31 ≤ x → x ≤ 36 → ⊥
+abbrev pub OutcomeHas : Result Outcome Refused → Type 0 → Type 0
+OutcomeHas (Ok o) Fact = Fact
+OutcomeHas (Err r) Fact = 31 ≤ refusal_number r.refusal → refusal_number r.refusal ≤ 36 → ⊥
 
 -- Each word of the middle list holds an integer within the ends that the others hold; there are as many of each.
 abbrev pub WordsWithin : (lowest words highest : List ℕ) → Type 0
@@ -119,8 +108,8 @@ WordsWithin lowest words highest = Within (integers_of lowest) (integers_of word
 -- and where the run has an outcome each register lies within its ends.
 abbrev pub RunsWithinRanges : Type 0
 RunsWithinRanges =
-    (image lowest highest lent : List ℕ) (ranged : Ranged) (lowest_ends highest_ends lent_left : List ℕ) →
-    RangedAs (ranges_call image lowest highest lent) ranged lowest_ends highest_ends lent_left → ranged ≡ Ends →
+    (image lowest highest lent : List ℕ) (ranged : Result (Unit {0}) Refused) (lowest_ends highest_ends lent_left : List ℕ) →
+    RangedAs (ranges_call image lowest highest lent) ranged lowest_ends highest_ends lent_left → ranged ≡ Ok tt →
     (registers : List ℕ) → WordsWithin lowest registers highest →
     (budget : ℕ) (work : List ℕ) (answer : Ran) (last work_left : List ℕ) → RanAs (run_call image registers budget work) answer last work_left →
-    OutcomeHas answer (WordsWithin lowest_ends last highest_ends)
+    OutcomeHas answer.outcome (WordsWithin lowest_ends last highest_ends)

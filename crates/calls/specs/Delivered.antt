@@ -8,7 +8,7 @@ use Rattle.rules.specs.paper.Run.{Ending, ended, stopped, run, lost}
 use Rattle.rules.specs.paper.HighMarks.{high_marks}
 use Rattle.rules.proofs.needs.HighMarks.{high_marks_are_most, replies_within_needs}
 use Rattle.rules.specs.paper.Needs.{Figure, control, values, cells, bindings, sizes}
-use Rattle.rules.specs.paper.Engine.{start, cleared, number, truth_of, cell, nothing, Answer, outcome, refused, finish, engine, MostSteps, given, left_open, NeedsAnswer, figures, no_figures, needs}
+use Rattle.rules.specs.paper.Engine.{start, cleared, finish, engine, Answer, MostSteps, NeedsAnswer, figures, no_figures, needs}
 use Rattle.rules.specs.claims.Claim.{AllInRange}
 use Rattle.rules.specs.claims.Ends.{EndsWell, normally, withheld_for}
 use Rattle.rules.proofs.running.WholeRun.{whole_run}
@@ -19,7 +19,7 @@ use Rattle.automaton.specs.Runs.{marks_of}
 use Rattle.automaton.specs.declared.meter.HighMarks.{HighMarks}
 use Rattle.calls.specs.Needs.{needs_reply}
 use Rattle.calls.specs.Runs.{ran, run_call}
-use Rattle.calls.specs.Claim.{at_its_end, withheld_there, Delivered, EngineDelivers, RunsAreWhole, marks_in, MarksWithin, RunsWithinNeeds}
+use Rattle.calls.specs.Claim.{at_its_end, withheld_there, Delivered, EngineDelivers, RunsAreWhole, MarksWithin, RunsWithinNeeds}
 
 -- Words hold integers of the range.
 pub all_in_range : (ws : List ℕ) → ((i : ℕ) → i < length ws → get_or ws i 0 < 18446744073709551616) → AllInRange (integers_of ws)
@@ -58,24 +58,17 @@ run_is_whole image registers budget work answer last p q t a passes low few room
       claimed = d.claimed;
     }
 
--- The marks that an answer has are those of the reply.
-marks_of_reply : (a : Answer) (steps : ℕ) (h : HighMarks) → marks_in (ran a steps h) ≡ h
-marks_of_reply (outcome (number z)) k h = refl
-marks_of_reply (outcome (truth_of b)) k h = refl
-marks_of_reply (outcome (cell l)) k h = refl
-marks_of_reply (outcome nothing) k h = refl
-marks_of_reply (refused x p) k h = refl
+marks_of_reply : (a : Answer) (steps : ℕ) (h : HighMarks) → (ran a steps h).marks ≡ h
+marks_of_reply a k h = refl
 
 pub runs_within_needs : RunsWithinNeeds
 runs_within_needs image registers budget work lent answer estimated p q low =
-    subst (λ e. MarksWithin (marks_in answer) e) (sym q)
-    (subst (λ h. MarksWithin h (needs_reply (needs image lent).answer)) (sym (ap marks_in p ∙ marks_of_reply (run_call image registers budget work).reply.answer (run_call image registers budget work).reply.steps (marks_of (run_call image registers budget work).reply.most)))
-    (by (needs image lent).answer refl))
+    subst (λ e. MarksWithin answer.marks e) (sym q)
+    (subst (λ h. MarksWithin h (needs_reply (needs image lent).answer)) (sym (ap (λ a. a.marks) p)) (by (needs image lent).answer refl))
   where
     within : (k v c b : ℕ) (s : MostSteps) → (needs image lent).answer ≡ figures k v c b s → (f : Figure) → (run_call image registers budget work).reply.most f ≤ sizes k v c b f
     within k v c b s e f = replies_within_needs image lent k v c b s e (integers_of registers) (all_in_range registers low) budget work f
 
     by : (n : NeedsAnswer) → (needs image lent).answer ≡ n → MarksWithin (marks_of (run_call image registers budget work).reply.most) (needs_reply n)
-    by (figures k v c b (given s)) e = (within k v c b (given s) e control, within k v c b (given s) e values, within k v c b (given s) e cells, within k v c b (given s) e bindings)
-    by (figures k v c b left_open) e = (within k v c b left_open e control, within k v c b left_open e values, within k v c b left_open e cells, within k v c b left_open e bindings)
+    by (figures k v c b s) e = (within k v c b s e control, within k v c b s e values, within k v c b s e cells, within k v c b s e bindings)
     by (no_figures x r) e = tt

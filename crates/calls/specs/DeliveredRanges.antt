@@ -1,9 +1,13 @@
 -- `runs_within_ranges`, from the theorem of the rules about the replies: a run from starts within limits for which `ranges` gives ends.
-use Rattle.std.specs.Prelude.{ℕ, ◌-◌, ◌^◌, ◌≤◌, ◌≡◌, refl, List, [], ◌∷◌, T, ℤ}
+use Rattle.std.specs.Prelude.{ℕ, ◌-◌, ◌^◌, ◌≤◌, ◌≡◌, refl, List, [], ◌∷◌, T, ℤ, Result, Ok}
 use Rattle.std.proofs.Common.{sym, ap, ◌∙◌, subst, arith, lt→ltb}
-use Rattle.rules.specs.paper.Refusals.{Reason, Steps, Refusal, Length, Size, Kind, Operand, Tree, Depth, Unbound, Mistyped, Repeated, NotAssignable, BadCall, Registers, Budget, Work, Withheld, TooManySteps, ShortPage, CrossedLimits, HasLoop, UnsafeArithmetic, reason_number, refusal_number}
+use Rattle.rules.specs.paper.Refusals.{reason_number, refusal_number}
+use Rattle.rules.specs.declared.refusals.Reason.{Reason}
+use Rattle.rules.specs.declared.refusals.Reason.TheVariants.{Steps}
+use Rattle.rules.specs.declared.refusals.Refusal.{Refusal}
+use Rattle.rules.specs.declared.refusals.Refusal.TheVariants.{Length, Size, Kind, Operand, Tree, Depth, Unbound, Mistyped, Repeated, NotAssignable, BadCall, Registers, Budget, Work, Withheld, TooManySteps, ShortPage, CrossedLimits, HasLoop, UnsafeArithmetic}
 use Rattle.rules.specs.paper.Integers.{in_range}
-use Rattle.rules.specs.paper.Engine.{number, truth_of, cell, nothing, Outcome, Answer, outcome, refused}
+use Rattle.rules.specs.paper.Engine.{Outcome, Answer, outcome, refused}
 use Rattle.rules.specs.paper.Ranges.{RangesAnswer, ends_given, no_ends}
 use Rattle.rules.specs.claims.Claim.{AllInRange}
 use Rattle.rules.specs.claims.Ranges.{Within}
@@ -11,13 +15,10 @@ use Rattle.rules.proofs.ranges.RootRuns.{starts_in_range}
 use Rattle.rules.proofs.ranges.RangesHold.{replies_within_ranges}
 use Rattle.integers.specs.Words.{integer_of, word_of, integers_of, words_of}
 use Rattle.integers.specs.WordLaws.{by_sign, integer_low, integer_high, integer_of_word}
-use Rattle.automaton.specs.Runs.{marks_of}
-use Rattle.automaton.specs.declared.meter.HighMarks.{HighMarks}
-use Rattle.calls.specs.Runs.{ran, run_call}
+use Rattle.calls.specs.Runs.{outcome_reply, run_call}
 use Rattle.calls.specs.Ranges.{ranges_reply, ranges_call}
 use Rattle.calls.specs.Claim.{OutcomeHas, WordsWithin, RunsWithinRanges}
-use Rattle.calls.specs.declared.Ranged.{Ranged}
-use Rattle.calls.specs.declared.Ranged.TheVariants.{Ends, Refused}
+use Rattle.rules.specs.declared.refusals.Refused.{Refused}
 
 -- Whatever a word is, the integer it holds is one of the range.
 word_in_range : (w : ℕ) → T (in_range (integer_of w))
@@ -39,12 +40,9 @@ integers_back (z ∷ zs) ranged = two_parts (integer_of_word z ranged.0) (intege
     two_parts p q = cc
 
 -- Ends are answered where they are given.
-given_ends : (a : RangesAnswer) (r : Ranged) → r ≡ ranges_reply a → r ≡ Ends → a ≡ ends_given
+given_ends : (a : RangesAnswer) (r : Result (Unit {0}) Refused) → r ≡ ranges_reply a → r ≡ Ok tt → a ≡ ends_given
 given_ends ends_given r p q = refl
-given_ends (no_ends x o) r p q = absurd (never r p q)
-  where
-    never : (r : Ranged) → r ≡ Refused (refusal_number x) o → r ≡ Ends → ⊥
-    never r g h = let z : ◌≡◌ {A = ℕ} 0 1 = cc in omega arith
+given_ends (no_ends x o) r p q = cc
 
 -- 31 to 36 are reasons, and none of them is the budget.
 no_step : (x : Refusal) → ((y : Reason) → x ≡ Withheld y → y ≡ Steps) → 31 ≤ refusal_number x → refusal_number x ≤ 36 → ⊥
@@ -74,12 +72,9 @@ no_step HasLoop only l h = omega (arith, h)
 no_step UnsafeArithmetic only l h = omega (arith, h)
 
 -- What an answer of the definition says of the code's.
-answered : (a : Answer) (steps : ℕ) (marks : HighMarks) (Fact : Type 0) → ((x : Reason) (p : ℕ) → a ≡ refused (Withheld x) p → x ≡ Steps) → ((o : Outcome) → a ≡ outcome o → Fact) → OutcomeHas (ran a steps marks) Fact
-answered (outcome (number z)) k h Fact only fact = fact (number z) refl
-answered (outcome (truth_of b)) k h Fact only fact = fact (truth_of b) refl
-answered (outcome (cell l)) k h Fact only fact = fact (cell l) refl
-answered (outcome nothing) k h Fact only fact = fact nothing refl
-answered (refused x p) k h Fact only fact = no_step x (λ y q. only y p (ap (λ z. refused z p) q))
+answered : (a : Answer) (Fact : Type 0) → ((x : Reason) (p : ℕ) → a ≡ refused (Withheld x) p → x ≡ Steps) → ((o : Outcome) → a ≡ outcome o → Fact) → OutcomeHas (outcome_reply a) Fact
+answered (outcome o) Fact only fact = fact o refl
+answered (refused x p) Fact only fact = no_step x (λ y q. only y p (ap (λ z. refused z p) q))
 
 -- The ends and the registers, each as its words hold them.
 held_within : {ls zs hs : List ℤ} (lowest last highest : List ℕ) → integers_of lowest ≡ ls → last ≡ words_of zs → integers_of highest ≡ hs → Within ls zs hs → WordsWithin lowest last highest
@@ -91,6 +86,6 @@ pub runs_within_ranges : RunsWithinRanges
 runs_within_ranges image lowest highest lent ranged lowest_ends highest_ends lent_left left given registers starts budget work answer last work_left ran_as =
     let ends = given_ends (ranges_call image lowest highest lent).answer ranged left.answer_is given in
     let replies = replies_within_ranges image (integers_of lowest) (integers_of highest) lent (words_in_range lowest) (words_in_range highest) ends (integers_of registers) starts budget work in
-    subst (λ r. OutcomeHas r (WordsWithin lowest_ends last highest_ends)) (sym ran_as.answer_is)
-    (answered (run_call image registers budget work).reply.answer (run_call image registers budget work).reply.steps (marks_of (run_call image registers budget work).reply.most) (WordsWithin lowest_ends last highest_ends) replies.0
+    subst (λ r. OutcomeHas r.outcome (WordsWithin lowest_ends last highest_ends)) (sym ran_as.answer_is)
+    (answered (run_call image registers budget work).reply.answer (WordsWithin lowest_ends last highest_ends) replies.0
     (λ o q. held_within lowest_ends last highest_ends left.lowest_hold ran_as.registers_are left.highest_hold (replies.1 o q)))

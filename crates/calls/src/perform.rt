@@ -1,19 +1,19 @@
 // The run of an image: its tree is run on the automaton over the registers.
 ghost use Rattle.std.specs.Prelude.{◌≡◌, ◌≤◌, length};
 ghost use Rattle.rules.specs.paper.Limits.{work_words};
-ghost use Rattle.rules.specs.paper.Checker.{expression_of_code, a_command};
 ghost use Rattle.rules.specs.paper.States.{Value};
-ghost use Rattle.calls.specs.Runs.{value_ran, TreeStands, TreeStandsAs, ExecutesTree, RunsTreeAs, Performed, run_of_image, LeftAs};
+ghost use Rattle.rules.specs.paper.Engine.{Answer};
+ghost use Rattle.calls.specs.Runs.{value_outcome, outcome_reply, TreeStands, TreeStandsAs, ExecutesTree, RunsTreeAs, Performed, run_of_image, LeftAs, AnswersAs};
 
-use crate::Ran;
-use crate::refusals::REFUSED_REGISTERS;
+use crate::refused::{nowhere, unstarted};
+use crate::{Outcome, Ran};
 use automaton::Ending;
 use automaton::ends::{take_registers, value_left};
-use automaton::meter::{HighMarks, no_marks};
 use automaton::start::start;
-use checker::COMMAND;
-use loader::{Loaded, load};
+use loader::load;
 use machine::Machine;
+use rules::kinds::Passed;
+use rules::refusals::{Reason, Refusal, Refused};
 
 // The tree of so many nodes that stands in the work words is run from the registers, which take what it leaves in them.
 fn execute(registers: &mut [u64], budget: u64, work: &mut [u64], nodes: usize) -> Ending
@@ -27,63 +27,49 @@ fn execute(registers: &mut [u64], budget: u64, work: &mut [u64], nodes: usize) -
     ending
 }
 
-// The value that a run left, by the root's code.
-fn result(work: &[u64], last: Machine, code: usize, steps: u64, marks: HighMarks) -> Ran
+// What a run left that ended, by the code of the root.
+fn value_outcome(work: &[u64], last: Machine, code: usize) -> Outcome
     requires { (v : Value) × LeftAs work.now last code v }
-    ensures { (v : Value) → LeftAs work.now last code v → result ≡ value_ran v steps marks }
+    ensures { (v : Value) → LeftAs work.now last code v → result ≡ value_outcome v }
 {
     let word = value_left(work, last);
-    if code == 0 {
-        return Ran::Number(word, steps, marks);
-    }
-    if code == 1 {
-        return Ran::Truth(word, steps, marks);
-    }
-    Ran::Location(word, steps, marks)
-}
-
-// An expression of this code.
-fn run_expression(
-    registers: &mut [u64],
-    budget: u64,
-    work: &mut [u64],
-    nodes: usize,
-    code: usize,
-) -> Ran
-    requires work_words_in_bounds { work_words ≤ length work.old }
-    requires tree_stands_as { TreeStandsAs (length registers.old) (expression_of_code code) work.old nodes }
-    ensures { RunsTreeAs (expression_of_code code) registers.old budget nodes result registers.new work.old work.new }
-{
-    let ending = execute(registers, budget, work, nodes);
-    match ending {
-        Ending::Ended(steps, last) => {
-            let machine = last.machine;
-            let marks = last.marks;
-            result(work, machine, code, steps, marks)
-        }
-        Ending::Stopped(reason, steps, last) => {
-            let marks = last.marks;
-            Ran::Refused(reason, 0, steps, marks)
-        }
+    match code {
+        0 => Outcome::Number(word),
+        1 => Outcome::Truth(word == 1),
+        _ => Outcome::Location(word),
     }
 }
 
-// A command; with no node, one with no rule to apply.
-fn run_command(registers: &mut [u64], budget: u64, work: &mut [u64], nodes: usize) -> Ran
+// The outcome of the run of a tree with this root that ended so, with this last state: a command, and no node, leave nothing.
+fn outcome(
+    work: &[u64],
+    ended: Result<(), Reason>,
+    last: Machine,
+    root: Passed,
+) -> Result<Outcome, Refused>
+    requires { (what : Answer) × AnswersAs root work.now last ended what }
+    ensures { (what : Answer) → AnswersAs root work.now last ended what → result ≡ outcome_reply what }
+{
+    if let Err(reason) = ended {
+        return Err(nowhere(Refusal::Withheld(reason)));
+    }
+    match root {
+        Passed::Expression(code) => Ok(value_outcome(work, last, code)),
+        Passed::Command => Ok(Outcome::Nothing),
+    }
+}
+
+// The run of the tree of so many nodes that stands in the work words, and has this root.
+fn run_tree(registers: &mut [u64], budget: u64, work: &mut [u64], nodes: usize, root: Passed) -> Ran
     requires work_words_in_bounds { work_words ≤ length work.old }
-    requires tree_stands_as { TreeStandsAs (length registers.old) a_command work.old nodes }
-    ensures { RunsTreeAs a_command registers.old budget nodes result registers.new work.old work.new }
+    requires tree_stands_as { TreeStandsAs (length registers.old) root work.old nodes }
+    ensures { RunsTreeAs root registers.old budget nodes result registers.new work.old work.new }
 {
     let ending = execute(registers, budget, work, nodes);
-    match ending {
-        Ending::Ended(steps, last) => {
-            let marks = last.marks;
-            Ran::Nothing(steps, marks)
-        }
-        Ending::Stopped(reason, steps, last) => {
-            let marks = last.marks;
-            Ran::Refused(reason, 0, steps, marks)
-        }
+    Ran {
+        outcome: outcome(work, ending.outcome, ending.record.machine, root),
+        steps: ending.steps,
+        marks: ending.record.marks,
     }
 }
 
@@ -92,17 +78,13 @@ pub(crate) fn run_image(image: &[u32], registers: &mut [u64], budget: u64, work:
     requires { work_words ≤ length work.old }
     ensures { Performed (run_of_image image.now registers.old budget) result registers.new work.old work.new }
 {
-    let loaded = load(image, work);
-    match loaded {
-        Loaded::Passed(number, count, nodes) => {
-            if registers.len() != count {
-                return Ran::Refused(REFUSED_REGISTERS, 0, 0, no_marks());
+    match load(image, work) {
+        Err(refused) => unstarted(refused),
+        Ok(loaded) => {
+            if registers.len() != loaded.registers {
+                return unstarted(nowhere(Refusal::Registers));
             }
-            if number == COMMAND {
-                return run_command(registers, budget, work, nodes);
-            }
-            run_expression(registers, budget, work, nodes, number)
+            run_tree(registers, budget, work, loaded.nodes, loaded.root)
         }
-        Loaded::Refused(number, place) => Ran::Refused(number, place, 0, no_marks()),
     }
 }

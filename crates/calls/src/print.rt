@@ -8,33 +8,30 @@ ghost use Rattle.reader.specs.Stored.{RootAt};
 ghost use Rattle.page.specs.Call.{print_checked};
 ghost use Rattle.calls.specs.Page.{TreePrinted, PrintedAs};
 
-use crate::Printed;
-use crate::refusals::REFUSED_PAGE;
-use loader::{Loaded, load};
+use crate::refused::nowhere;
+use loader::load;
 use page::{LINE_BYTES, put_page};
+use rules::refusals::{Refusal, Refused};
 
 // The page of the tree of so many nodes that stands in the work words; a page that is too short is left as it is.
-fn print_tree(page: &mut [u8], work: &[u64], nodes: usize) -> Printed
+fn print_tree(page: &mut [u8], work: &[u64], nodes: usize) -> Result<(), Refused>
     requires work_words_in_bounds { work_words ≤ length work.now }
     requires root_at { (t : Root) × RootAt work.now nodes t }
     ensures { TreePrinted work.now nodes result page.old page.new }
 {
     if page.len() < LINE_BYTES * nodes {
-        return Printed::Refused(REFUSED_PAGE, 0);
+        return Err(nowhere(Refusal::ShortPage));
     }
     put_page(page, work, nodes);
-    Printed::Whole
+    Ok(())
 }
 
 // The image, then its page. The first 8,192 work words are spoilt.
-pub(crate) fn print_image(image: &[u32], page: &mut [u8], work: &mut [u64]) -> Printed
+pub(crate) fn print_image(image: &[u32], page: &mut [u8], work: &mut [u64]) -> Result<(), Refused>
     requires { work_words ≤ length work.old }
     ensures printed_as { PrintedAs (print_checked (check_image image.now) page.old) result page.new }
     ensures kept_beyond { KeptBeyond work_words work.old work.new }
 {
-    let loaded = load(image, work);
-    match loaded {
-        Loaded::Passed(number, registers, nodes) => print_tree(page, work, nodes),
-        Loaded::Refused(number, place) => Printed::Refused(number, place),
-    }
+    let loaded = load(image, work)?;
+    print_tree(page, work, loaded.nodes)
 }

@@ -2,6 +2,8 @@
 use Prim.Native.Nat.{ℕ, suc, ◌+◌, ◌-◌, ◌%◌, ◌<◌, ◌≤◌}
 use mathlib.Core.Path.{◌≡◌, refl, sym, ap, ◌∙◌, subst}
 use mathlib.Core.List.{List, [], ◌∷◌}
+use Rattle.std.specs.Prelude.{Ok, Err}
+use Rattle.rules.specs.declared.refusals.Refused.{Refused}
 use mathlib.Core.Option.{some-injective}
 use native.Mathlib.Omega.{arith}
 use Rattle.rules.proofs.Basics.{missing}
@@ -18,16 +20,14 @@ use Rattle.reader.specs.StoredLaws.{same_expression, same_formals}
 use Rattle.reader.proofs.StandingLaws.{after_node, operand_name, expression_low, expression_end}
 use Rattle.intervals.specs.Values.{HoldsValue, ExpressedAs}
 use Rattle.intervals.specs.declared.values.Value.{Value}
-use Rattle.intervals.specs.declared.values.Expressed.{Expressed}
 use Rattle.carrying.specs.Layout.{row_links, row_lows, row_highs, sorts, row_value}
 use Rattle.carrying.specs.States.{valued, needing, NamesAt, one_value, Sees}
 use Rattle.carrying.specs.Frames.{Keeps, KeepsCells, PutRow}
 use Rattle.carrying.specs.Answers.{Fits, ExpressionThere, SomeExpression, ExpressionCarried, ValuesAt, no_values, one_value_more, ActualsThere, SomeActuals, ActualsAs, ActualsCarried, FormalsThere, SomeFormals, FormalsNamed}
-use Rattle.carrying.specs.declared.Outcome.{Outcome}
-use Rattle.carrying.specs.declared.Outcome.TheVariants.{Through, Unsafe}
-use Rattle.carrying.proofs.FrameLaws.{row_keeps, row_keeps_cells, keeps_fewer, keeps_then, keeps_cells_then, kept_nodes}
+use Rattle.carrying.proofs.ResultLaws.{ok_not_err, same_refusal}
+use Rattle.carrying.proofs.FrameLaws.{keeps_all, keeps_all_cells, keeps_fewer, keeps_then, keeps_cells_then, row_keeps, row_keeps_cells, kept_nodes}
 use Rattle.carrying.proofs.StateLaws.{names_kept, row_there, row_is_value, sort_small, holds_same, cells_kept}
-use Rattle.carrying.proofs.DeclarationLaws.{first_fits, answer_held, answer_no_value, answer_unsafe, answer_place, value_held}
+use Rattle.carrying.proofs.DeclarationLaws.{first_fits, answer_held, value_held}
 
 -- ---- Values in their rows.
 
@@ -62,7 +62,7 @@ sees_kept kept cells h sees =
 -- ---- Actuals.
 
 module _ (words : List ℕ) (environment node left row : ℕ) where
-  pub no_actual_left : left ≡ 0 → ActualsCarried words words environment node left row Through
+  pub no_actual_left : left ≡ 0 → ActualsCarried words words environment node left row (Ok tt)
   unfolding carry_actuals
   no_actual_left z [] A K there = (refl, sym z, no_values)
   no_actual_left z (e ∷ es) A K there = absurd (omega (arith, z, there.as_many))
@@ -117,78 +117,73 @@ module _ (words : List ℕ) (environment node left row : ℕ) where
       unfolding carry_actuals
       later_there s = split s (λ e es A K first there fits. (es, A, K, later_of first, first_fits (carry_actuals A K es) _ fits))
 
-      module _ (words₁ : List ℕ) (r : Outcome) (carries : ActualsCarried words words₁ environment after (left - 1) (row + 1) r) where
-        -- A later one is unsafe.
-        pub later_unsafe : (place : ℕ) → r ≡ Unsafe place → ActualsCarried words words₁ environment node left row r
+      -- A later one is unsafe.
+      pub later_unsafe : (words₁ : List ℕ) (refused : Refused) → ActualsCarried words words₁ environment after (left - 1) (row + 1) (Err refused) → ActualsCarried words words₁ environment node left row (Err refused)
+      unfolding carry_actuals
+      later_unsafe words₁ refused carries [] A K there = absurd (some_left (sym there.as_many))
+      later_unsafe words₁ refused carries (e ∷ es) A K there = by (carry_actuals A K es) (carries es A K (later_of (first_of there)))
+        where
+          by : (m : Carrying (List Carried)) → ActualsAs words₁ (left - 1) (row + 1) m (Err refused) → ActualsAs words₁ left row (m >>= λ vs. carry_expression A K e >>= λ v. carried (v ∷ vs)) (Err refused)
+          by (carried vs) (p, many, values) = ok_not_err (sym p)
+          by (unsafe p) answer = answer
+          by unfit answer = tt
+
+      module _ (words₁ : List ℕ) (carries : ActualsCarried words words₁ environment after (left - 1) (row + 1) (Ok tt)) (kept : Keeps words words₁ (row + 1) most_cells) (cells : KeepsCells words words₁ most_cells) where
+        seen_first : {e : Expression} {es : List Expression} {A : CarriedNames} {K : CarriedCells} → First e es A K → ActualsThere words environment node left row (e ∷ es) A K →
+            ExpressionThere words₁ environment node e A K
+        seen_first first there =
+            record { depth = first.depth; next = first.end; tree = same_expression words words₁ (kept_nodes kept) first.tree; sees = sees_kept kept cells (omega (arith, there.pointed)) there.sees }
+
+        -- The later ones are carried, so that this one's carrying is fit.
+        pub first_there : SomeActuals words environment node left row → SomeExpression words₁ environment node
         unfolding carry_actuals
-        later_unsafe place q [] A K there = absurd (some_left (sym there.as_many))
-        later_unsafe place q (e ∷ es) A K there = by (carry_actuals A K es) (carries es A K (later_of (first_of there)))
+        first_there s = split s (λ e es A K first there fits. (e, A, K, seen_first first there, by e A K (carry_actuals A K es) (carries es A K (later_of first)) fits))
           where
-            by : (m : Carrying (List Carried)) → ActualsAs words₁ (left - 1) (row + 1) m r → ActualsAs words₁ left row (m >>= λ vs. carry_expression A K e >>= λ v. carried (v ∷ vs)) r
-            by (carried vs) (p, many, values) = let clash : ◌≡◌ {A = ℕ} 0 1 = cc in absurd (omega arith)
-            by (unsafe p) answer = answer
-            by unfit answer = tt
+            by : (e : Expression) (A : CarriedNames) (K : CarriedCells) (m : Carrying (List Carried)) → ActualsAs words₁ (left - 1) (row + 1) m (Ok tt) →
+                Fits {A = List Carried} (m >>= λ vs. carry_expression A K e >>= λ v. carried (v ∷ vs)) → Fits (carry_expression A K e)
+            by e A K (carried vs) answer fits = first_fits (carry_expression A K e) _ fits
+            by e A K (unsafe p) answer fits = ok_not_err answer
+            by e A K unfit answer fits = absurd (fits refl)
 
-        module _ (through : r ≡ Through) (kept : Keeps words words₁ (row + 1) most_cells) (cells : KeepsCells words words₁ most_cells) where
-          seen_first : {e : Expression} {es : List Expression} {A : CarriedNames} {K : CarriedCells} → First e es A K → ActualsThere words environment node left row (e ∷ es) A K →
-              ExpressionThere words₁ environment node e A K
-          seen_first first there =
-              record { depth = first.depth; next = first.end; tree = same_expression words words₁ (kept_nodes kept) first.tree; sees = sees_kept kept cells (omega (arith, there.pointed)) there.sees }
+        pub first_unsafe : (refused : Refused) → ExpressionCarried words₁ environment node (Err refused) → ActualsCarried words words₁ environment node left row (Err refused)
+        unfolding carry_actuals
+        first_unsafe refused expressed [] A K there = absurd (some_left (sym there.as_many))
+        first_unsafe refused expressed (e ∷ es) A K there = by (carry_actuals A K es) (carries es A K (later_of (first_of there))) (carry_expression A K e) (expressed e A K (seen_first (first_of there) there))
+          where
+            by : (m : Carrying (List Carried)) → ActualsAs words₁ (left - 1) (row + 1) m (Ok tt) → (n : Carrying Carried) → ExpressedAs n (Err refused) →
+                ActualsAs words₁ left row (m >>= λ vs. n >>= λ v. carried (v ∷ vs)) (Err refused)
+            by (carried vs) later (carried v) (y, same, holds) = ok_not_err (sym same)
+            by (carried vs) later (unsafe p) answer = same_refusal answer
+            by (carried vs) later unfit answer = tt
+            by (unsafe p) later n answer = ok_not_err later
+            by unfit later n answer = tt
 
-          -- The later ones are carried, so that this one's carrying is fit.
-          pub first_there : SomeActuals words environment node left row → SomeExpression words₁ environment node
-          unfolding carry_actuals
-          first_there s = split s (λ e es A K first there fits. (e, A, K, seen_first first there, by e A K (carry_actuals A K es) (carries es A K (later_of first)) fits))
-            where
-              by : (e : Expression) (A : CarriedNames) (K : CarriedCells) (m : Carrying (List Carried)) → ActualsAs words₁ (left - 1) (row + 1) m r →
-                  Fits {A = List Carried} (m >>= λ vs. carry_expression A K e >>= λ v. carried (v ∷ vs)) → Fits (carry_expression A K e)
-              by e A K (carried vs) answer fits = first_fits (carry_expression A K e) _ fits
-              by e A K (unsafe p) answer fits = let clash : ◌≡◌ {A = ℕ} 0 1 = cc in absurd (omega arith)
-              by e A K unfit answer fits = absurd (fits refl)
+        module _ (value : Value) (expressed : ExpressionCarried words₁ environment node (Ok value)) where
+          pub actual_sort : SomeActuals words environment node left row → value.sort < sorts
+          actual_sort s = let t = first_there s in sort_small (value_held (carry_expression t.1 t.2 t.0) value t.4 (expressed t.0 t.1 t.2 t.3)).2
 
-          module _ (given : Expressed) (expressed : ExpressionCarried words₁ environment node given) where
-            pub first_unsafe : (place : ℕ) → given ≡ Expressed.Unsafe place → ActualsCarried words words₁ environment node left row (Unsafe place)
+          module _ (words₂ : List ℕ) (put : PutRow words₁ words₂ row 0 0 value) where
+            pub actual_put : ActualsCarried words words₂ environment node left row (Ok tt)
             unfolding carry_actuals
-            first_unsafe place q [] A K there = absurd (some_left (sym there.as_many))
-            first_unsafe place q (e ∷ es) A K there = by (carry_actuals A K es) (carries es A K (later_of (first_of there))) (carry_expression A K e) (expressed e A K (seen_first (first_of there) there))
+            actual_put [] A K there = absurd (some_left (sym there.as_many))
+            actual_put (e ∷ es) A K there = by (carry_actuals A K es) (carries es A K (later_of first)) (carry_expression A K e) (expressed e A K (seen_first first there))
               where
-                by : (m : Carrying (List Carried)) → ActualsAs words₁ (left - 1) (row + 1) m r → (n : Carrying Carried) → ExpressedAs n given →
-                    ActualsAs words₁ left row (m >>= λ vs. n >>= λ v. carried (v ∷ vs)) (Unsafe place)
-                by (carried vs) later (carried v) answer = answer_unsafe answer q
-                by (carried vs) later (unsafe p) answer = ap Unsafe (sym (answer_place answer q))
+                first : First e es A K
+                first = first_of there
+
+                by : (m : Carrying (List Carried)) → ActualsAs words₁ (left - 1) (row + 1) m (Ok tt) → (n : Carrying Carried) → ExpressedAs n (Ok value) →
+                    ActualsAs words₂ left row (m >>= λ vs. n >>= λ v. carried (v ∷ vs)) (Ok tt)
+                by (carried vs) (p, many, values) (carried v) answer =
+                    let holds = answer_held answer in (
+                      refl,
+                      omega (arith, many, some_left),
+                      one_value_more (row_there first.row_few (omega arith) (sort_small holds) (omega arith) put) holds
+                          (values_kept first.row_few put (omega arith) (subst (λ k. ValuesAt words₁ k vs) (sym (after_node row)) values)),
+                    )
+                by (carried vs) later (unsafe p) answer = ok_not_err answer
                 by (carried vs) later unfit answer = tt
-                by (unsafe p) later n answer = let clash : ◌≡◌ {A = ℕ} 0 1 = cc in absurd (omega arith)
+                by (unsafe p) later n answer = ok_not_err later
                 by unfit later n answer = tt
-
-            module _ (value : Value) (is_value : given ≡ Expressed.Is value) where
-              pub actual_sort : SomeActuals words environment node left row → value.sort < sorts
-              actual_sort s = let t = first_there s in sort_small (value_held (carry_expression t.1 t.2 t.0) value t.4 (expressed t.0 t.1 t.2 t.3) is_value).2
-
-              module _ (words₂ : List ℕ) (put : PutRow words₁ words₂ row 0 0 value) where
-                pub actual_put : ActualsCarried words words₂ environment node left row Through
-                unfolding carry_actuals
-                actual_put [] A K there = absurd (some_left (sym there.as_many))
-                actual_put (e ∷ es) A K there = by (carry_actuals A K es) (carries es A K (later_of first)) (carry_expression A K e) (expressed e A K (seen_first first there))
-                  where
-                    first : First e es A K
-                    first = first_of there
-
-                    by : (m : Carrying (List Carried)) → ActualsAs words₁ (left - 1) (row + 1) m r → (n : Carrying Carried) → ExpressedAs n given →
-                        ActualsAs words₂ left row (m >>= λ vs. n >>= λ v. carried (v ∷ vs)) Through
-                    by (carried vs) (p, many, values) (carried v) answer =
-                        let holds = answer_held answer is_value in (
-                          refl,
-                          omega (arith, many, some_left),
-                          one_value_more (row_there first.row_few (omega arith) (sort_small holds) (omega arith) put) holds
-                              (values_kept first.row_few put (omega arith) (subst (λ k. ValuesAt words₁ k vs) (sym (after_node row)) values)),
-                        )
-                    by (carried vs) later (unsafe p) answer = answer_no_value answer is_value
-                    by (carried vs) later unfit answer = tt
-                    by (unsafe p) later n answer = let clash : ◌≡◌ {A = ℕ} 0 1 = cc in absurd (omega arith)
-                    by unfit later n answer = tt
-
-                pub actual_keeps : row < most_bindings → Keeps words words₂ row most_cells × KeepsCells words words₂ most_cells
-                actual_keeps few = (keeps_then (keeps_fewer (omega arith) (omega arith) kept) (row_keeps few put), keeps_cells_then cells (row_keeps_cells few put))
 
 -- ---- Formals.
 
@@ -267,7 +262,77 @@ module _ (words : List ℕ) (formal left row below : ℕ) where
           (subst (λ p. NamesAt words₁ limit p (valued f.name v ∷ A) (needing f.name nothing ∷ N)) (after_node row)
           (one_value (row_there first.row_few first.name_low (sort_small holds) there.below_older placed) holds (names_kept (row_keeps first.row_few put) there.below_older older))) q
 
-      pub formals_keep : (words₂ : List ℕ) → SomeFormals words formal left row below → Keeps words₁ words₂ (row + 1) most_cells → KeepsCells words₁ words₂ most_cells →
-          Keeps words words₂ row most_cells × KeepsCells words words₂ most_cells
-      formals_keep words₂ s kept cells =
-          let few = (formals_low s).1 in (keeps_then (row_keeps few put) (keeps_fewer (omega arith) (omega arith) kept), keeps_cells_then (row_keeps_cells few put) cells)
+-- So many of them are named, the newest at this pointer; the others are left, and whatever they come to, all come to.
+pub record NamedSoFar (first words : List ℕ) (formal count row below at newest : ℕ) : Type 0 where
+  pub place : ℕ
+  pub rest : ℕ
+  pub now : ℕ
+  pub place_is : place ≡ formal + at
+  pub rest_is : rest + at ≡ count
+  pub now_is : now ≡ row + at
+  pub others : SomeFormals words place rest now newest
+  pub all : (words' : List ℕ) (r : ℕ) → FormalsNamed words words' place rest now newest r → FormalsNamed first words' formal count row below r
+  pub older : newest ≤ row + at
+  pub keeps : Keeps first words row most_cells
+  pub keeps_cells : KeepsCells first words most_cells
+
+pub none_named : (words : List ℕ) (formal count row below : ℕ) → SomeFormals words formal count row below → NamedSoFar words words formal count row below 0 below
+none_named words formal count row below s =
+    record {
+      place = formal;
+      rest = count;
+      now = row;
+      place_is = omega arith;
+      rest_is = omega arith;
+      now_is = omega arith;
+      others = s;
+      all = λ words' r named. named;
+      older = omega (arith, s.2.below_older);
+      keeps = keeps_all words row most_cells;
+      keeps_cells = keeps_all_cells words most_cells;
+    }
+
+module _ (first words : List ℕ) (formal count row below at newest : ℕ) (more : at < count) (so : NamedSoFar first words formal count row below at newest) where
+  some_left : so.rest ≡ 0 → ⊥
+  some_left z = omega (arith, z, so.rest_is, more)
+
+  pub named_low : (formal + at < most_nodes) × (row + at < most_bindings) × (newest ≤ most_bindings) × ((row_value words (row + at + 1)).sort < sorts)
+  named_low =
+      let low = formals_low words so.place so.rest so.now newest some_left so.others in
+      (omega (arith, low.0, so.place_is), omega (arith, low.1, so.now_is), low.2, subst (λ k. (row_value words (k + 1)).sort < sorts) so.now_is low.3)
+
+  pub one_more_named : (value : Value) → value ≡ row_value words (row + at + 1) → (word : ℕ) → word ≡ packed_operand (get_or words (formal + at) 0) → (words₁ : List ℕ) → PutRow words words₁ (row + at) (word % names) newest value →
+      NamedSoFar first words₁ formal count row below (at + 1) (row + at + 1)
+  one_more_named value read word operand words₁ put =
+      record {
+        place = so.place + 1;
+        rest = so.rest - 1;
+        now = so.now + 1;
+        place_is = omega (arith, so.place_is);
+        rest_is = omega (arith, so.rest_is, more);
+        now_is = omega (arith, so.now_is);
+        others = subst (SomeFormals words₁ (so.place + 1) (so.rest - 1) (so.now + 1)) next (formals_later words so.place so.rest so.now newest some_left value read_here word operand_here words₁ put_here so.others);
+        all =
+            λ words' r named.
+            so.all words' r
+            (formals_named words so.place so.rest so.now newest some_left value read_here word operand_here words₁ put_here words' r
+            (subst (λ k. FormalsNamed words₁ words' (so.place + 1) (so.rest - 1) (so.now + 1) k r) (sym next) named));
+        older = omega arith;
+        keeps = keeps_then so.keeps (keeps_fewer (omega arith) (omega arith) (row_keeps named_low.1 put));
+        keeps_cells = keeps_cells_then so.keeps_cells (row_keeps_cells named_low.1 put);
+      }
+    where
+      next : so.now + 1 ≡ row + at + 1
+      next = ap (λ k. k + 1) so.now_is
+
+      read_here : value ≡ row_value words (so.now + 1)
+      read_here = read ∙ ap (λ k. row_value words (k + 1)) (sym so.now_is)
+
+      operand_here : word ≡ packed_operand (get_or words so.place 0)
+      operand_here = operand ∙ ap (λ i. packed_operand (get_or words i 0)) (sym so.place_is)
+
+      put_here : PutRow words words₁ so.now (word % names) newest value
+      put_here = subst (λ k. PutRow words words₁ k (word % names) newest value) (sym so.now_is) put
+
+pub all_named : (first words : List ℕ) (formal count row below at newest : ℕ) → count ≤ at → NamedSoFar first words formal count row below at newest → FormalsNamed first words formal count row below newest
+all_named first words formal count row below at newest done so = so.all words newest (no_formal_left words so.place so.rest so.now newest (omega (arith, done, so.rest_is)))

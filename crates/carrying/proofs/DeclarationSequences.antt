@@ -3,6 +3,8 @@
 use Prim.Native.Nat.{ℕ, suc, ◌+◌, ◌-◌, ◌<◌, ◌≤◌}
 use mathlib.Core.Path.{◌≡◌, refl, sym, ◌∙◌, subst}
 use mathlib.Core.List.{List, ◌++◌}
+use Rattle.std.specs.Prelude.{Result, Ok, Err}
+use Rattle.rules.specs.declared.refusals.Refused.{Refused}
 use native.Mathlib.Omega.{arith}
 use lib.ListN.{get_or}
 use Rattle.rules.specs.paper.Limits.{most_nodes}
@@ -12,6 +14,8 @@ use Rattle.rules.specs.paper.Needs.{Needs, cells_left, bindings_left, declaratio
 use Rattle.rules.specs.paper.Carried.{Carrying, carried, unsafe, unfit, ◌>>=◌}
 use Rattle.rules.specs.paper.Carrying.{CarriedCells, CarriedNames, CarriedDeclared, carry_declaration}
 use Rattle.reader.specs.KindNumbers.{dseq_number}
+use Rattle.reader.specs.NodeKinds.{Known}
+use Rattle.reader.proofs.NodeKindLaws.{declaration_known}
 use Rattle.reader.specs.Pack.{packed_kind, packed_end}
 use Rattle.reader.specs.Stored.{StoredDeclaration}
 use Rattle.reader.proofs.StoredFields.{kind_is}
@@ -22,7 +26,7 @@ use Rattle.carrying.specs.States.{StateAt, Room}
 use Rattle.carrying.specs.Frames.{Keeps, KeepsCells}
 use Rattle.carrying.specs.Answers.{Fits, SomeDeclaration, SomeBind, DeclaredState, DeclaredAs, DeclarationCarried}
 use Rattle.carrying.specs.declared.Held.{Held}
-use Rattle.carrying.specs.declared.declarations.Declared.{Declared}
+use Rattle.carrying.proofs.ResultLaws.{ok_not_err, same_ok}
 use Rattle.carrying.proofs.FrameLaws.{keeps_fewer, keeps_fewer_cells, keeps_then, keeps_cells_then, kept_nodes}
 use Rattle.carrying.proofs.StateLaws.{names_later}
 use Rattle.carrying.proofs.DeclarationLaws.{first_fits, sequence_room}
@@ -37,15 +41,16 @@ sequenced A d₂ m =
     m >>= λ D. carry_declaration (D.names_declared ++ A) D.cells_after d₂ >>= λ F. carried (record { names_declared = F.names_declared ++ D.names_declared; cells_after = F.cells_after })
 
 -- What an answer says of the carrying.
-declared_names : {words : List ℕ} {next : ℕ} {held : Held} {c : Declaration} {A : CarriedNames} {N : Needs} {D : CarriedDeclared} {r : Declared} {inner : Held} →
-    DeclaredAs words next held c A N (carried D) r → r ≡ Declared.Names inner → DeclaredState words next held inner c A N D
-declared_names {words} {next} {held} {c} {A} {N} {D} {inner = inner} (i, p, state) q = subst (λ h. DeclaredState words next held h c A N D) (let same : i ≡ inner = cc in same) state
-
-not_declared : {r : Declared} {inner : Held} {p : ℕ} {B : Type 0} → r ≡ Declared.Unsafe p → r ≡ Declared.Names inner → B
-not_declared p q = let clash : ◌≡◌ {A = ℕ} 0 1 = cc in absurd (omega arith)
+declared_names : {words : List ℕ} {next : ℕ} {held : Held} {c : Declaration} {A : CarriedNames} {N : Needs} {D : CarriedDeclared} {inner : Held} →
+    DeclaredAs words next held c A N (carried D) (Ok inner) → DeclaredState words next held inner c A N D
+declared_names {words} {next} {held} {c} {A} {N} {D} (i, p, state) = subst (λ h. DeclaredState words next held h c A N D) (sym (same_ok p)) state
 
 state_later : {words : List ℕ} {limit later : ℕ} {held : Held} {A : CarriedNames} {N : Needs} {K : CarriedCells} → limit ≤ later → StateAt words limit held A N K → StateAt words later held A N K
 state_later h s = record { names_are = names_later h s.names_are; cells_are = s.cells_are; pointed = s.pointed }
+
+-- The kind of the node is known, and is a declaration's.
+pub known_there : (words : List ℕ) (held : Held) (node : ℕ) → SomeDeclaration words held node → Known (get_or words node 0)
+known_there words held node s = declaration_known s.5.tree
 
 module _ (words : List ℕ) (held : Held) (node which : ℕ) (known : which ≡ packed_kind (get_or words node 0)) where
   pub bind_there : (which ≡ dseq_number → ⊥) → SomeDeclaration words held node → SomeBind words held node
@@ -81,26 +86,26 @@ module _ (words : List ℕ) (held : Held) (node which : ℕ) (known : which ≡ 
               less = smaller tree (Stored.dseq h a b) (declaration_on b);
             }
 
-    module _ (words₁ : List ℕ) (r : Declared) (kept : Keeps words words₁ held.bindings held.cells) (declared : DeclarationCarried words words₁ held (node + 1) r) where
+    module _ (words₁ : List ℕ) (kept : Keeps words words₁ held.bindings held.cells) where
       -- The first is unsafe.
-      pub first_unsafe : (p : ℕ) → r ≡ Declared.Unsafe p → DeclarationCarried words words₁ held node r
+      pub first_unsafe : (refused : Refused) → DeclarationCarried words words₁ held (node + 1) (Err refused) → DeclarationCarried words words₁ held node (Err refused)
       unfolding carry_declaration
-      first_unsafe p q next c A N K there = by there.tree there.state there.room
+      first_unsafe refused declared next c A N K there = by there.tree there.state there.room
         where
-          given : (j : ℕ) (d₁ d₂ : Declaration) (m : Carrying CarriedDeclared) → DeclaredAs words₁ j held d₁ A N m r →
-              DeclaredAs words₁ next held (DSeq node d₁ d₂) A N (sequenced A d₂ m) r
-          given j d₁ d₂ (carried D) (inner, o, state) = not_declared q o
+          given : (j : ℕ) (d₁ d₂ : Declaration) (m : Carrying CarriedDeclared) → DeclaredAs words₁ j held d₁ A N m (Err refused) →
+              DeclaredAs words₁ next held (DSeq node d₁ d₂) A N (sequenced A d₂ m) (Err refused)
+          given j d₁ d₂ (carried D) (inner, o, state) = ok_not_err (sym o)
           given j d₁ d₂ (unsafe o) answer = answer
           given j d₁ d₂ unfit answer = tt
 
-          by : {d : ℕ} {c : Declaration} → StoredDeclaration words d node next c → StateAt words node held A N K → Room held (declaration_need N c) → DeclaredAs words₁ next held c A N (carry_declaration A K c) r
+          by : {d : ℕ} {c : Declaration} → StoredDeclaration words d node next c → StateAt words node held A N K → Room held (declaration_need N c) → DeclaredAs words₁ next held c A N (carry_declaration A K c) (Err refused)
           by (Stored.bind l h a) state room = absurd (omega (arith, is_sequence, known, kind_is h (omega arith)))
           by (Stored.dseq {d = e} {j = j} {d₁ = d₁} {d₂ = d₂} h a b) state room =
               let tree = subst (λ i. StoredDeclaration words e i j d₁) (after_node node) a in
               let inner : Held = record { environment = 0; bindings = bindings_left d₁ + held.bindings; cells = cells_left d₁ + held.cells } in
               given j d₁ d₂ (carry_declaration A K d₁) (declared j d₁ A N K (record { depth = e; tree = tree; state = state_later (omega arith) state; room = (sequence_room inner N node d₁ d₂ refl refl room).0 }))
 
-      module _ (inner : Held) (is_names : r ≡ Declared.Names inner) (after : ℕ) (ends : after ≡ packed_end (get_or words₁ (node + 1) 0)) where
+      module _ (inner : Held) (declared : DeclarationCarried words words₁ held (node + 1) (Ok inner)) (after : ℕ) (ends : after ≡ packed_end (get_or words₁ (node + 1) 0)) where
         end_there : {d j : ℕ} {c : Declaration} → StoredDeclaration words d (node + 1) j c → after ≡ j
         end_there tree = ends ∙ declaration_end (same_declaration words words₁ (kept_nodes kept) tree)
 
@@ -119,10 +124,10 @@ module _ (words : List ℕ) (held : Held) (node which : ℕ) (known : which ≡ 
             smaller a b h = omega (arith, declaration_end a, declaration_end b, declaration_on a, h)
 
             given : (d j : ℕ) (d₁ d₂ : Declaration) → StoredDeclaration words (suc d) node s.0 (DSeq node d₁ d₂) → StoredDeclaration words d (node + 1) j d₁ → StoredDeclaration words d j s.0 d₂ →
-                Room held (declaration_need s.3 (DSeq node d₁ d₂)) → (m : Carrying CarriedDeclared) → DeclaredAs words₁ j held d₁ s.2 s.3 m r →
+                Room held (declaration_need s.3 (DSeq node d₁ d₂)) → (m : Carrying CarriedDeclared) → DeclaredAs words₁ j held d₁ s.2 s.3 m (Ok inner) →
                 Fits (sequenced s.2 d₂ m) → Second
             given d j d₁ d₂ whole a b room (carried D) answer fits =
-                let state = declared_names answer is_names in
+                let state = declared_names answer in
                 let at = end_there a in
                 let tree = subst (λ i. StoredDeclaration words₁ d i s.0 d₂) (sym at) (same_declaration words words₁ (kept_nodes kept) b) in
                 record {
@@ -144,7 +149,7 @@ module _ (words : List ℕ) (held : Held) (node which : ℕ) (known : which ≡ 
                   more_bindings = omega (arith, state.bindings_are);
                   more_cells = omega (arith, state.cells_are);
                 }
-            given d j d₁ d₂ whole a b room (unsafe o) answer fits = not_declared answer is_names
+            given d j d₁ d₂ whole a b room (unsafe o) answer fits = ok_not_err answer
             given d j d₁ d₂ whole a b room unfit answer fits = absurd (fits refl)
 
             by : {d : ℕ} (c : Declaration) → StoredDeclaration words d node s.0 c → StateAt words node held s.2 s.3 s.4 → Room held (declaration_need s.3 c) → Fits (carry_declaration s.2 s.4 c) → Second
@@ -155,7 +160,7 @@ module _ (words : List ℕ) (held : Held) (node which : ℕ) (known : which ≡ 
                 given e j d₁ d₂ (Stored.dseq h a b) tree b room (carry_declaration s.2 s.4 d₁)
                 (declared j d₁ s.2 s.3 s.4 (record { depth = e; tree = tree; state = state_later (omega arith) state; room = (sequence_room wide s.3 node d₁ d₂ refl refl room).0 })) fits
 
-        module _ (words₂ : List ℕ) (u : Declared) (declared₂ : DeclarationCarried words₁ words₂ inner after u) where
+        module _ (words₂ : List ℕ) (u : Result Held Refused) (declared₂ : DeclarationCarried words₁ words₂ inner after u) where
           pub sequence_declared : DeclarationCarried words words₂ held node u
           unfolding carry_declaration names_given bindings_left cells_left
           sequence_declared next c A N K there = by there.tree there.state there.room
@@ -178,10 +183,10 @@ module _ (words : List ℕ) (held : Held) (node which : ℕ) (known : which ≡ 
               both d₁ d₂ D p q unfit answer = tt
 
               given : (d j : ℕ) (d₁ d₂ : Declaration) → StoredDeclaration words d (node + 1) j d₁ → StoredDeclaration words d j next d₂ → Room held (declaration_need N (DSeq node d₁ d₂)) →
-                  (m : Carrying CarriedDeclared) → DeclaredAs words₁ j held d₁ A N m r →
+                  (m : Carrying CarriedDeclared) → DeclaredAs words₁ j held d₁ A N m (Ok inner) →
                   DeclaredAs words₂ next held (DSeq node d₁ d₂) A N (sequenced A d₂ m) u
               given d j d₁ d₂ a b room (carried D) answer =
-                  let state = declared_names answer is_names in
+                  let state = declared_names answer in
                   let at = end_there a in
                   both d₁ d₂ D state.bindings_are state.cells_are (carry_declaration (D.names_declared ++ A) D.cells_after d₂)
                   (declared₂ next d₂ (D.names_declared ++ A) (names_given N d₁ ++ N) D.cells_after (record {
@@ -190,7 +195,7 @@ module _ (words : List ℕ) (held : Held) (node which : ℕ) (known : which ≡ 
                     state = subst (λ i. StateAt words₁ i inner (D.names_declared ++ A) (names_given N d₁ ++ N) D.cells_after) (sym at) state.state;
                     room = (sequence_room inner N node d₁ d₂ state.bindings_are state.cells_are room).1;
                   }))
-              given d j d₁ d₂ a b room (unsafe o) answer = not_declared answer is_names
+              given d j d₁ d₂ a b room (unsafe o) answer = ok_not_err answer
               given d j d₁ d₂ a b room unfit answer = tt
 
               by : {d : ℕ} {c : Declaration} → StoredDeclaration words d node next c → StateAt words node held A N K → Room held (declaration_need N c) → DeclaredAs words₂ next held c A N (carry_declaration A K c) u

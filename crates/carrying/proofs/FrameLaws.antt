@@ -1,98 +1,15 @@
--- Rows and cells written in the work words: what a write puts, what it leaves alone, and that what is left alone of two writes in turn is left alone.
+-- Rows and cells written in the work words: what a write leaves alone, and that what is left alone of two writes in turn is left alone.
 use Prim.Native.Nat.{ℕ, ◌+◌, ◌<◌, ◌≤◌}
-use mathlib.Core.Path.{◌≡◌, refl, ◌∙◌}
+use mathlib.Core.Path.{refl, ◌∙◌}
 use mathlib.Core.List.{List}
 use native.Mathlib.Omega.{arith}
-use lib.ListN.{length, set, length-set}
-use lib.Seq.{get_or-set_same, get_or-set_other}
 use Rattle.rules.specs.paper.Limits.{most_bindings, most_cells}
 use Rattle.reader.specs.StoredLaws.{SameNodes}
 use Rattle.intervals.specs.declared.values.Value.{Value}
-use Rattle.carrying.specs.Layout.{row_links, row_lows, row_highs, cell_sorts, cell_lows, cell_highs, regions_end, link}
+use Rattle.carrying.specs.Layout.{row_links, row_lows, row_highs, cell_sorts, cell_lows, cell_highs}
 use Rattle.carrying.specs.Frames.{Keeps, KeepsCells, PutRow, PutCell, SetCell}
 
--- ---- The writes.
-
-pub row_put : (words : List ℕ) (row name below : ℕ) (value : Value) → regions_end ≤ length words → row < most_bindings →
-    PutRow words (set (set (set words (row_links + row) (link name value.sort below)) (row_lows + row) value.low) (row_highs + row) value.high) row name below value
-row_put words row name below value long few =
-    record {
-      link_put =
-          get_or-set_other two (row_highs + row) (row_links + row) value.high 0 (omega arith)
-          ∙ get_or-set_other one (row_lows + row) (row_links + row) value.low 0 (omega arith)
-          ∙ get_or-set_same words (row_links + row) (link name value.sort below) 0 (omega (arith, long, few));
-      low_put = get_or-set_other two (row_highs + row) (row_lows + row) value.high 0 (omega arith) ∙ get_or-set_same one (row_lows + row) value.low 0 (omega (arith, long, few, one_long));
-      high_put = get_or-set_same two (row_highs + row) value.high 0 (omega (arith, long, few, one_long, two_long));
-      others =
-          λ i f g h.
-          get_or-set_other two (row_highs + row) i value.high 0 h
-          ∙ get_or-set_other one (row_lows + row) i value.low 0 g
-          ∙ get_or-set_other words (row_links + row) i (link name value.sort below) 0 f;
-      same_length = length-set two (row_highs + row) value.high ∙ two_long ∙ one_long;
-    }
-  where
-    one : List ℕ
-    one = set words (row_links + row) (link name value.sort below)
-
-    two : List ℕ
-    two = set one (row_lows + row) value.low
-
-    one_long : length one ≡ length words
-    one_long = length-set words (row_links + row) (link name value.sort below)
-
-    two_long : length two ≡ length one
-    two_long = length-set one (row_lows + row) value.low
-
-same_value : {s l h : ℕ} {v : Value} → s ≡ v.sort → l ≡ v.low → h ≡ v.high → ◌≡◌ {A = Value} (record { sort = s; low = l; high = h }) v
-same_value p q r = rw (p, q, r) refl
-
-pub cell_put : (words : List ℕ) (cell : ℕ) (value : Value) → regions_end ≤ length words → cell < most_cells →
-    PutCell words (set (set (set words (cell_sorts + cell) value.sort) (cell_lows + cell) value.low) (cell_highs + cell) value.high) cell value
-cell_put words cell value long few =
-    record {
-      cell_put =
-          same_value {v = value}
-          (get_or-set_other two (cell_highs + cell) (cell_sorts + cell) value.high 0 (omega arith)
-          ∙ get_or-set_other one (cell_lows + cell) (cell_sorts + cell) value.low 0 (omega arith)
-          ∙ get_or-set_same words (cell_sorts + cell) value.sort 0 (omega (arith, long, few)))
-          (get_or-set_other two (cell_highs + cell) (cell_lows + cell) value.high 0 (omega arith) ∙ get_or-set_same one (cell_lows + cell) value.low 0 (omega (arith, long, few, one_long)))
-          (get_or-set_same two (cell_highs + cell) value.high 0 (omega (arith, long, few, one_long, two_long)));
-      others =
-          λ i f g h.
-          get_or-set_other two (cell_highs + cell) i value.high 0 h
-          ∙ get_or-set_other one (cell_lows + cell) i value.low 0 g
-          ∙ get_or-set_other words (cell_sorts + cell) i value.sort 0 f;
-      same_length = length-set two (cell_highs + cell) value.high ∙ two_long ∙ one_long;
-    }
-  where
-    one : List ℕ
-    one = set words (cell_sorts + cell) value.sort
-
-    two : List ℕ
-    two = set one (cell_lows + cell) value.low
-
-    one_long : length one ≡ length words
-    one_long = length-set words (cell_sorts + cell) value.sort
-
-    two_long : length two ≡ length one
-    two_long = length-set one (cell_lows + cell) value.low
-
-pub cell_set : (words : List ℕ) (cell low high : ℕ) → regions_end ≤ length words → cell < most_cells → SetCell words (set (set words (cell_lows + cell) low) (cell_highs + cell) high) cell low high
-cell_set words cell low high long few =
-    record {
-      low_set = get_or-set_other one (cell_highs + cell) (cell_lows + cell) high 0 (omega arith) ∙ get_or-set_same words (cell_lows + cell) low 0 (omega (arith, long, few));
-      high_set = get_or-set_same one (cell_highs + cell) high 0 (omega (arith, long, few, one_long));
-      others = λ i g h. get_or-set_other one (cell_highs + cell) i high 0 h ∙ get_or-set_other words (cell_lows + cell) i low 0 g;
-      same_length = length-set one (cell_highs + cell) high ∙ one_long;
-    }
-  where
-    one : List ℕ
-    one = set words (cell_lows + cell) low
-
-    one_long : length one ≡ length words
-    one_long = length-set words (cell_lows + cell) low
-
--- ---- What they leave alone.
+-- ---- What a row or cell that is put or set leaves alone.
 
 -- A row leaves those before it and all cells.
 pub row_keeps : {words words' : List ℕ} {row name below : ℕ} {value : Value} → row < most_bindings → PutRow words words' row name below value → Keeps words words' row most_cells

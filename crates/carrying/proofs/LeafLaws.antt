@@ -5,6 +5,7 @@ use mathlib.Core.Bool.{Bool, true, false, not}
 use mathlib.Core.List.{List, [], ◌∷◌}
 use mathlib.Core.Option.{Option, none, some, some-injective}
 use native.Mathlib.Omega.{arith}
+use Rattle.std.specs.Prelude.{Some, None}
 use lib.Dec.{T, lt→ltb}
 use lib.IntN.{pos}
 use lib.ListN.{get_or}
@@ -12,21 +13,27 @@ use Rattle.rules.specs.paper.Limits.{most_cells, most_bindings}
 use Rattle.rules.specs.paper.Limits as Limits
 use Rattle.rules.proofs.Basics.{missing}
 use Rattle.rules.specs.paper.Integers.{in_range, range_bound}
-use Rattle.rules.specs.paper.Tree.{Expression, Id, DeRef, ValRef}
+use Rattle.rules.specs.paper.Tree.{Expression, Num, Boo, Id, DeRef, ValRef, Binary, Not}
 use Rattle.rules.specs.paper.Needs.{Needs}
 use Rattle.rules.specs.claims.Listing.{truth_word}
 use Rattle.rules.specs.paper.Carried.{Carried, numbers, truths, location, unfit, fitting}
 use Rattle.rules.specs.paper.Carrying.{CarriedCells, CarriedMeaning, a_value, a_function, CarriedNames, carried_at, carried_meaning, value_of, location_in, contents_at, carry_id, located, carry_expression}
-use Rattle.reader.specs.KindNumbers.{num_number, boo_number, id_number, deref_number, valref_number}
+use Rattle.rules.specs.paper.Kinds.{kind_number}
+use Rattle.rules.specs.declared.kinds.ExpressionKind.{ExpressionKind}
+use Rattle.rules.specs.declared.kinds.ExpressionKind.TheVariants.{Num as num, Boo as boo, Id as id, DeRef as deref, ValRef as valref}
+use Rattle.rules.specs.declared.kinds.Kind.TheVariants.{Expression as expression_kind}
+use Rattle.reader.specs.NodeKinds.{expression_kind_of}
+use Rattle.reader.proofs.NodeKindLaws.{expression_is}
 use Rattle.reader.specs.Pack.{packed_kind, packed_operand}
-use Rattle.reader.specs.Stored.{StoredExpression, num, boo, id, deref, valref, binary, negation}
+use Rattle.reader.specs.Stored.{StoredExpression}
+use Rattle.reader.specs.Stored as Stored
 use Rattle.reader.proofs.StoredFields.{kind_is, operand_is}
 use Rattle.integers.specs.Words.{word_of}
 use Rattle.intervals.specs.Values.{location_sort, flag, HoldsValue, holds_numbers, holds_truths, holds_location, Gives}
 use Rattle.intervals.specs.declared.values.Value.{Value}
 use Rattle.carrying.specs.Layout.{row_value, cell_value}
 use Rattle.carrying.specs.States.{NamesAt, no_names, one_value, one_function, FoundAt, CellsAt, Sees}
-use Rattle.carrying.specs.Answers.{Fits, IsLeaf, ExpressionThere, SomeLeaf}
+use Rattle.carrying.specs.Answers.{Fits, Names, IsLeaf, ExpressionThere, SomeLeaf}
 use Rattle.carrying.proofs.StateLaws.{names_few, row_is_value, holds_same, cell_there}
 
 -- ---- The row of a value's name.
@@ -50,7 +57,7 @@ row_of_value {words} {v = v} (one_value {k = k} {v = w} row h older) q =
     }
 row_of_value (one_function row p tree end older) q = missing q
 
-pub found_value : {words : List ℕ} {environment : ℕ} {A : CarriedNames} {K : CarriedCells} (x r : ℕ) (v : Carried) → FoundAt words environment x r → Sees words environment A K →
+pub found_value : {words : List ℕ} {environment : ℕ} {A : CarriedNames} {K : CarriedCells} (x r : ℕ) (v : Carried) → FoundAt words environment x (Some r) → Sees words environment A K →
     carried_meaning x A ≡ some (a_value v) → ValueRow words r v
 found_value {A = A} x r v found sees q = row_of_value (found sees.limit A sees.needs (a_value v) sees.names_are q).names_there refl
 
@@ -60,10 +67,13 @@ abbrev value_with : (sort low high : ℕ) → Value
 value_with s l h = record { sort = s; low = l; high = h }
 
 -- One of the three that name something.
-pub data Naming (node x : ℕ) : (which : ℕ) → Expression → Type 0 where
-  by_id : Naming node x id_number (Id node x)
-  by_deref : Naming node x deref_number (DeRef node x)
-  by_valref : Naming node x valref_number (ValRef node x)
+pub data Naming (node x : ℕ) : ExpressionKind → Expression → Type 0 where
+  by_id : Naming node x id (Id node x)
+  by_deref : Naming node x deref (DeRef node x)
+  by_valref : Naming node x valref (ValRef node x)
+
+pub id_not_deref : ◌≡◌ {A = ExpressionKind} id deref → ⊥
+id_not_deref q = cc
 
 number_small : (n : ℕ) → n < Limits.words → T (in_range (pos n))
 number_small n h = lt→ltb n range_bound (omega (arith, h))
@@ -80,77 +90,82 @@ truth_small : (b : Bool) → truth_word b ≤ 1
 truth_small false = omega arith
 truth_small true = omega arith
 
-module _ (words : List ℕ) (environment node which word : ℕ) (known : which ≡ packed_kind (get_or words node 0)) (operand : word ≡ packed_operand (get_or words node 0)) where
+-- A leaf that is neither Num nor Boo names something.
+pub names_left : (words : List ℕ) (environment node : ℕ) (k : ExpressionKind) → kind_number (expression_kind k) ≡ packed_kind (get_or words node 0) → (k ≡ num → ⊥) → (k ≡ boo → ⊥) → SomeLeaf words environment node → Names k
+names_left words environment node k known not_number not_truth s = by s.0 s.5 (let same = expression_is (expression_kind k) s.3.tree known in cc)
+  where
+    by : (e : Expression) → IsLeaf e → k ≡ expression_kind_of e → Names k
+    by (Num p n) l q = absurd (not_number q)
+    by (Boo p b) l q = absurd (not_truth q)
+    by (Id p x) l q = subst Names (sym q) tt
+    by (DeRef p x) l q = subst Names (sym q) tt
+    by (ValRef p x) l q = subst Names (sym q) tt
+    by (Binary p o e₁ e₂) l q = absurd l
+    by (Not p e) l q = absurd l
+
+module _ (words : List ℕ) (environment node word : ℕ) (operand : word ≡ packed_operand (get_or words node 0)) where
   -- Num.
-  pub number_gives : which ≡ num_number → (e : Expression) (A : CarriedNames) (K : CarriedCells) → ExpressionThere words environment node e A K → IsLeaf e →
+  pub number_gives : kind_number (expression_kind num) ≡ packed_kind (get_or words node 0) → (e : Expression) (A : CarriedNames) (K : CarriedCells) → ExpressionThere words environment node e A K → IsLeaf e →
       Gives (carry_expression A K e) (value_with 0 word word)
   unfolding carry_expression word_of
   number_gives q e A K there leaf = by there.tree leaf
     where
       by : {d j : ℕ} {e : Expression} → StoredExpression words d node j e → IsLeaf e → Gives (carry_expression A K e) (value_with 0 word word)
-      by (num {n = n} h) l = let same : word ≡ n = operand ∙ operand_is h (omega arith) in holds_numbers refl same same (number_small n h.operand_low) (number_small n h.operand_low)
-      by (boo h) l = absurd (omega (arith, q, known, kind_is h (omega arith)))
-      by (id n h) l = absurd (omega (arith, q, known, kind_is h (omega arith)))
-      by (deref n h) l = absurd (omega (arith, q, known, kind_is h (omega arith)))
-      by (valref n h) l = absurd (omega (arith, q, known, kind_is h (omega arith)))
-      by (binary h a b) l = absurd l
-      by (negation h a) l = absurd l
+      by (Stored.num {n = n} h) l = let same : word ≡ n = operand ∙ operand_is h (omega arith) in holds_numbers refl same same (number_small n h.operand_low) (number_small n h.operand_low)
+      by (Stored.boo h) l = absurd (omega (arith, q, kind_is h (omega arith)))
+      by (Stored.id n h) l = absurd (omega (arith, q, kind_is h (omega arith)))
+      by (Stored.deref n h) l = absurd (omega (arith, q, kind_is h (omega arith)))
+      by (Stored.valref n h) l = absurd (omega (arith, q, kind_is h (omega arith)))
+      by (Stored.binary h a b) l = absurd l
+      by (Stored.negation h a) l = absurd l
 
   -- Boo.
-  pub truth_low : which ≡ boo_number → SomeLeaf words environment node → word ≤ 1
-  truth_low q s = by s.3.tree s.5
-    where
-      by : {d j : ℕ} {e : Expression} → StoredExpression words d node j e → IsLeaf e → word ≤ 1
-      by (num h) l = absurd (omega (arith, q, known, kind_is h (omega arith)))
-      by (boo {b = b} h) l = omega (arith, operand, operand_is h (omega arith), truth_small b)
-      by (id n h) l = absurd (omega (arith, q, known, kind_is h (omega arith)))
-      by (deref n h) l = absurd (omega (arith, q, known, kind_is h (omega arith)))
-      by (valref n h) l = absurd (omega (arith, q, known, kind_is h (omega arith)))
-      by (binary h a b) l = absurd l
-      by (negation h a) l = absurd l
+  module _ (q : kind_number (expression_kind boo) ≡ packed_kind (get_or words node 0)) where
+    only_truth : {d j : ℕ} {e : Expression} (X : Expression → Type 0) → ((b : Bool) → word ≡ truth_word b → X (Boo node b)) → StoredExpression words d node j e → IsLeaf e → X e
+    only_truth X give (Stored.num h) l = absurd (omega (arith, q, kind_is h (omega arith)))
+    only_truth X give (Stored.boo {b = b} h) l = give b (operand ∙ operand_is h (omega arith))
+    only_truth X give (Stored.id n h) l = absurd (omega (arith, q, kind_is h (omega arith)))
+    only_truth X give (Stored.deref n h) l = absurd (omega (arith, q, kind_is h (omega arith)))
+    only_truth X give (Stored.valref n h) l = absurd (omega (arith, q, kind_is h (omega arith)))
+    only_truth X give (Stored.binary h a b) l = absurd l
+    only_truth X give (Stored.negation h a) l = absurd l
 
-  pub truth_gives : which ≡ boo_number → (e : Expression) (A : CarriedNames) (K : CarriedCells) → ExpressionThere words environment node e A K → IsLeaf e →
-      Gives (carry_expression A K e) (value_with 2 (1 - word) word)
-  unfolding carry_expression
-  truth_gives q e A K there leaf = by there.tree leaf
-    where
-      by : {d j : ℕ} {e : Expression} → StoredExpression words d node j e → IsLeaf e → Gives (carry_expression A K e) (value_with 2 (1 - word) word)
-      by (num h) l = absurd (omega (arith, q, known, kind_is h (omega arith)))
-      by (boo {b = b} h) l = let same : word ≡ truth_word b = operand ∙ operand_is h (omega arith) in holds_truths refl (ap (λ w. 1 - w) same ∙ flag_of_not b) (same ∙ flag_of b)
-      by (id n h) l = absurd (omega (arith, q, known, kind_is h (omega arith)))
-      by (deref n h) l = absurd (omega (arith, q, known, kind_is h (omega arith)))
-      by (valref n h) l = absurd (omega (arith, q, known, kind_is h (omega arith)))
-      by (binary h a b) l = absurd l
-      by (negation h a) l = absurd l
+    pub truth_low : SomeLeaf words environment node → word ≤ 1
+    truth_low s = only_truth (λ e. word ≤ 1) (λ b same. omega (arith, same, truth_small b)) s.3.tree s.5
+
+    pub truth_gives : (e : Expression) (A : CarriedNames) (K : CarriedCells) → ExpressionThere words environment node e A K → IsLeaf e → Gives (carry_expression A K e) (value_with 2 (1 - word) word)
+    unfolding carry_expression
+    truth_gives e A K there leaf =
+        only_truth (λ e. Gives (carry_expression A K e) (value_with 2 (1 - word) word)) (λ b same. holds_truths refl (ap (λ w. 1 - w) same ∙ flag_of_not b) (same ∙ flag_of b)) there.tree leaf
 
   -- The others name something.
-  module _ (not_number : which ≡ num_number → ⊥) (not_truth : which ≡ boo_number → ⊥) where
-    naming : {d j : ℕ} {e : Expression} → StoredExpression words d node j e → IsLeaf e → Naming node word which e
-    naming (num h) l = absurd (not_number (known ∙ kind_is h (omega arith)))
-    naming (boo h) l = absurd (not_truth (known ∙ kind_is h (omega arith)))
-    naming (id {x = x} n h) l = both (known ∙ kind_is h (omega arith)) (operand ∙ operand_is h (omega arith))
+  module _ (k : ExpressionKind) (known : kind_number (expression_kind k) ≡ packed_kind (get_or words node 0)) (names : Names k) where
+    naming : {d j : ℕ} {e : Expression} → expression_kind k ≡ expression_kind (expression_kind_of e) → StoredExpression words d node j e → IsLeaf e → Naming node word k e
+    naming q (Stored.num h) l = let same : k ≡ num = cc in absurd (subst Names same names)
+    naming q (Stored.boo h) l = let same : k ≡ boo = cc in absurd (subst Names same names)
+    naming q (Stored.id {x = x} n h) l = both (cc) (operand ∙ operand_is h (omega arith))
       where
-        both : which ≡ id_number → word ≡ x → Naming node word which (Id node x)
-        both p q = subst (λ w. Naming node word w (Id node x)) (sym p) (subst (λ y. Naming node y id_number (Id node x)) (sym q) by_id)
-    naming (deref {x = x} n h) l = both (known ∙ kind_is h (omega arith)) (operand ∙ operand_is h (omega arith))
+        both : k ≡ id → word ≡ x → Naming node word k (Id node x)
+        both p q = subst (λ w. Naming node word w (Id node x)) (sym p) (subst (λ y. Naming node y id (Id node x)) (sym q) by_id)
+    naming q (Stored.deref {x = x} n h) l = both (cc) (operand ∙ operand_is h (omega arith))
       where
-        both : which ≡ deref_number → word ≡ x → Naming node word which (DeRef node x)
-        both p q = subst (λ w. Naming node word w (DeRef node x)) (sym p) (subst (λ y. Naming node y deref_number (DeRef node x)) (sym q) by_deref)
-    naming (valref {x = x} n h) l = both (known ∙ kind_is h (omega arith)) (operand ∙ operand_is h (omega arith))
+        both : k ≡ deref → word ≡ x → Naming node word k (DeRef node x)
+        both p q = subst (λ w. Naming node word w (DeRef node x)) (sym p) (subst (λ y. Naming node y deref (DeRef node x)) (sym q) by_deref)
+    naming q (Stored.valref {x = x} n h) l = both (cc) (operand ∙ operand_is h (omega arith))
       where
-        both : which ≡ valref_number → word ≡ x → Naming node word which (ValRef node x)
-        both p q = subst (λ w. Naming node word w (ValRef node x)) (sym p) (subst (λ y. Naming node y valref_number (ValRef node x)) (sym q) by_valref)
-    naming (binary h a b) l = absurd l
-    naming (negation h a) l = absurd l
+        both : k ≡ valref → word ≡ x → Naming node word k (ValRef node x)
+        both p q = subst (λ w. Naming node word w (ValRef node x)) (sym p) (subst (λ y. Naming node y valref (ValRef node x)) (sym q) by_valref)
+    naming q (Stored.binary h a b) l = absurd l
+    naming q (Stored.negation h a) l = absurd l
 
-    pub leaf_names : {e : Expression} {A : CarriedNames} {K : CarriedCells} → ExpressionThere words environment node e A K → IsLeaf e → Naming node word which e
-    leaf_names there leaf = naming there.tree leaf
+    pub leaf_names : {e : Expression} {A : CarriedNames} {K : CarriedCells} → ExpressionThere words environment node e A K → IsLeaf e → Naming node word k e
+    leaf_names there leaf = naming (expression_is (expression_kind k) there.tree known) there.tree leaf
 
 -- ---- What a name's row and the cells give.
 
-module _ (words : List ℕ) (environment node x r : ℕ) (found : FoundAt words environment x r) where
-  -- A name whose carrying is fit is bound to a value.
-  pub bound_value : {which : ℕ} {e : Expression} (A : CarriedNames) (K : CarriedCells) → Naming node x which e → Fits (carry_expression A K e) → (v : Carried) × (carried_meaning x A ≡ some (a_value v))
+-- A name whose carrying is fit is bound to a value.
+module _ (node x : ℕ) where
+  pub bound_value : {k : ExpressionKind} {e : Expression} (A : CarriedNames) (K : CarriedCells) → Naming node x k e → Fits (carry_expression A K e) → (v : Carried) × (carried_meaning x A ≡ some (a_value v))
   unfolding carry_expression
   bound_value A K by_id fits = by (carried_meaning x A) refl fits
     where
@@ -171,9 +186,15 @@ module _ (words : List ℕ) (environment node x r : ℕ) (found : FoundAt words 
       by (some (a_value v)) q f = (v, q)
       by (some (a_function g)) q f = absurd (f refl)
 
-  pub row_found : {which : ℕ} {e : Expression} {A : CarriedNames} {K : CarriedCells} → Naming node x which e → Fits (carry_expression A K e) → Sees words environment A K → (1 ≤ r) × (r ≤ most_bindings)
+-- Its row is found.
+pub some_found : (words : List ℕ) (environment node x : ℕ) → FoundAt words environment x None → {k : ExpressionKind} {e : Expression} {A : CarriedNames} {K : CarriedCells} → Naming node x k e → Fits (carry_expression A K e) →
+    Sees words environment A K → ⊥
+some_found words environment node x found {A = A} {K = K} named fits sees = let v = bound_value node x A K named fits in found sees.limit A sees.needs (a_value v.0) sees.names_are v.1
+
+module _ (words : List ℕ) (environment node x r : ℕ) (found : FoundAt words environment x (Some r)) where
+  pub row_found : {k : ExpressionKind} {e : Expression} {A : CarriedNames} {K : CarriedCells} → Naming node x k e → Fits (carry_expression A K e) → Sees words environment A K → (1 ≤ r) × (r ≤ most_bindings)
   row_found {A = A} {K = K} named fits sees =
-      let v = bound_value A K named fits in
+      let v = bound_value node x A K named fits in
       let row = found_value x r v.0 found sees v.1 in
       (row.some_row, row.few)
 
@@ -188,40 +209,45 @@ module _ (words : List ℕ) (environment node x r : ℕ) (found : FoundAt words 
       by (some (a_function g)) q = rw nothing tt
 
   -- DeRef gives the row's value.
-  pub deref_gives : {e : Expression} {A : CarriedNames} {K : CarriedCells} {which : ℕ} (s : Value) → s ≡ row_value words r → Sees words environment A K → which ≡ deref_number → Naming node x which e → Gives (carry_expression A K e) s
+  pub deref_gives : {e : Expression} {A : CarriedNames} {K : CarriedCells} {k : ExpressionKind} (s : Value) → s ≡ row_value words r → Sees words environment A K → k ≡ deref → Naming node x k e → Gives (carry_expression A K e) s
   unfolding carry_expression
-  deref_gives s same sees q by_id = absurd (omega (arith, q))
+  deref_gives s same sees q by_id = absurd cc
   deref_gives {A = A} {K = K} s same sees q by_deref = by_row {A = A} {K = K} (λ v. located (location_in v)) s refl sees each
     where
       each : (v : Carried) → HoldsValue (row_value words r) v → Gives (fitting (located (location_in (some v)))) s
       each (numbers a b) h = tt
       each (truths f t) h = tt
       each (location l) h = holds_same (sym same) h
-  deref_gives s same sees q by_valref = absurd (omega (arith, q))
+  deref_gives s same sees q by_valref = absurd cc
 
-  -- So does Id, and ValRef is given another sort, where the row's value is no location.
-  pub plain_gives : {e : Expression} {A : CarriedNames} {K : CarriedCells} {which : ℕ} (s : Value) → s ≡ row_value words r → (s.sort ≡ location_sort → ⊥) → Sees words environment A K → (which ≡ deref_number → ⊥) →
-      Naming node x which e → Gives (carry_expression A K e) s
+  -- So does Id, and DeRef and ValRef are given another sort, where the row's value is no location.
+  pub plain_gives : {e : Expression} {A : CarriedNames} {K : CarriedCells} {k : ExpressionKind} (s : Value) → s ≡ row_value words r → (s.sort ≡ location_sort → ⊥) → Sees words environment A K → Naming node x k e →
+      Gives (carry_expression A K e) s
   unfolding carry_expression
-  plain_gives {A = A} {K = K} s same other sees q by_id = by_row {A = A} {K = K} (λ v. carry_id v K) s refl sees each
+  plain_gives {A = A} {K = K} s same other sees named = by named
     where
-      each : (v : Carried) → HoldsValue (row_value words r) v → Gives (fitting (carry_id (some v) K)) s
-      each (numbers a b) h = holds_same (sym same) h
-      each (truths f t) h = holds_same (sym same) h
-      each (location l) h = absurd (no_location (holds_same (sym same) h))
-        where
-          no_location : HoldsValue s (location l) → ⊥
-          no_location (holds_location p i j) = other p
-  plain_gives s same other sees q by_deref = absurd (q refl)
-  plain_gives {A = A} {K = K} s same other sees q by_valref = by_row {A = A} {K = K} (λ v. contents_at (location_in (contents_at (location_in v) K)) K) s refl sees each
-    where
-      each : (v : Carried) → HoldsValue (row_value words r) v → Gives (fitting (contents_at (location_in (contents_at (location_in (some v)) K)) K)) s
-      each (numbers a b) h = tt
-      each (truths f t) h = tt
-      each (location l) h = absurd (no_location (holds_same (sym same) h))
-        where
-          no_location : HoldsValue s (location l) → ⊥
-          no_location (holds_location p i j) = other p
+      no_location : {l : ℕ} → HoldsValue s (location l) → ⊥
+      no_location (holds_location p i j) = other p
+
+      by_id_value : (v : Carried) → HoldsValue (row_value words r) v → Gives (fitting (carry_id (some v) K)) s
+      by_id_value (numbers a b) h = holds_same (sym same) h
+      by_id_value (truths f t) h = holds_same (sym same) h
+      by_id_value (location l) h = absurd (no_location (holds_same (sym same) h))
+
+      by_deref_value : (v : Carried) → HoldsValue (row_value words r) v → Gives (fitting (located (location_in (some v)))) s
+      by_deref_value (numbers a b) h = tt
+      by_deref_value (truths f t) h = tt
+      by_deref_value (location l) h = absurd (no_location (holds_same (sym same) h))
+
+      by_valref_value : (v : Carried) → HoldsValue (row_value words r) v → Gives (fitting (contents_at (location_in (contents_at (location_in (some v)) K)) K)) s
+      by_valref_value (numbers a b) h = tt
+      by_valref_value (truths f t) h = tt
+      by_valref_value (location l) h = absurd (no_location (holds_same (sym same) h))
+
+      by : {k : ExpressionKind} {e : Expression} → Naming node x k e → Gives (carry_expression A K e) s
+      by by_id = by_row {A = A} {K = K} (λ v. carry_id v K) s refl sees by_id_value
+      by by_deref = by_row {A = A} {K = K} (λ v. located (location_in v)) s refl sees by_deref_value
+      by by_valref = by_row {A = A} {K = K} (λ v. contents_at (location_in (contents_at (location_in v) K)) K) s refl sees by_valref_value
 
   -- ---- The row's value is a location.
 
@@ -249,12 +275,12 @@ module _ (words : List ℕ) (environment node x r : ℕ) (found : FoundAt words 
     the_location : {A : CarriedNames} {K : CarriedCells} (v : Carried) → Sees words environment A K → carried_meaning x A ≡ some (a_value v) → v ≡ location s.low
     the_location v sees q = location_row is_location (holds_same (sym same) (found_value x r v found sees q).holds)
 
-    meaning_there : {A : CarriedNames} {K : CarriedCells} {which : ℕ} {e : Expression} → Sees words environment A K → Naming node x which e → Fits (carry_expression A K e) → carried_meaning x A ≡ some (a_value (location s.low))
+    meaning_there : {A : CarriedNames} {K : CarriedCells} {k : ExpressionKind} {e : Expression} → Sees words environment A K → Naming node x k e → Fits (carry_expression A K e) → carried_meaning x A ≡ some (a_value (location s.low))
     meaning_there {A = A} {K = K} sees named fits =
-        let v = bound_value A K named fits in
+        let v = bound_value node x A K named fits in
         v.1 ∙ ap (λ w. some (a_value w)) (the_location v.0 sees v.1)
 
-    pub cell_among : {A : CarriedNames} {K : CarriedCells} {which : ℕ} {e : Expression} → Sees words environment A K → (which ≡ deref_number → ⊥) → Naming node x which e → Fits (carry_expression A K e) → s.low < most_cells
+    pub cell_among : {A : CarriedNames} {K : CarriedCells} {k : ExpressionKind} {e : Expression} → Sees words environment A K → (k ≡ deref → ⊥) → Naming node x k e → Fits (carry_expression A K e) → s.low < most_cells
     unfolding carry_expression
     cell_among {A = A} {K = K} sees q by_id fits = some_cell s.low sees.cells_are sees.count_few (λ p. fits (ap (λ m. fitting (carry_id (value_of m) K)) (meaning_there {A = A} {K = K} sees by_id fits) ∙ p))
     cell_among sees q by_deref fits = absurd (q refl)
@@ -264,7 +290,7 @@ module _ (words : List ℕ) (environment node x r : ℕ) (found : FoundAt words 
 
     module _ (t : Value) (there : t ≡ cell_value words s.low) where
       -- Id gives the cell's contents.
-      pub contents_gives : {e : Expression} {A : CarriedNames} {K : CarriedCells} {which : ℕ} → Sees words environment A K → which ≡ id_number → Naming node x which e → Gives (carry_expression A K e) t
+      pub contents_gives : {e : Expression} {A : CarriedNames} {K : CarriedCells} {k : ExpressionKind} → Sees words environment A K → k ≡ id → Naming node x k e → Gives (carry_expression A K e) t
       unfolding carry_expression
       contents_gives {A = A} {K = K} sees q by_id = by_row {A = A} {K = K} (λ v. carry_id v K) t refl sees each
         where
@@ -274,8 +300,8 @@ module _ (words : List ℕ) (environment node x r : ℕ) (found : FoundAt words 
 
           each : (v : Carried) → HoldsValue (row_value words r) v → Gives (fitting (carry_id (some v) K)) t
           each v h = subst (λ w. Gives (fitting (carry_id (some w) K)) t) (sym (location_row is_location (holds_same (sym same) h))) (inside (carried_at s.low K) refl)
-      contents_gives sees q by_deref = absurd (omega (arith, q))
-      contents_gives sees q by_valref = absurd (omega (arith, q))
+      contents_gives sees q by_deref = absurd cc
+      contents_gives sees q by_valref = absurd cc
 
       -- ValRef finds a location there.
       shown : {A : CarriedNames} {K : CarriedCells} → Sees words environment A K → (fitting (contents_at (location_in (carried_at s.low K)) K) ≡ unfit → ⊥) → t.low < most_cells
@@ -290,7 +316,7 @@ module _ (words : List ℕ) (environment node x r : ℕ) (found : FoundAt words 
               within : HoldsValue t (location l) → l < most_cells → t.low < most_cells
               within (holds_location p i j) few = omega (arith, i, few)
 
-      pub shown_among : {A : CarriedNames} {K : CarriedCells} {which : ℕ} {e : Expression} → Sees words environment A K → (which ≡ deref_number → ⊥) → (which ≡ id_number → ⊥) → Naming node x which e →
+      pub shown_among : {A : CarriedNames} {K : CarriedCells} {k : ExpressionKind} {e : Expression} → Sees words environment A K → (k ≡ deref → ⊥) → (k ≡ id → ⊥) → Naming node x k e →
           Fits (carry_expression A K e) → t.low < most_cells
       unfolding carry_expression
       shown_among sees q f by_id fits = absurd (f refl)
@@ -298,8 +324,8 @@ module _ (words : List ℕ) (environment node x r : ℕ) (found : FoundAt words 
       shown_among {A = A} {K = K} sees q f by_valref fits =
           shown {A = A} sees (λ p. fits (ap (λ m. fitting (contents_at (location_in (contents_at (location_in (value_of m)) K)) K)) (meaning_there {A = A} {K = K} sees by_valref fits) ∙ p))
 
-      pub shown_gives : {e : Expression} {A : CarriedNames} {K : CarriedCells} {which : ℕ} (u : Value) → u ≡ cell_value words t.low → Sees words environment A K → (which ≡ deref_number → ⊥) → (which ≡ id_number → ⊥) →
-          Naming node x which e → Gives (carry_expression A K e) u
+      pub shown_gives : {e : Expression} {A : CarriedNames} {K : CarriedCells} {k : ExpressionKind} (u : Value) → u ≡ cell_value words t.low → Sees words environment A K → (k ≡ deref → ⊥) → (k ≡ id → ⊥) →
+          Naming node x k e → Gives (carry_expression A K e) u
       unfolding carry_expression
       shown_gives u last sees q f by_id = absurd (f refl)
       shown_gives u last sees q f by_deref = absurd (q refl)

@@ -1,3 +1,4 @@
+pub mod ResultLaws
 pub mod FrameLaws
 pub mod StateLaws
 pub mod CopyLaws

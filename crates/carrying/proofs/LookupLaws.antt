@@ -4,6 +4,7 @@ use mathlib.Core.Path.{◌≡◌, refl, sym, ap, ◌∙◌, subst}
 use mathlib.Core.Bool.{true, false, cond}
 use mathlib.Core.List.{List, ◌∷◌}
 use mathlib.Core.Option.{some, some-injective}
+use Rattle.std.specs.Prelude.{Some, None}
 use native.Mathlib.Omega.{arith}
 use lib.Dec.{T, eqb, eqb→eq, eqb_refl}
 use lib.ListN.{get_or}
@@ -14,7 +15,7 @@ use Rattle.rules.specs.paper.Carrying.{CarriedMeaning, CarriedName, CarriedNames
 use Rattle.reader.proofs.StandingLaws.{bound_on}
 use Rattle.intervals.specs.declared.values.Value.{Value}
 use Rattle.carrying.specs.Layout.{row_links, pointer_unit}
-use Rattle.carrying.specs.States.{RowAt, needing, NamesAt, no_names, one_value, one_function, SomeNames, FoundRow, FoundAt}
+use Rattle.carrying.specs.States.{RowAt, needing, NamesAt, no_names, one_value, one_function, SomeNames, FoundAt}
 use Rattle.carrying.proofs.StateLaws.{names_later, row_is_pointer, row_is_name}
 
 abbrev pub meaning_as : ℕ → CarriedMeaning → CarriedName
@@ -127,7 +128,7 @@ module _ (words : List ℕ) (environment x at : ℕ) (some_names : SomeNames wor
         same_need = w.same_need ∙ ap (need_of x) p.needs_are ∙ ap (λ t. cond t p.need (need_of x p.other_needs)) differs;
       }
 
-  pub walk_found : get_or words (row_links - 1 + at) 0 % names ≡ x → FoundAt words environment x at
+  pub walk_found : get_or words (row_links - 1 + at) 0 % names ≡ x → FoundAt words environment x (Some at)
   unfolding carried_meaning need_of
   walk_found met limit A N m s found =
       let w = walked limit A N s in
@@ -148,7 +149,7 @@ module _ (words : List ℕ) (environment x at : ℕ) (some_names : SomeNames wor
       }
 
 -- No row is left: the name has no meaning.
-pub walk_none : (words : List ℕ) (environment x at : ℕ) → Walked words environment x at → at ≡ 0 → FoundAt words environment x 0
+pub walk_none : (words : List ℕ) (environment x at : ℕ) → Walked words environment x at → at ≡ 0 → FoundAt words environment x None
 unfolding carried_meaning
 walk_none words environment x at walked none_left limit A N m s found = by (walked limit A N s) none_left
   where
@@ -157,5 +158,5 @@ walk_none words environment x at walked none_left limit A N m s found = by (walk
     no_more z (one_value row v older) q = omega (arith, z)
     no_more z (one_function row p tree end older) q = omega (arith, z)
 
-    by : WalkedTo words limit x at A N → at ≡ 0 → FoundRow words limit 0 x m (need_of x N)
-    by w z = absurd (no_more z w.there (sym w.same_meaning ∙ found))
+    by : WalkedTo words limit x at A N → at ≡ 0 → ⊥
+    by w z = no_more z w.there (sym w.same_meaning ∙ found)

@@ -18,6 +18,7 @@ use Rattle.intervals.specs.declared.values.Value.{Value}
 use Rattle.carrying.specs.Layout.{row_links, row_lows, row_highs, cell_sorts, cell_lows, cell_highs, sorts, link, row_value, row_pointer, linked_value, cell_value, kept_value}
 use Rattle.carrying.specs.States.{RowAt, NamesAt, no_names, one_value, one_function, CellsAt, no_cells, one_cell}
 use Rattle.carrying.specs.Frames.{Keeps, KeepsCells, PutRow, PutCell, SetCell, Copied, Exchanged, Widened}
+use Rattle.carrying.specs.declared.cells.Ends.{Ends}
 use Rattle.carrying.proofs.FrameLaws.{kept_nodes}
 
 -- ---- Names.
@@ -131,12 +132,12 @@ cell_there {words} l v (one_cell {n = n} {v = w} {K = K} h older) q = choose (eq
 -- Setting a cell to a value of its sort.
 sort_stays : {r s : Value} {w v : Carried} → same_sort w v ≡ true → HoldsValue r w → HoldsValue s v → r.sort ≡ s.sort
 sort_stays q (holds_numbers s l h a b) (holds_numbers s' l' h' a' b') = s ∙ sym s'
-sort_stays q (holds_numbers s l h a b) (holds_truths s' l' h') = let clash : ◌≡◌ {A = ℕ} 0 1 = cc in absurd (omega arith)
-sort_stays q (holds_numbers s l h a b) (holds_location s' l' h') = let clash : ◌≡◌ {A = ℕ} 0 1 = cc in absurd (omega arith)
-sort_stays q (holds_truths s l h) (holds_numbers s' l' h' a' b') = let clash : ◌≡◌ {A = ℕ} 0 1 = cc in absurd (omega arith)
+sort_stays q (holds_numbers s l h a b) (holds_truths s' l' h') = absurd cc
+sort_stays q (holds_numbers s l h a b) (holds_location s' l' h') = absurd cc
+sort_stays q (holds_truths s l h) (holds_numbers s' l' h' a' b') = absurd cc
 sort_stays q (holds_truths s l h) (holds_truths s' l' h') = s ∙ sym s'
-sort_stays q (holds_truths s l h) (holds_location s' l' h') = let clash : ◌≡◌ {A = ℕ} 0 1 = cc in absurd (omega arith)
-sort_stays q (holds_location s l h) g = let clash : ◌≡◌ {A = ℕ} 0 1 = cc in absurd (omega arith)
+sort_stays q (holds_truths s l h) (holds_location s' l' h') = absurd cc
+sort_stays q (holds_location s l h) g = absurd cc
 
 module _ {words words' : List ℕ} (l low high : ℕ) (written : SetCell words words' l low high) where
   -- The cells that are newer or older.
@@ -191,34 +192,34 @@ cells_oldest {m = m} {n = n} {M = M} h cells = cells_dropped (length M - n) n (o
 
 -- ---- A copy of the cells.
 
-pub data KeptAt (words kept : List ℕ) : (count : ℕ) → CarriedCells → Type 0 where
+pub data KeptAt (words : List ℕ) (kept : List Ends) : (count : ℕ) → CarriedCells → Type 0 where
   none_kept : KeptAt words kept 0 []
   one_kept : {n : ℕ} {v : Carried} {K : CarriedCells} → HoldsValue (kept_value words kept n) v → KeptAt words kept n K → KeptAt words kept (suc n) (v ∷ K)
 
 -- It stays while other words than the sorts change.
-pub kept_stays : {words words' kept : List ℕ} {b n m : ℕ} {K : CarriedCells} → Keeps words words' b n → m ≤ n → KeptAt words kept m K → KeptAt words' kept m K
+pub kept_stays : {words words' : List ℕ} {kept : List Ends} {b n m : ℕ} {K : CarriedCells} → Keeps words words' b n → m ≤ n → KeptAt words kept m K → KeptAt words' kept m K
 kept_stays k h none_kept = none_kept
 kept_stays {kept = kept} k h (one_kept {n = i} v older) =
     one_kept (holds_same (same_parts (k.same_sorts i (omega (arith, h))) refl refl) v) (kept_stays k (omega (arith, h)) older)
 
-pub cells_copied : {words kept : List ℕ} {n m : ℕ} {K : CarriedCells} → Copied words kept n → m ≤ n → CellsAt words m K → KeptAt words kept m K
+pub cells_copied : {words : List ℕ} {kept : List Ends} {n m : ℕ} {K : CarriedCells} → Copied words kept n → m ≤ n → CellsAt words m K → KeptAt words kept m K
 cells_copied c h no_cells = none_kept
 cells_copied {words} {kept} c h (one_cell {n = i} v older) =
     one_kept (holds_same (same_parts refl (c.lows_copied i (omega (arith, h))) (c.highs_copied i (omega (arith, h)))) v) (cells_copied c (omega (arith, h)) older)
 
-pub cells_exchanged : {words words' kept kept' : List ℕ} {n m : ℕ} {K : CarriedCells} → Exchanged words words' kept kept' n → n ≤ most_cells → m ≤ n → KeptAt words kept m K → CellsAt words' m K
+pub cells_exchanged : {words words' : List ℕ} {kept kept' : List Ends} {n m : ℕ} {K : CarriedCells} → Exchanged words words' kept kept' n → n ≤ most_cells → m ≤ n → KeptAt words kept m K → CellsAt words' m K
 cells_exchanged x few h none_kept = no_cells
 cells_exchanged {words} {words'} {kept} x few h (one_kept {n = i} v older) =
     one_cell (holds_same (same_parts (x.keeps.same_sorts i (omega (arith, h, few))) (x.lows_there i (omega (arith, h))) (x.highs_there i (omega (arith, h)))) v)
     (cells_exchanged x few (omega (arith, h)) older)
 
-pub copy_exchanged : {words words' kept kept' : List ℕ} {n m : ℕ} {K : CarriedCells} → Exchanged words words' kept kept' n → n ≤ most_cells → m ≤ n → CellsAt words m K → KeptAt words' kept' m K
+pub copy_exchanged : {words words' : List ℕ} {kept kept' : List Ends} {n m : ℕ} {K : CarriedCells} → Exchanged words words' kept kept' n → n ≤ most_cells → m ≤ n → CellsAt words m K → KeptAt words' kept' m K
 copy_exchanged x few h no_cells = none_kept
 copy_exchanged {words} {words'} {kept} {kept'} x few h (one_cell {n = i} v older) =
     one_kept (holds_same (same_parts (x.keeps.same_sorts i (omega (arith, h, few))) (x.copied.lows_copied i (omega (arith, h))) (x.copied.highs_copied i (omega (arith, h)))) v)
     (copy_exchanged x few (omega (arith, h)) older)
 
-pub cells_widened : {words words' kept : List ℕ} {n m : ℕ} {K M W : CarriedCells} → Widened words words' kept n → m ≤ n → KeptAt words kept m K → CellsAt words m M → wider_cells K M ≡ some W → CellsAt words' m W
+pub cells_widened : {words words' : List ℕ} {kept : List Ends} {n m : ℕ} {K M W : CarriedCells} → Widened words words' kept n → m ≤ n → KeptAt words kept m K → CellsAt words m M → wider_cells K M ≡ some W → CellsAt words' m W
 unfolding wider_cells
 cells_widened x h none_kept no_cells q = subst (CellsAt _ 0) (some-injective [] _ q) no_cells
 cells_widened {words} {words'} {kept} x h (one_kept {n = i} {v = v} {K = K} hv older) (one_cell {v = w} {K = M} hw others) q =

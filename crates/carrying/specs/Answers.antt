@@ -1,8 +1,13 @@
 -- What the functions of carrying answer: what carrying the tree that stands at a node comes to, over the names and cells that the work words hold. Each
 -- contract speaks of every tree, names and cells that stand there, and asks only for some whose carrying is fit.
-use Rattle.std.specs.Prelude.{ℕ, suc, ◌+◌, ◌≤◌, ◌≡◌, List, [], ◌∷◌, ◌++◌, length}
+use Rattle.std.specs.Prelude.{ℕ, suc, ◌+◌, ◌≤◌, ◌≡◌, List, [], ◌∷◌, ◌++◌, length, Result, Ok}
 use Rattle.std.proofs.Math.Option.{some}
+use Rattle.rules.specs.Answers.{refused_at}
+use Rattle.rules.specs.declared.refusals.Refusal.TheVariants.{UnsafeArithmetic}
+use Rattle.rules.specs.declared.refusals.Refused.{Refused}
 use Rattle.rules.specs.paper.Limits.{most_bindings}
+use Rattle.rules.specs.declared.kinds.ExpressionKind.{ExpressionKind}
+use Rattle.rules.specs.declared.kinds.ExpressionKind.TheVariants.{Num as num, Boo as boo, Id as id, DeRef as deref, ValRef as valref, Binary as binary, Not as negation}
 use Rattle.rules.specs.paper.Tree.{Expression, Num, Boo, Id, DeRef, ValRef, Binary, Not, Formal, Command, Call, Block, Declaration, Bind, Bound}
 use Rattle.rules.specs.paper.Needs.{Needs, cells_left, bindings_left, over_formals, command_need, block_need, declaration_need, names_given}
 use Rattle.rules.specs.paper.Carried.{Carried, Carrying, carried, unsafe, unfit}
@@ -10,12 +15,8 @@ use Rattle.rules.specs.paper.Carrying.{CarriedCells, CarriedNames, CarriedDeclar
 use Rattle.reader.specs.Stored.{StoredExpression, StoredActuals, StoredFormals, StoredCommand, StoredBlock, StoredDeclaration}
 use Rattle.intervals.specs.Values.{HoldsValue, Gives, ExpressedAs}
 use Rattle.intervals.specs.declared.values.Value.{Value}
-use Rattle.intervals.specs.declared.values.Expressed.{Expressed}
 use Rattle.carrying.specs.States.{RowAt, NamesAt, CellsAt, StateAt, Sees, Room}
 use Rattle.carrying.specs.declared.Held.{Held}
-use Rattle.carrying.specs.declared.Outcome.{Outcome}
-use Rattle.carrying.specs.declared.Outcome.TheVariants.{Through, Unsafe}
-use Rattle.carrying.specs.declared.declarations.Declared.{Declared}
 use Rattle.carrying.specs.declared.functions.Entered.{Entered}
 
 abbrev pub Fits : {A : Type 0} → Carrying A → Type 0
@@ -32,6 +33,16 @@ IsLeaf (ValRef p x) = Unit {0}
 IsLeaf (Binary p o e₁ e₂) = ⊥
 IsLeaf (Not p e) = ⊥
 
+-- The three that name something.
+abbrev pub Names : ExpressionKind → Type 0
+Names num = ⊥
+Names boo = ⊥
+Names id = Unit {0}
+Names deref = Unit {0}
+Names valref = Unit {0}
+Names (binary o) = ⊥
+Names negation = ⊥
+
 pub record ExpressionThere (words : List ℕ) (environment node : ℕ) (e : Expression) (A : CarriedNames) (K : CarriedCells) : Type 0 where
   pub depth : ℕ
   pub next : ℕ
@@ -42,7 +53,7 @@ abbrev pub SomeExpression : List ℕ → (environment node : ℕ) → Type 0
 SomeExpression words environment node =
     (e : Expression) × (A : CarriedNames) × (K : CarriedCells) × ExpressionThere words environment node e A K × Fits (carry_expression A K e)
 
-abbrev pub ExpressionCarried : List ℕ → (environment node : ℕ) → Expressed → Type 0
+abbrev pub ExpressionCarried : List ℕ → (environment node : ℕ) → Result Value Refused → Type 0
 ExpressionCarried words environment node r =
     (e : Expression) (A : CarriedNames) (K : CarriedCells) → ExpressionThere words environment node e A K → ExpressedAs (carry_expression A K e) r
 
@@ -76,12 +87,12 @@ pub record DeclaredState (words : List ℕ) (next : ℕ) (held inner : Held) (c 
   pub bindings_are : inner.bindings ≡ bindings_left c + held.bindings
   pub cells_are : inner.cells ≡ cells_left c + held.cells
 
-abbrev pub DeclaredAs : List ℕ → (next : ℕ) → Held → Declaration → CarriedNames → Needs → Carrying CarriedDeclared → Declared → Type 0
-DeclaredAs words next held c A N (carried D) r = (inner : Held) × (r ≡ Declared.Names inner) × DeclaredState words next held inner c A N D
-DeclaredAs words next held c A N (unsafe p) r = r ≡ Declared.Unsafe p
+abbrev pub DeclaredAs : List ℕ → (next : ℕ) → Held → Declaration → CarriedNames → Needs → Carrying CarriedDeclared → Result Held Refused → Type 0
+DeclaredAs words next held c A N (carried D) r = (inner : Held) × (r ≡ Ok inner) × DeclaredState words next held inner c A N D
+DeclaredAs words next held c A N (unsafe p) r = r ≡ refused_at UnsafeArithmetic p
 DeclaredAs words next held c A N unfit r = Unit {0}
 
-abbrev pub DeclarationCarried : (words words' : List ℕ) → Held → (node : ℕ) → Declared → Type 0
+abbrev pub DeclarationCarried : (words words' : List ℕ) → Held → (node : ℕ) → Result Held Refused → Type 0
 DeclarationCarried words words' held node r =
     (next : ℕ) (c : Declaration) (A : CarriedNames) (N : Needs) (K : CarriedCells) → DeclarationThere words held node next c A N K → DeclaredAs words' next held c A N (carry_declaration A K c) r
 
@@ -105,12 +116,12 @@ abbrev pub SomeActuals : List ℕ → (environment node left row : ℕ) → Type
 SomeActuals words environment node left row =
     (es : List Expression) × (A : CarriedNames) × (K : CarriedCells) × ActualsThere words environment node left row es A K × Fits (carry_actuals A K es)
 
-abbrev pub ActualsAs : List ℕ → (left row : ℕ) → Carrying (List Carried) → Outcome → Type 0
-ActualsAs words left row (carried vs) r = (r ≡ Through) × (length vs ≡ left) × ValuesAt words row vs
-ActualsAs words left row (unsafe p) r = r ≡ Unsafe p
+abbrev pub ActualsAs : List ℕ → (left row : ℕ) → Carrying (List Carried) → Result (Unit {0}) Refused → Type 0
+ActualsAs words left row (carried vs) r = (r ≡ Ok tt) × (length vs ≡ left) × ValuesAt words row vs
+ActualsAs words left row (unsafe p) r = r ≡ refused_at UnsafeArithmetic p
 ActualsAs words left row unfit r = Unit {0}
 
-abbrev pub ActualsCarried : (words words' : List ℕ) → (environment node left row : ℕ) → Outcome → Type 0
+abbrev pub ActualsCarried : (words words' : List ℕ) → (environment node left row : ℕ) → Result (Unit {0}) Refused → Type 0
 ActualsCarried words words' environment node left row r =
     (es : List Expression) (A : CarriedNames) (K : CarriedCells) → ActualsThere words environment node left row es A K → ActualsAs words' left row (carry_actuals A K es) r
 
@@ -146,12 +157,12 @@ abbrev pub SomeCommand : List ℕ → Held → (node : ℕ) → Type 0
 SomeCommand words held node =
     (c : Command) × (A : CarriedNames) × (N : Needs) × (K : CarriedCells) × CommandThere words held node c A N K × Fits (carry_command A K c)
 
-abbrev pub CommandAs : List ℕ → (cells : ℕ) → Carrying CarriedCells → Outcome → Type 0
-CommandAs words count (carried M) r = (r ≡ Through) × CellsAt words count M
-CommandAs words count (unsafe p) r = r ≡ Unsafe p
+abbrev pub CommandAs : List ℕ → (cells : ℕ) → Carrying CarriedCells → Result (Unit {0}) Refused → Type 0
+CommandAs words count (carried M) r = (r ≡ Ok tt) × CellsAt words count M
+CommandAs words count (unsafe p) r = r ≡ refused_at UnsafeArithmetic p
 CommandAs words count unfit r = Unit {0}
 
-abbrev pub CommandCarried : (words words' : List ℕ) → Held → (node : ℕ) → Outcome → Type 0
+abbrev pub CommandCarried : (words words' : List ℕ) → Held → (node : ℕ) → Result (Unit {0}) Refused → Type 0
 CommandCarried words words' held node r =
     (c : Command) (A : CarriedNames) (N : Needs) (K : CarriedCells) → CommandThere words held node c A N K → CommandAs words' held.cells (carry_command A K c) r
 
@@ -166,17 +177,17 @@ pub record FunctionThere (words : List ℕ) (held : Held) (node : ℕ) (inner : 
   pub same_cells : inner.cells ≡ held.cells
   pub more_bindings : held.bindings ≤ inner.bindings
 
-pub data EnteredAs (words : List ℕ) (held : Held) (node : ℕ) (K : CarriedCells) (whole : Carrying CarriedCells) (r : Entered) : Type 0 where
-  entered : (inner : Held) (inside : ℕ) (b : Block) (F : CarriedNames) (N : Needs) → r ≡ Entered.Function inner inside → FunctionThere words held node inner inside b F N K →
+pub data EnteredAs (words : List ℕ) (held : Held) (node : ℕ) (K : CarriedCells) (whole : Carrying CarriedCells) (r : Result Entered Refused) : Type 0 where
+  entered : (inner : Held) (inside : ℕ) (b : Block) (F : CarriedNames) (N : Needs) → r ≡ Ok (record { held = inner; block = inside }) → FunctionThere words held node inner inside b F N K →
       whole ≡ carry_block F K b → EnteredAs words held node K whole r
-  not_entered : (p : ℕ) → r ≡ Entered.Unsafe p → whole ≡ unsafe p → EnteredAs words held node K whole r
+  not_entered : (p : ℕ) → r ≡ refused_at UnsafeArithmetic p → whole ≡ unsafe p → EnteredAs words held node K whole r
   never_entered : whole ≡ unfit → EnteredAs words held node K whole r
 
 abbrev pub SomeCall : List ℕ → Held → (node : ℕ) → Type 0
 SomeCall words held node =
     (x : ℕ) × (es : List Expression) × (A : CarriedNames) × (N : Needs) × (K : CarriedCells) × CommandThere words held node (Call node x es) A N K × Fits (carry_command A K (Call node x es))
 
-abbrev pub CallCarried : (words words' : List ℕ) → Held → (node : ℕ) → Entered → Type 0
+abbrev pub CallCarried : (words words' : List ℕ) → Held → (node : ℕ) → Result Entered Refused → Type 0
 CallCarried words words' held node r =
     (x : ℕ) (es : List Expression) (A : CarriedNames) (N : Needs) (K : CarriedCells) → CommandThere words held node (Call node x es) A N K →
     EnteredAs words' held node K (carry_command A K (Call node x es)) r

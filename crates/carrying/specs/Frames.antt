@@ -6,7 +6,8 @@ use Rattle.rules.specs.paper.Limits.{most_nodes, most_bindings, most_cells}
 use Rattle.rules.specs.paper.Carried.{Carried, wider}
 use Rattle.intervals.specs.Values.{HoldsValue}
 use Rattle.intervals.specs.declared.values.Value.{Value}
-use Rattle.carrying.specs.Layout.{row_links, row_lows, row_highs, cell_sorts, cell_lows, cell_highs, regions_end, link, cell_value, kept_value}
+use Rattle.carrying.specs.Layout.{row_links, row_lows, row_highs, cell_sorts, cell_lows, cell_highs, regions_end, link, cell_value, kept_ends, kept_value}
+use Rattle.carrying.specs.declared.cells.Ends.{Ends}
 
 pub record Keeps (words words' : List ℕ) (bindings cells : ℕ) : Type 0 where
   pub same_length : length words' ≡ length words
@@ -43,17 +44,17 @@ pub record SetCell (words words' : List ℕ) (cell low high : ℕ) : Type 0 wher
 
 -- ---- A copy of so many cells.
 
-pub record Copied (words kept : List ℕ) (cells : ℕ) : Type 0 where
-  pub lows_copied : (i : ℕ) → i < cells → get_or kept i 0 ≡ get_or words (cell_lows + i) 0
-  pub highs_copied : (i : ℕ) → i < cells → get_or kept (most_cells + i) 0 ≡ get_or words (cell_highs + i) 0
+pub record Copied (words : List ℕ) (kept : List Ends) (cells : ℕ) : Type 0 where
+  pub lows_copied : (i : ℕ) → i < cells → (kept_ends kept i).low ≡ get_or words (cell_lows + i) 0
+  pub highs_copied : (i : ℕ) → i < cells → (kept_ends kept i).high ≡ get_or words (cell_highs + i) 0
 
-pub record Exchanged (words words' kept kept' : List ℕ) (cells : ℕ) : Type 0 where
-  pub lows_there : (i : ℕ) → i < cells → get_or words' (cell_lows + i) 0 ≡ get_or kept i 0
-  pub highs_there : (i : ℕ) → i < cells → get_or words' (cell_highs + i) 0 ≡ get_or kept (most_cells + i) 0
+pub record Exchanged (words words' : List ℕ) (kept kept' : List Ends) (cells : ℕ) : Type 0 where
+  pub lows_there : (i : ℕ) → i < cells → get_or words' (cell_lows + i) 0 ≡ (kept_ends kept i).low
+  pub highs_there : (i : ℕ) → i < cells → get_or words' (cell_highs + i) 0 ≡ (kept_ends kept i).high
   pub copied : Copied words kept' cells
   pub keeps : Keeps words words' most_bindings most_cells
 
 -- Each cell has the wider of its copy and of what it held.
-pub record Widened (words words' kept : List ℕ) (cells : ℕ) : Type 0 where
+pub record Widened (words words' : List ℕ) (kept : List Ends) (cells : ℕ) : Type 0 where
   pub widened : (i : ℕ) → i < cells → (v w x : Carried) → HoldsValue (kept_value words kept i) v → HoldsValue (cell_value words i) w → wider v w ≡ some x → HoldsValue (cell_value words' i) x
   pub keeps : Keeps words words' most_bindings most_cells

@@ -1,7 +1,10 @@
 -- Where names and cells stand in the work words, behind the tree's nodes. The code has the same in layout.rt.
 use Rattle.std.specs.Prelude.{ℕ, ◌+◌, ◌*◌, ◌-◌, ◌/◌, ◌%◌, List, get_or}
 use Rattle.rules.specs.paper.Limits.{most_nodes, most_bindings, most_cells, names}
+use Rattle.intervals.specs.Values.{location_sort}
 use Rattle.intervals.specs.declared.values.Value.{Value}
+use Rattle.carrying.specs.declared.Held.{Held}
+use Rattle.carrying.specs.declared.cells.Ends.{Ends}
 
 -- ---- The regions, one behind the other.
 
@@ -55,9 +58,21 @@ row_pointer words at = get_or words (row_links - 1 + at) 0 / pointer_unit
 abbrev pub cell_value : List ℕ → (cell : ℕ) → Value
 cell_value words n = record { sort = get_or words (cell_sorts + n) 0; low = get_or words (cell_lows + n) 0; high = get_or words (cell_highs + n) 0 }
 
--- how many words a copy of all cells has, without their sorts
-abbrev pub kept_words : ℕ
-kept_words = 2 * most_cells
+-- of a copy the ends alone are kept, and the sort is the cell's
+abbrev pub kept_ends : List Ends → (cell : ℕ) → Ends
+kept_ends kept n = get_or kept n (record { low = 0; high = 0 })
 
-abbrev pub kept_value : List ℕ → List ℕ → (cell : ℕ) → Value
-kept_value words kept n = record { sort = get_or words (cell_sorts + n) 0; low = get_or kept n 0; high = get_or kept (most_cells + n) 0 }
+abbrev pub kept_value : List ℕ → List Ends → (cell : ℕ) → Value
+kept_value words kept n = record { sort = get_or words (cell_sorts + n) 0; low = (kept_ends kept n).low; high = (kept_ends kept n).high }
+
+-- The location of a cell, as a value.
+abbrev pub location_value : (cell : ℕ) → Value
+location_value n = record { sort = location_sort; low = n; high = n }
+
+-- ---- The names and cells that there are, with one more row, which is the newest name, and with one more cell.
+
+abbrev pub row_added : Held → Held
+row_added held = record { environment = held.bindings + 1; bindings = held.bindings + 1; cells = held.cells }
+
+abbrev pub cell_added : Held → Held
+cell_added held = record { environment = held.environment; bindings = held.bindings; cells = held.cells + 1 }

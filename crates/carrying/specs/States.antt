@@ -1,6 +1,6 @@
 -- Which names and cells the work words hold. A name's row has its value, or the node of its function's Abs; a function's own names are those below
 -- its row, and its tree ends before the node at which the names are used, so that a call goes back in the tree.
-use Rattle.std.specs.Prelude.{ℕ, suc, ◌+◌, ◌<◌, ◌≤◌, ◌≡◌, List, [], ◌∷◌, get_or}
+use Rattle.std.specs.Prelude.{ℕ, suc, ◌+◌, ◌<◌, ◌≤◌, ◌≡◌, List, [], ◌∷◌, get_or, Option, MatchOption}
 use Rattle.std.proofs.Math.Option.{some}
 use Rattle.rules.specs.paper.Limits.{most_bindings, most_cells, names}
 use Rattle.rules.specs.paper.Tree.{Formal, Block, Abs}
@@ -55,9 +55,10 @@ pub record FoundRow (words : List ℕ) (limit pointer name : ℕ) (m : CarriedMe
   pub other_needs : Needs
   pub names_there : NamesAt words limit pointer (record { name = name; meaning = m } ∷ others) (needing name n ∷ other_needs)
 
-abbrev pub FoundAt : List ℕ → (environment name : ℕ) → ℕ → Type 0
+abbrev pub FoundAt : List ℕ → (environment name : ℕ) → Option ℕ → Type 0
 FoundAt words environment x r =
-    (limit : ℕ) (A : CarriedNames) (N : Needs) (m : CarriedMeaning) → NamesAt words limit environment A N → carried_meaning x A ≡ some m → FoundRow words limit r x m (need_of x N)
+    (limit : ℕ) (A : CarriedNames) (N : Needs) (m : CarriedMeaning) → NamesAt words limit environment A N → carried_meaning x A ≡ some m →
+    MatchOption r ⊥ (λ at. FoundRow words limit at x m (need_of x N))
 
 -- ---- Cells, newest first: so many.
 

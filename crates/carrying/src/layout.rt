@@ -20,6 +20,3 @@ pub const CELL_HIGHS: usize = CELL_LOWS + MOST_CELLS;
 pub const SORTS: usize = 4;
 
 pub const POINTER_UNIT: usize = NAMES * SORTS;
-
-// How many words a copy of all cells has, without their sorts.
-pub const KEPT_WORDS: usize = 2 * MOST_CELLS;

@@ -1,6 +1,6 @@
 // The names in scope: rows in the work words, each with a pointer to the one below it. A pointer is one more than the number of its row; 0 points at
 // no row.
-ghost use Rattle.std.specs.Prelude.{◌≡◌, ◌≤◌, ◌<◌, length};
+ghost use Rattle.std.specs.Prelude.{◌≡◌, ◌≤◌, ◌<◌, length, IfSome};
 ghost use Rattle.rules.specs.paper.Limits.{names, most_bindings};
 ghost use Rattle.carrying.specs.Layout.{regions_end, sorts, row_value, row_pointer};
 ghost use Rattle.carrying.specs.States.{SomeNames, FoundAt};
@@ -10,22 +10,22 @@ use crate::layout::{POINTER_UNIT, ROW_HIGHS, ROW_LINKS, ROW_LOWS, SORTS};
 use intervals::values::Value;
 use reader::NAMES;
 
-// Where the newest row of a name is, from a pointer on down the chain: its pointer, or 0.
-pub fn find(work: &[u64], environment: usize, name: usize) -> usize
+// Where the newest row of a name is, from a pointer on down the chain: its pointer.
+pub fn find(work: &[u64], environment: usize, name: usize) -> Option<usize>
     requires regions_end_in_bounds { regions_end ≤ length work.now }
     requires some_names { SomeNames work.now environment }
     ensures found_at { FoundAt work.now environment name result }
-    ensures upper_bound { result ≤ environment }
+    ensures upper_bound { IfSome result (λ at. at ≤ environment) }
 {
     let mut at = environment;
     while at != 0 {
         let link = work[ROW_LINKS - 1 + at] as usize;
         if link % NAMES == name {
-            return at;
+            return Some(at);
         }
         at = link / POINTER_UNIT;
     }
-    0
+    None
 }
 
 // What the row at a pointer holds.

@@ -11,31 +11,30 @@ ghost use Rattle.typing.specs.Rows.{rows_end};
 ghost use Rattle.checker.specs.Commands.{WritesRowsFrom, RootJudgedAt};
 
 use crate::commands::command;
-use reader::{kind, kinds};
-use typing::codes::Answer;
+use reader::node_kind;
+use rules::kinds::{Kind, Passed};
+use rules::refusals::Refused;
 use typing::expressions::expression;
 
-// The root's number where it is a command; that of an expression is its code.
-pub const COMMAND: usize = 8;
-
-// The whole tree of so many nodes, with the registers in scope: the number of what the root is, or the first fault. With no node the root is
-// absent, and passes as a command.
-pub fn root(work: &mut [u64], registers: usize, nodes: usize) -> Answer
+// The whole tree of so many nodes, with the registers in scope: what the root is, or the first fault. With no node the root is absent, and
+// passes as a command.
+pub fn root(work: &mut [u64], registers: usize, nodes: usize) -> Result<Passed, Refused>
     requires rows_end_in_bounds { rows_end ≤ length work.old }
     requires root_at { (t : Root) × RootAt work.old nodes t }
     ensures root_judged_at { RootJudgedAt work.old registers nodes result }
     ensures writes_rows_from { WritesRowsFrom work.old work.new 0 }
 {
     if nodes == 0 {
-        return Answer::Is(COMMAND);
+        return Ok(Passed::Command);
     }
-    let which = kind(work, 0);
-    if which < kinds::ASSIGN {
-        return expression(work, registers, 0, 0);
+    match node_kind(work, 0) {
+        Kind::Expression(_) => {
+            let code = expression(work, registers, 0, 0)?;
+            Ok(Passed::Expression(code))
+        }
+        _ => {
+            command(work, registers, 0, 0)?;
+            Ok(Passed::Command)
+        }
     }
-    let judged = command(work, registers, 0, 0);
-    let Answer::Is(done) = judged else {
-        return judged;
-    };
-    Answer::Is(COMMAND)
 }

@@ -8,8 +8,9 @@ use lib.IntN.{pos}
 use lib.ListN.{length, replicate}
 use borrow.Author.Tests.{le-ltb, lt-ltb, le-leb, lt-leb, eq-eqb, ne_eqb}
 use Rattle.rules.specs.paper.Limits.{most_registers, work_words, most_budget}
-use Rattle.rules.specs.paper.Refusals.{refusal_number}
-use Rattle.rules.specs.paper.Refusals as Refusals
+use Rattle.rules.specs.Answers.{refused_at}
+use Rattle.rules.specs.declared.refusals.Refusal.{Refusal}
+use Rattle.rules.specs.declared.refusals.Refusal.TheVariants as Refusals
 use Rattle.rules.specs.paper.HighMarks.{no_high_marks}
 use Rattle.rules.specs.paper.Engine.{engine, refusing, refused}
 use Rattle.integers.specs.Words.{integer_of, integers_of, words_of}
@@ -18,7 +19,7 @@ use Rattle.little_endian.specs.NumberLaws.{AllBytes}
 use Rattle.engine.specs.Bytes.{whole, register_values, register_bytes, value_bytes, run_call_registers, too_many_registers}
 use Rattle.engine.specs.BytesKept.{values_whole, values_none, bytes_whole, bytes_none, registers_kept}
 use Rattle.calls.specs.Runs.{run_call}
-use Rattle.engine.specs.Replies.{RunReplies, RunCalled}
+use Rattle.engine.specs.Replies.{RunReplies, outcome_fields, RunCalled}
 use Rattle.engine.specs.declared.RunReply.{RunReply}
 
 -- ---- Which bytes are registers.
@@ -71,21 +72,19 @@ module _ (image bytes : List ℕ) (budget : ℕ) (work : List ℕ) where
         work_is = here.work_is;
       }
 
-  -- ---- 22 and 21: nothing is touched.
+  -- ---- The work words and the budget: nothing is touched.
 
-  untouched : (x : Refusals.Refusal) (r : RunReply) → run_call_registers image bytes budget work ≡ refusing x 0 (register_values bytes) work →
-      RunReplies (record { answer = refused x 0; steps = 0; most = no_high_marks }) r → AllBytes bytes → LeavesBytes r bytes work
-  untouched x r e q low =
-      subst (λ c. RunCalled (register_bytes bytes) c r bytes work) (sym e) (record { reply_is = q; registers_are = sym (registers_kept bytes low); work_is = refl })
+  untouched : (x : Refusal) → run_call_registers image bytes budget work ≡ refusing x 0 (register_values bytes) work → AllBytes bytes → (r : RunReply) → r ≡ outcome_fields (refused_at x 0) → LeavesBytes r bytes work
+  untouched x e low r q =
+      subst (λ c. RunCalled (register_bytes bytes) c r bytes work) (sym e)
+      (record { reply_is = subst (RunReplies (record { answer = refused x 0; steps = 0; most = no_high_marks })) (sym q) at_once; registers_are = sym (registers_kept bytes low); work_is = refl })
+    where
+      at_once : RunReplies (record { answer = refused x 0; steps = 0; most = no_high_marks }) (outcome_fields (refused_at x 0))
+      at_once =
+          record { refusal_is = refl; outcome_is = refl; value_is = refl; place_is = refl; steps_are = refl; cells_are = refl; bindings_are = refl; values_are = refl; control_is = refl }
 
-  pub work_refused : length work < work_words → AllBytes bytes → LeavesBytes (record { refusal = 22; outcome = 0; value = 0; place = 0; steps = 0; cells = 0; bindings = 0; values = 0; control = 0 }) bytes work
-  unfolding refusal_number
-  work_refused h low =
-      untouched Refusals.Work _ (unfold engine in (rw (lt-ltb (length work) work_words h)))
-      (record { refusal_is = refl; outcome_is = refl; value_is = refl; place_is = refl; steps_are = refl; cells_are = refl; bindings_are = refl; values_are = refl; control_is = refl }) low
+  pub work_refused : length work < work_words → AllBytes bytes → (r : RunReply) → r ≡ outcome_fields (refused_at Refusals.Work 0) → LeavesBytes r bytes work
+  work_refused h = untouched Refusals.Work (unfold engine in (rw (lt-ltb (length work) work_words h)))
 
-  pub budget_refused : work_words ≤ length work → most_budget < budget → AllBytes bytes → LeavesBytes (record { refusal = 21; outcome = 0; value = 0; place = 0; steps = 0; cells = 0; bindings = 0; values = 0; control = 0 }) bytes work
-  unfolding refusal_number
-  budget_refused room h low =
-      untouched Refusals.Budget _ (unfold engine in (rw (le-ltb (length work) work_words room, lt-leb budget most_budget h)))
-      (record { refusal_is = refl; outcome_is = refl; value_is = refl; place_is = refl; steps_are = refl; cells_are = refl; bindings_are = refl; values_are = refl; control_is = refl }) low
+  pub budget_refused : work_words ≤ length work → most_budget < budget → AllBytes bytes → (r : RunReply) → r ≡ outcome_fields (refused_at Refusals.Budget 0) → LeavesBytes r bytes work
+  budget_refused room h = untouched Refusals.Budget (unfold engine in (rw (le-ltb (length work) work_words room, lt-leb budget most_budget h)))

@@ -5,10 +5,10 @@ use Rattle.std.specs.Prelude.{ℕ, suc, ◌+◌, ◌-◌, ◌*◌, ◌/◌, ◌%
 use Rattle.std.proofs.Common.{sym, ap, ◌∙◌, subst, arith, length-append, le-ltb, lt-ltb, le-leb, eq-eqb, ne_eqb}
 use Rattle.std.proofs.Math.Nat.{mul-mod_right, div-eq_of_eq-mul_right}
 use Rattle.calls.specs.Sizes.{most_image_words}
-use Rattle.rules.specs.paper.Refusals as Refusals
+use Rattle.rules.specs.declared.refusals.Refusal.TheVariants as Refusals
 use Rattle.rules.specs.paper.Limits.{most_registers}
 use Rattle.rules.specs.paper.Tree.{Root}
-use Rattle.rules.specs.paper.Checker.{Passed}
+use Rattle.rules.specs.declared.kinds.Passed.{Passed}
 use Rattle.rules.specs.paper.Reader.{read, bad, size_fits}
 use Rattle.rules.specs.paper.Engine.{check_image, passed, run_checked, refusing}
 use Rattle.rules.proofs.Basics.{append_nothing}

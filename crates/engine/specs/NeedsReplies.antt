@@ -1,7 +1,9 @@
 -- The answer of the needs to a C host: the paper's numbers and values, each in a field of its own. With a refusal every figure is 0.
-use Rattle.std.specs.Prelude.{ℕ, ◌≡◌}
+use Rattle.std.specs.Prelude.{ℕ, ◌≡◌, Option, Some, None, Result, Ok, Err}
 use Rattle.rules.specs.paper.Refusals.{refusal_number}
+use Rattle.rules.specs.declared.refusals.Refused.{Refused}
 use Rattle.rules.specs.paper.Engine.{given, left_open, NeedsAnswer, figures, no_figures}
+use Rattle.calls.specs.declared.Estimated.{Estimated}
 use Rattle.engine.specs.declared.NeedsReply.{NeedsReply}
 
 abbrev pub needs_refusal : NeedsAnswer → ℕ
@@ -39,6 +41,21 @@ abbrev pub needs_open : NeedsAnswer → ℕ
 needs_open (figures k v c b (given s)) = 0
 needs_open (figures k v c b left_open) = 1
 needs_open (no_figures x p) = 0
+
+-- The fields, from what the code answers.
+abbrev pub steps_field : Option ℕ → ℕ
+steps_field (Some s) = s
+steps_field None = 0
+
+abbrev pub open_field : Option ℕ → ℕ
+open_field (Some s) = 0
+open_field None = 1
+
+abbrev pub needs_fields : Result Estimated Refused → NeedsReply
+needs_fields (Ok e) =
+    record { refusal = 0; place = 0; control = e.control; values = e.values; cells = e.cells; bindings = e.bindings; steps = steps_field e.steps; «open» = open_field e.steps }
+needs_fields (Err r) =
+    record { refusal = refusal_number r.refusal; place = r.place; control = 0; values = 0; cells = 0; bindings = 0; steps = 0; «open» = 0 }
 
 pub record NeedsReplied (a : NeedsAnswer) (r : NeedsReply) : Type 0 where
   pub refusal_is : r.refusal ≡ needs_refusal a

@@ -3,17 +3,18 @@
 ghost use Rattle.std.specs.Prelude.{◌≡◌, ◌*◌, ◌≤◌, length, take};
 ghost use Rattle.calls.specs.Sizes.{most_image_words};
 ghost use Rattle.rules.specs.paper.Engine.{checker};
-ghost use Rattle.engine.specs.Replies.{Replies, RunCalled};
+ghost use Rattle.rules.specs.Answers.{refused_at};
+ghost use Rattle.engine.specs.Replies.{Replies, outcome_fields, RunCalled};
 ghost use Rattle.little_endian.specs.Numbers.{numbers};
 ghost use Rattle.calls.specs.Runs.{run_call};
 ghost use Rattle.engine.specs.Bytes.{image_count, image_of_bytes, register_bytes, value_bytes, run_call_registers, run_call_bytes};
 
 use crate::{CheckReply, RunReply, pi_check, pi_run};
-use calls::refusals::{REFUSED_BUDGET, REFUSED_WORK};
 use calls::{MOST_BUDGET, MOST_IMAGE_WORDS};
 use little_endian::{pack_values, unpack_values, unpack_words};
 use loader::WORK_WORDS;
 use reader::MOST_REGISTERS;
+use rules::refusals::{Refusal, Refused};
 
 // A count of registers that no image has.
 const TOO_MANY_REGISTERS: usize = MOST_REGISTERS + 1;
@@ -93,6 +94,13 @@ fn run_registers(image: &[u32], registers: &mut [u8], budget: u64, work: &mut [u
     run_values(image, registers, &mut values[..count], budget, work)
 }
 
+// The reply of a run that is refused before the image is looked at.
+fn at_once(refusal: Refusal) -> RunReply
+    ensures { result ≡ outcome_fields (refused_at refusal 0) }
+{
+    RunReply::from(Err(Refused { refusal, place: 0 }))
+}
+
 // `pi_run` on an image and registers of bytes. Its words are laid out on the stack, which takes 16 KB. Where the work words or the budget are
 // refused nothing is touched.
 #[unsafe(no_mangle)]
@@ -105,30 +113,10 @@ pub extern "C" fn pi_run_bytes(
     ensures { RunCalled (register_bytes registers.old) (run_call_bytes image.now registers.old budget work.old) result registers.new work.new }
 {
     if work.len() < WORK_WORDS {
-        return RunReply {
-            refusal: REFUSED_WORK,
-            outcome: 0,
-            value: 0,
-            place: 0,
-            steps: 0,
-            cells: 0,
-            bindings: 0,
-            values: 0,
-            control: 0,
-        };
+        return at_once(Refusal::Work);
     }
     if MOST_BUDGET < budget {
-        return RunReply {
-            refusal: REFUSED_BUDGET,
-            outcome: 0,
-            value: 0,
-            place: 0,
-            steps: 0,
-            cells: 0,
-            bindings: 0,
-            values: 0,
-            control: 0,
-        };
+        return at_once(Refusal::Budget);
     }
     let mut words = [0u32; MOST_IMAGE_WORDS];
     let count = unpack_image(image, &mut words);

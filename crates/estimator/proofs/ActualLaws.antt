@@ -58,26 +58,26 @@ module _ (words : List ℕ) (node count : ℕ) where
 
 -- The others stand here. Those before them have needed control for themselves and for the ones before them, so that no more is added where
 -- none is left.
-pub record NeededSoFar (words : List ℕ) (node count at left : ℕ) (so_far : Need) : Type 0 where
+pub record NeededSoFar (words : List ℕ) (node count at given left : ℕ) (so_far : Need) : Type 0 where
   pub others : SomeActuals words at left
-  pub fewer : left ≤ count
-  pub above : count - left ≤ so_far.control
+  pub together : given + left ≡ count
+  pub above : given ≤ so_far.control
   pub within : so_far.steps ≤ suc most_steps
   pub all_within : so_far.all_steps ≤ suc most_steps
-  pub whole : (r : Need) → ActualsNeed words at left r → ActualsNeed words node count (both_in_turn so_far (raised r (count - left) 0 0 0))
+  pub whole : (r : Need) → ActualsNeed words at left r → ActualsNeed words node count (both_in_turn so_far (raised r given 0 0 0))
 
-pub none_needed : (words : List ℕ) (node count : ℕ) (so_far : Need) → so_far ≡ numbers 0 0 0 0 0 0 → SomeActuals words node count → NeededSoFar words node count node count so_far
-none_needed words node count so_far q s =
-    subst (NeededSoFar words node count node count) (sym q)
+pub none_needed : (words : List ℕ) (node count left : ℕ) (so_far : Need) → left ≡ count → so_far ≡ numbers 0 0 0 0 0 0 → SomeActuals words node count → NeededSoFar words node count node 0 left so_far
+none_needed words node count left so_far e q s =
+    subst (NeededSoFar words node count node 0 left) (sym q)
     (record {
-      others = s;
-      fewer = omega arith;
+      others = subst (SomeActuals words node) (sym e) s;
+      together = omega arith;
       above = omega arith;
       within = omega arith;
       all_within = omega arith;
       whole =
           λ r all d j es stored n.
-          ap (λ m. both_in_turn (numbers 0 0 0 0 0 0) (raised m (count - count) 0 0 0)) (all d j es stored n)
+          ap (λ m. both_in_turn (numbers 0 0 0 0 0 0) (raised m 0 0 0 0)) (all d j es stored (n ∙ sym e))
           ∙ same_need (omega arith) (omega arith) (omega arith) (omega arith) (omega arith) (omega arith);
     })
 
@@ -97,26 +97,30 @@ moved_size so_far rest one i l k a b p q =
     turned : (x y z : ℕ) → max x (max y z) ≡ max (max x z) y
     turned x y z = omega arith
 
-pub one_more_needed : (words : List ℕ) (node count at left : ℕ) (so_far one raised_one now_so_far : Need) (next : ℕ) → count ≤ most_parameters → NeededSoFar words node count at left so_far →
-    (left ≡ 0 → ⊥) → ExpressionNeeds words at one → raised_one ≡ raised one (count - left) (left - 1) 0 0 → now_so_far ≡ both_in_turn so_far raised_one → next ≡ packed_end (get_or words at 0) →
-    NeededSoFar words node count next (left - 1) now_so_far
-one_more_needed words node count at left so_far one raised_one now_so_far next few known some_left first p q e =
-    subst (NeededSoFar words node count next (left - 1)) (sym (q ∙ ap (both_in_turn so_far) p))
+pub one_more_needed : (words : List ℕ) (node count at given left later : ℕ) (so_far one raised_one now_so_far : Need) (next : ℕ) → count ≤ most_parameters → NeededSoFar words node count at given left so_far →
+    left ≡ suc later → ExpressionNeeds words at one → raised_one ≡ raised one given later 0 0 → now_so_far ≡ both_in_turn so_far raised_one → next ≡ packed_end (get_or words at 0) →
+    NeededSoFar words node count next (given + 1) later now_so_far
+one_more_needed words node count at given left later so_far one raised_one now_so_far next few known one_left first p q e =
+    subst (NeededSoFar words node count next (given + 1) later) (sym (q ∙ ap (both_in_turn so_far) p))
     (record {
-      others = subst (λ i. SomeActuals words i (left - 1)) (sym e) (later_actuals words at left some_left known.others);
-      fewer = omega (arith, known.fewer);
-      above = raised_above (count - left) (count - (left - 1)) one.control so_far.control one_fewer (omega (arith, few)) control_of_one;
+      others = subst (SomeActuals words next) fewer (subst (λ i. SomeActuals words i (left - 1)) (sym e) (later_actuals words at left some_left known.others));
+      together = omega (arith, known.together, one_left);
+      above = raised_above given (given + 1) one.control so_far.control (omega arith) (omega (arith, few, known.together)) control_of_one;
       within = omega arith;
       all_within = omega arith;
       whole =
-          λ r later.
-          subst (ActualsNeed words node count) (moved r (count - left) (left - 1) (count - (left - 1)) one_fewer)
-          (known.whole (both_in_turn (raised r 1 0 0 0) (raised one 0 (left - 1) 0 0))
-          (actuals_together words at left some_left (omega (arith, known.fewer, few)) one r next e first later (both_in_turn (raised r 1 0 0 0) (raised one 0 (left - 1) 0 0)) refl));
+          λ r after.
+          subst (ActualsNeed words node count) (moved r given later (given + 1) (omega arith))
+          (known.whole (both_in_turn (raised r 1 0 0 0) (raised one 0 later 0 0))
+          (subst (λ n. ActualsNeed words at left (both_in_turn (raised r 1 0 0 0) (raised one 0 n 0 0))) fewer
+          (actuals_together words at left some_left (omega (arith, known.together, few)) one r next e first (subst (λ n. ActualsNeed words next n r) (sym fewer) after) (both_in_turn (raised r 1 0 0 0) (raised one 0 (left - 1) 0 0)) refl)));
     })
   where
-    one_fewer : count - (left - 1) ≡ suc (count - left)
-    one_fewer = omega (arith, known.fewer, some_left)
+    some_left : left ≡ 0 → ⊥
+    some_left z = omega (arith, z, one_left)
+
+    fewer : left - 1 ≡ later
+    fewer = omega (arith, one_left)
 
     raised_above : (k m n s : ℕ) → m ≡ suc k → k ≤ most_parameters → 1 ≤ n → m ≤ max s (stopped (n + k))
     raised_above k m n s h few g = omega (arith, h, few, g)
@@ -136,7 +140,7 @@ one_more_needed words node count at left so_far one raised_one now_so_far next f
         (moved_size so_far.bindings r.bindings one.bindings 0 0 0 0 0 refl refl) (omega arith) (omega arith)
 
 -- None is left: what they came to is what all of them come to.
-pub all_needed : (words : List ℕ) (node count at left : ℕ) (so_far : Need) → NeededSoFar words node count at left so_far → left ≡ 0 → ActualsNeed words node count so_far
-all_needed words node count at left so_far known none_left =
+pub all_needed : (words : List ℕ) (node count at given left : ℕ) (so_far : Need) → NeededSoFar words node count at given left so_far → left ≡ 0 → ActualsNeed words node count so_far
+all_needed words node count at given left so_far known none_left =
     subst (ActualsNeed words node count) (same_need (omega (arith, known.above)) (omega arith) (omega arith) (omega arith) (omega (arith, known.within)) (omega (arith, known.all_within)))
     (known.whole (numbers 0 0 0 0 0 0) (no_actual words at left none_left (numbers 0 0 0 0 0 0) refl))

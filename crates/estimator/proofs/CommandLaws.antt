@@ -5,12 +5,17 @@ use mathlib.Core.Path.{◌≡◌, refl, sym, ap, ◌∙◌, subst}
 use mathlib.Core.List.{List, ◌++◌}
 use native.Mathlib.Omega.{arith}
 use lib.ListN.{get_or}
+use Rattle.rules.specs.paper.Kinds.{kind_number}
+use Rattle.rules.specs.declared.kinds.Kind.{Kind}
+use Rattle.rules.specs.declared.kinds.Kind.TheVariants.{Command as command_kind}
+use Rattle.rules.specs.declared.kinds.CommandKind.{CommandKind}
 use Rattle.rules.specs.paper.Tree.{Expression, Command, Assign, Loop, CSeq, block, Call, Cond, Blk, Declaration}
 use Rattle.rules.specs.paper.Needs.{Needs, expression_need, cells_left, bindings_left, command_need, block_need, names_given}
 use Rattle.reader.specs.KindNumbers.{assign_number, loop_number, cseq_number, blk_number, call_number, conditional_number}
 use Rattle.reader.specs.Pack.{packed_kind, packed_end}
 use Rattle.reader.specs.Stored.{StoredExpression, StoredCommand, StoredDeclaration}
 use Rattle.reader.proofs.StoredFields.{kind_is}
+use Rattle.reader.proofs.NodeKindLaws.{kinds_told}
 use Rattle.reader.specs.Stored as Stored
 use Rattle.reader.specs.StoredLaws.{same_command, same_declaration}
 use Rattle.reader.proofs.StandingLaws.{Rooted, after_node, expression_on, expression_end, command_root, command_on, command_end, declaration_root, declaration_on, declaration_end}
@@ -25,6 +30,15 @@ use Rattle.estimator.proofs.EntryLaws.{entries_nodes, names_kept}
 use Rattle.estimator.proofs.DeclarationSizes.{declaration_cells, declaration_bindings}
 
 -- ---- Which command it is.
+
+pub is_number : (k : Kind) (w v : CommandKind) → k ≡ command_kind w → w ≡ v → kind_number k ≡ kind_number (command_kind v)
+is_number k w v p q = ap kind_number (p ∙ ap command_kind q)
+
+pub is_not : (k : Kind) (w v : CommandKind) → k ≡ command_kind w → (w ≡ v → ⊥) → kind_number k ≡ kind_number (command_kind v) → ⊥
+is_not k w v p other q = other (same (sym p ∙ kinds_told k (command_kind v) q))
+  where
+    same : command_kind w ≡ command_kind v → w ≡ v
+    same q = cc
 
 pub data SeenCommand (words : List ℕ) (node next : ℕ) : (which : ℕ) → Command → Type 0 where
   seen_assign : {d x : ℕ} {e : Expression} → StoredExpression words d (node + 1) next e → SeenCommand words node next assign_number (Assign node x e)

@@ -6,6 +6,12 @@ use native.Mathlib.Omega.{arith}
 use lib.ListN.{length, get_or}
 use Rattle.rules.specs.paper.Limits.{most_nodes, names}
 use Rattle.rules.proofs.Basics.{append_assoc}
+use Rattle.rules.specs.paper.Kinds.{kind_number}
+use Rattle.rules.specs.declared.kinds.Kind.{Kind}
+use Rattle.rules.specs.declared.kinds.Kind.TheVariants.{Declaration as declaration_kind}
+use Rattle.rules.specs.declared.kinds.DeclarationKind.{DeclarationKind}
+use Rattle.reader.specs.NodeKinds.{Known}
+use Rattle.reader.proofs.NodeKindLaws.{bound_known}
 use Rattle.rules.specs.paper.Tree.{Expression, Formal, block, Block, Declaration, Bind, DSeq, Bound, plain, Ref, Abs}
 use Rattle.rules.specs.paper.Needs.{Needs, nothing, push_step, expression_need, over_formals, cells_left, bindings_left, bound_need, command_need, block_need, declaration_need, names_given, bound_function}
 use Rattle.reader.specs.KindNumbers.{bind_number, dseq_number, ref_number, abs_number}
@@ -31,6 +37,9 @@ formals_next no_formals = omega arith
 formals_next (one_formal p l m w g) = omega (arith, formals_next g)
 
 -- ---- Which declaration it is.
+
+pub declaration_is_number : (k : Kind) (w v : DeclarationKind) → k ≡ declaration_kind w → w ≡ v → kind_number k ≡ kind_number (declaration_kind v)
+declaration_is_number k w v p q = ap kind_number (p ∙ ap declaration_kind q)
 
 data SeenDeclaration (words : List ℕ) (node next : ℕ) : (which : ℕ) → Declaration → Type 0 where
   seen_sequence : {d m : ℕ} {d₁ d₂ : Declaration} → StoredDeclaration words d (node + 1) m d₁ → StoredDeclaration words d m next d₂ → SeenDeclaration words node next dseq_number (DSeq node d₁ d₂)
@@ -140,6 +149,10 @@ module _ (words : List ℕ) (node which : ℕ) (known : which ≡ packed_kind (g
         low (Stored.plain_of a) = expression_low a
         low (Stored.ref h a) = h.place_low
         low (Stored.abs l h a b) = h.place_low
+
+    -- What it binds has a known kind.
+    pub bound_there : SomeDeclaration words node → Known (get_or words (node + 1) 0)
+    bound_there s = bind_seen s.3 (λ e x b q l o h a. bound_known a)
 
     pub name_low : SomeDeclaration words node → packed_operand (get_or words node 0) < names
     name_low s = bind_seen s.3 (λ e x b q l o h a. omega (arith, l, o))

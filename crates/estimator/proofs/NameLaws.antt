@@ -57,6 +57,19 @@ formal_low words node count some_left s = by s.2 s.3
     by no_formals n = absurd (some_left (sym n))
     by (one_formal p l m w g) n = w.place_low
 
+-- Each has a node.
+formals_low : {words : List ℕ} {node next : ℕ} {fs : List Formal} → StoredFormals words node next fs → 1 ≤ length fs → node + length fs ≤ most_nodes
+formals_low no_formals h = omega (arith, h)
+formals_low (one_formal p l m w no_formals) h = omega (arith, w.place_low)
+formals_low (one_formal p l m w (one_formal q n o x g)) h = omega (arith, formals_low (one_formal q n o x g) (omega arith))
+
+pub formals_end : {words : List ℕ} {node count : ℕ} (most : ℕ) → SomeFormals words node count → node ≤ most → most_nodes ≤ most → node + count ≤ most
+formals_end {node = node} {count = count} most s n m = by count s.3 s.2
+  where
+    by : {words : List ℕ} {j : ℕ} {fs : List Formal} (count : ℕ) → length fs ≡ count → StoredFormals words node j fs → node + count ≤ most
+    by zero e f = omega (arith, n)
+    by (suc k) e f = omega (arith, e, m, formals_low f (omega (arith, e)))
+
 module _ (words : List ℕ) (scope node count : ℕ) where
   pub no_formal : scope ≤ node → count ≡ 0 → FormalsNamed words words scope node count scope
   unfolding over_formals
@@ -110,19 +123,36 @@ pub record NamedSoFar (before words : List ℕ) (scope node count newest at left
   pub kept : WritesEntriesFrom before words node
   pub whole : (after : List ℕ) (r : ℕ) → FormalsNamed words after newest at left r → FormalsNamed before after scope node count r
 
-pub none_named : (words : List ℕ) (scope node count : ℕ) → SomeFormals words node count → ((N : Needs) × NamesAt words scope N) → scope ≤ node →
-    NamedSoFar words words scope node count scope node count
-none_named words scope node count s N l = record { others = s; named = N; linked = l; onward = omega arith; kept = entries_same words node; whole = λ after r later. later }
-
-pub one_more_named : (before words words' : List ℕ) (scope node count newest at left : ℕ) → NamedSoFar before words scope node count newest at left → (left ≡ 0 → ⊥) → (word : ℕ) (none : Need) →
-    word ≡ packed_operand (get_or words at 0) → none ≡ numbers 0 0 0 0 0 0 → KeptEntry words words' at (word % names) newest none →
-    NamedSoFar before words' scope node count (at + 1) (at + 1) (left - 1)
-one_more_named before words words' scope node count newest at left so_far some_left word none known no_need written =
+pub none_named : (words : List ℕ) (scope node count left : ℕ) → left ≡ count → SomeFormals words node count → ((N : Needs) × NamesAt words scope N) → scope ≤ node →
+    NamedSoFar words words scope node count scope node left
+none_named words scope node count left q s N l =
     record {
-      others = later_formals words newest at left some_left words' word none known no_need written so_far.others;
+      others = subst (SomeFormals words node) (sym q) s;
+      named = N;
+      linked = l;
+      onward = omega arith;
+      kept = entries_same words node;
+      whole = λ after r later. subst (λ n. FormalsNamed words after scope node n r) q later;
+    }
+
+pub one_more_named : (before words words' : List ℕ) (scope node count newest at left later : ℕ) → NamedSoFar before words scope node count newest at left → left ≡ suc later → (word : ℕ) (none : Need) →
+    word ≡ packed_operand (get_or words at 0) → none ≡ numbers 0 0 0 0 0 0 → KeptEntry words words' at (word % names) newest none →
+    NamedSoFar before words' scope node count (at + 1) (at + 1) later
+one_more_named before words words' scope node count newest at left later so_far one_left word none known no_need written =
+    record {
+      others = subst (SomeFormals words' (at + 1)) fewer (later_formals words newest at left some_left words' word none known no_need written so_far.others);
       named = names_on words newest at left some_left words' word none known no_need written so_far.linked so_far.others so_far.named;
       linked = omega arith;
       onward = omega (arith, so_far.onward);
       kept = entries_then so_far.kept written.others so_far.onward;
-      whole = λ after r later. so_far.whole after r (formals_named words newest at left some_left words' word none known no_need written so_far.linked after r later);
+      whole =
+          λ after r done.
+          so_far.whole after r
+          (formals_named words newest at left some_left words' word none known no_need written so_far.linked after r (subst (λ n. FormalsNamed words' after (at + 1) (at + 1) n r) (sym fewer) done));
     }
+  where
+    some_left : left ≡ 0 → ⊥
+    some_left z = omega (arith, z, one_left)
+
+    fewer : left - 1 ≡ later
+    fewer = omega (arith, one_left)

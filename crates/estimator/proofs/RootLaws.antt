@@ -1,22 +1,30 @@
 -- The whole routine: its root by the kind of node 0, the registers, and whether a Loop is among its nodes.
-use Prim.Native.Nat.{ℕ, zero, suc, ◌+◌, ◌<◌, ◌≤◌}
-use mathlib.Core.Path.{◌≡◌, refl, sym, ap, ◌∙◌}
+use Prim.Native.Nat.{ℕ, zero, suc, ◌<◌, ◌≤◌}
+use mathlib.Core.Path.{◌≡◌, refl, sym, ap, ◌∙◌, subst}
 use mathlib.Core.Bool.{Bool, true, false, cond, ◌||◌}
 use mathlib.Core.List.{List}
 use mathlib.Core.Logic.{◌⊎◌, inl, inr, ⊎_elim}
 use native.Mathlib.Omega.{arith}
 use lib.Dec.{eqb}
-use lib.ListN.{get_or}
+use lib.ListN.{length, get_or}
+use Rattle.std.specs.Prelude.{MatchBool}
+use Rattle.std.specs.List.{HoldsAt, AllWithin, range_with_len}
+use Rattle.std.proofs.lemmas.List.FromFn.{length-range_with_len, get_or-range_with_len}
 use Rattle.rules.specs.paper.Limits.{most_registers}
 use Rattle.rules.specs.paper.Tree.{Expression, Formal, Command, Block, Declaration, Bound, Root}
 use Rattle.rules.specs.paper.Needs.{nothing, need_of, register_needs, root_need, routine_need, is_loop, some_command, some_in_block, some_in_declaration, some_in_bound, some_in_root, has_loop}
-use Rattle.reader.specs.KindNumbers.{assign_number, loop_number}
+use Rattle.reader.specs.KindNumbers.{loop_number}
 use Rattle.reader.specs.Pack.{packed_kind}
 use Rattle.reader.specs.Stored.{HasWord, StoredExpression, StoredActuals, no_actuals, one_actual, StoredFormals, no_formals, one_formal, StoredCommand, StoredBlock, StoredDeclaration, StoredBound, StoredRoot, root_expression, root_command, root_absent, RootAt}
 use Rattle.reader.proofs.StoredFields.{kind_is}
 use Rattle.reader.specs.Stored as Stored
 use Rattle.reader.proofs.StandingLaws.{expression_on, actuals_on, formals_on, command_on, block_on, declaration_on, bound_on, absent_root, operator_below, operator_low}
-use Rattle.reader.proofs.KindTrees.{stored_expression_kind, stored_command_kind}
+use Rattle.reader.proofs.NodeKindLaws.{expression_is, command_is}
+use Rattle.rules.specs.paper.Kinds.{kind_number}
+use Rattle.rules.specs.declared.kinds.Kind.{Kind}
+use Rattle.rules.specs.declared.kinds.Kind.TheVariants.{Expression as expression_kind, Command as command_kind}
+use Rattle.rules.specs.declared.kinds.ExpressionKind.{ExpressionKind}
+use Rattle.rules.specs.declared.kinds.CommandKind.{CommandKind}
 use Rattle.estimator.specs.Figures.{stopped, figures, numbers, raised}
 use Rattle.estimator.specs.Entries.{NamesAt, no_entries}
 use Rattle.estimator.specs.Answers.{SomeExpression, SomeCommand, ExpressionNeeds, CommandNeeds, RootNeeds, RoutineNeeds, LoopFound}
@@ -43,38 +51,41 @@ module _ (words : List ℕ) (nodes : ℕ) where
   unfolding root_need
   absent_needs z r q registers t at = q ∙ ap (λ u. figures (root_need (register_needs registers) u)) (sym (absent_root z at))
 
-  module _ (some_left : nodes ≡ 0 → ⊥) (which : ℕ) (known : which ≡ packed_kind (get_or words 0 0)) where
-    pub expression_there : which < assign_number → ((t : Root) × RootAt words nodes t) → SomeExpression words 0
-    expression_there l t = by refl t.1.stored
+  module _ (some_left : nodes ≡ 0 → ⊥) (k : Kind) (known : kind_number k ≡ packed_kind (get_or words 0 0)) where
+    not_both : (e : ExpressionKind) (c : CommandKind) → k ≡ expression_kind e → k ≡ command_kind c → ⊥
+    not_both e c p q = cc
+
+    pub expression_there : (e : ExpressionKind) → k ≡ expression_kind e → ((t : Root) × RootAt words nodes t) → SomeExpression words 0
+    expression_there e is t = by refl t.1.stored
       where
         by : {d j : ℕ} {u : Root} → j ≡ nodes → StoredRoot words d 0 j u → SomeExpression words 0
         by q (root_expression s) = (_, _, _, s)
-        by q (root_command s) = absurd (omega (arith, l, known, (stored_command_kind s).0))
+        by q (root_command s) = absurd (not_both e _ is (command_is k s known))
         by q root_absent = absurd (some_left (sym q))
 
-    pub expression_needs : which < assign_number → (r : Need) → ExpressionNeeds words 0 r → RootNeeds words nodes r
+    pub expression_needs : (e : ExpressionKind) → k ≡ expression_kind e → (r : Need) → ExpressionNeeds words 0 r → RootNeeds words nodes r
     unfolding root_need
-    expression_needs l r needs registers t at = by refl at.stored
+    expression_needs e is r needs registers t at = by refl at.stored
       where
         by : {d j : ℕ} {u : Root} → j ≡ nodes → StoredRoot words d 0 j u → r ≡ figures (root_need (register_needs registers) u)
         by q (root_expression s) = needs _ _ _ s
-        by q (root_command s) = absurd (omega (arith, l, known, (stored_command_kind s).0))
+        by q (root_command s) = absurd (not_both e _ is (command_is k s known))
         by q root_absent = absurd (some_left (sym q))
 
-    pub command_there : assign_number ≤ which → ((t : Root) × RootAt words nodes t) → SomeCommand words 0
+    pub command_there : ((e : ExpressionKind) → k ≡ expression_kind e → ⊥) → ((t : Root) × RootAt words nodes t) → SomeCommand words 0
     command_there l t = by refl t.1.stored
       where
         by : {d j : ℕ} {u : Root} → j ≡ nodes → StoredRoot words d 0 j u → SomeCommand words 0
-        by q (root_expression s) = absurd (omega (arith, l, known, stored_expression_kind s))
+        by q (root_expression s) = absurd (l _ (expression_is k s known))
         by q (root_command s) = (_, _, _, s)
         by q root_absent = absurd (some_left (sym q))
 
-    pub command_needs : assign_number ≤ which → (r : Need) → CommandNeeds words 0 0 r → RootNeeds words nodes r
+    pub command_needs : ((e : ExpressionKind) → k ≡ expression_kind e → ⊥) → (r : Need) → CommandNeeds words 0 0 r → RootNeeds words nodes r
     unfolding root_need
     command_needs l r needs registers t at = by refl at.stored
       where
         by : {d j : ℕ} {u : Root} → j ≡ nodes → StoredRoot words d 0 j u → r ≡ figures (root_need (register_needs registers) u)
-        by q (root_expression s) = absurd (omega (arith, l, known, stored_expression_kind s))
+        by q (root_expression s) = absurd (l _ (expression_is k s known))
         by q (root_command s) = needs _ _ _ (register_needs registers) s (registers_named words registers)
         by q root_absent = absurd (some_left (sym q))
 
@@ -179,36 +190,37 @@ root_tells (root_expression s) = expression_tells s
 root_tells (root_command s) = command_tells s
 root_tells {words} {i = i} root_absent = nothing_tells words i
 
--- No Loop so far.
-abbrev pub NoneBelow : List ℕ → ℕ → Type 0
-NoneBelow words at = (k : ℕ) → k < at → packed_kind (get_or words k 0) ≡ loop_number → ⊥
+-- ---- One of them is a Loop, or none is.
 
-pub none_so_far : (words : List ℕ) → NoneBelow words 0
-none_so_far words k l q = omega (arith, l)
+abbrev pub IsLoop : List ℕ → ℕ → Type 0
+IsLoop words node = packed_kind (get_or words node 0) ≡ loop_number
 
-pub none_more : (words : List ℕ) (at : ℕ) → NoneBelow words at → (packed_kind (get_or words at 0) ≡ loop_number → ⊥) → NoneBelow words (at + 1)
-none_more words at none other k l q = by_place k l q (equal_or_below k at l)
-  where
-    equal_or_below : (k at : ℕ) → k < at + 1 → (k < at) ⊎ (k ≡ at)
-    equal_or_below zero zero l = inr refl
-    equal_or_below zero (suc at) l = inl (omega arith)
-    equal_or_below (suc k) zero l = absurd (omega (arith, l))
-    equal_or_below (suc k) (suc at) l = ⊎_elim (λ q. inl (omega (arith, q))) (λ q. inr (ap suc q)) (equal_or_below k at (omega (arith, l)))
+abbrev pub IsOther : List ℕ → ℕ → Type 0
+IsOther words node = IsLoop words node → ⊥
 
-    by_place : (k : ℕ) → k < at + 1 → packed_kind (get_or words k 0) ≡ loop_number → (k < at) ⊎ (k ≡ at) → ⊥
-    by_place k l q (inl h) = none k h q
-    by_place k l q (inr h) = other (ap (λ n. packed_kind (get_or words n 0)) (sym h) ∙ q)
-
-pub loop_there : (words : List ℕ) (nodes at : ℕ) → at < nodes → packed_kind (get_or words at 0) ≡ loop_number → LoopFound words nodes true
+loop_there : (words : List ℕ) (nodes at : ℕ) → at < nodes → IsLoop words at → LoopFound words nodes true
 loop_there words nodes at l q t there = by (root_tells there.stored)
   where
     by : {b : Bool} → Tells words 0 nodes b → true ≡ b
     by (one_is k p h e) = refl
     by (none_is f) = absurd (f at (omega arith) l q)
 
-pub no_loop_there : (words : List ℕ) (nodes : ℕ) → NoneBelow words nodes → LoopFound words nodes false
+no_loop_there : (words : List ℕ) (nodes : ℕ) → ((k : ℕ) → k < nodes → IsOther words k) → LoopFound words nodes false
 no_loop_there words nodes none t there = by (root_tells there.stored)
   where
     by : {b : Bool} → Tells words 0 nodes b → false ≡ b
     by (one_is k p h e) = absurd (none k h e)
     by (none_is f) = refl
+
+itself : {nodes : ℕ} (k : ℕ) → k < nodes → get_or (range_with_len 0 nodes) k 0 ≡ k
+itself {nodes} k low = get_or-range_with_len 0 nodes k 0 low ∙ omega arith
+
+pub found_among : (words : List ℕ) (nodes : ℕ) (r : Bool) →
+    MatchBool r ((k : ℕ) × (k < length (range_with_len 0 nodes)) × HoldsAt (IsLoop words) (range_with_len 0 nodes) k) (AllWithin (IsOther words) (range_with_len 0 nodes) 0 (length (range_with_len 0 nodes))) →
+    LoopFound words nodes r
+found_among words nodes true found =
+    let low = subst (λ n. found.0 < n) (length-range_with_len 0 nodes) found.1 in
+    loop_there words nodes found.0 low (subst (IsLoop words) (itself found.0 low) (found.2 0))
+found_among words nodes false none =
+    no_loop_there words nodes
+    (λ k low. subst (IsOther words) (itself k low) (none k 0 (omega arith) (subst (λ n. k < n) (sym (length-range_with_len 0 nodes)) low)))

@@ -1,5 +1,5 @@
 // Needs, and how they are put together: every number stops at one more than the most steps that are given.
-ghost use Rattle.std.specs.Prelude.{◌≡◌, ◌+◌, max};
+ghost use Rattle.std.specs.Prelude.{◌≡◌, ◌+◌};
 ghost use Rattle.estimator.specs.Figures.{stopped, numbers, one_step, raised, both_in_turn, larger_of, unary_figures, binary_figures, tested_figures, sequence_figures, scoped_figures, called_figures};
 
 // The most steps that are given as a figure.
@@ -9,7 +9,7 @@ pub const MOST_STEPS: u32 = 1000000;
 const STOP: u32 = MOST_STEPS + 1;
 
 // How far each size rises over what lies there already, how many steps are made, and how many with both commands of every Cond counted.
-#[derive(Clone, Copy)]
+#[derive(Clone, Copy, Debug, PartialEq, Eq)]
 pub struct Need {
     pub control: u32,
     pub values: u32,
@@ -19,25 +19,11 @@ pub struct Need {
     pub all_steps: u32,
 }
 
+// Both together, as far as every sum goes.
 pub(crate) fn sum(first: u32, second: u32) -> u32
     ensures { result ≡ stopped (first + second) }
 {
-    if STOP <= first {
-        return STOP;
-    }
-    if STOP - first <= second {
-        return STOP;
-    }
-    first + second
-}
-
-fn larger(first: u32, second: u32) -> u32
-    ensures { result ≡ max first second }
-{
-    if first < second {
-        return second;
-    }
-    first
+    first.saturating_add(second).min(STOP)
 }
 
 // No need.
@@ -87,10 +73,10 @@ pub(crate) fn in_turn(first: Need, second: Need) -> Need
     ensures { result ≡ both_in_turn first second }
 {
     Need {
-        control: larger(first.control, second.control),
-        values: larger(first.values, second.values),
-        cells: larger(first.cells, second.cells),
-        bindings: larger(first.bindings, second.bindings),
+        control: first.control.max(second.control),
+        values: first.values.max(second.values),
+        cells: first.cells.max(second.cells),
+        bindings: first.bindings.max(second.bindings),
         steps: sum(first.steps, second.steps),
         all_steps: sum(first.all_steps, second.all_steps),
     }
@@ -100,13 +86,13 @@ pub(crate) fn in_turn(first: Need, second: Need) -> Need
 pub(crate) fn either(first: Need, second: Need) -> Need
     ensures { result ≡ larger_of first second }
 {
-    let steps = larger(first.steps, second.steps);
+    let steps = first.steps.max(second.steps);
     let all_steps = sum(first.all_steps, second.all_steps);
     Need {
-        control: larger(first.control, second.control),
-        values: larger(first.values, second.values),
-        cells: larger(first.cells, second.cells),
-        bindings: larger(first.bindings, second.bindings),
+        control: first.control.max(second.control),
+        values: first.values.max(second.values),
+        cells: first.cells.max(second.cells),
+        bindings: first.bindings.max(second.bindings),
         steps,
         all_steps,
     }

@@ -16,7 +16,8 @@ ghost use Rattle.estimator.specs.Answers.{RootNeeds, RoutineNeeds, LoopFound};
 use crate::commands::command;
 use crate::expressions::expression;
 use crate::figures::{Need, nothing, over};
-use reader::{kind, kinds};
+use reader::{kind, kinds, node_kind};
+use rules::kinds::Kind;
 
 // The need of the root of a tree of so many nodes; with no node the root is absent.
 fn root(work: &mut [u64], nodes: usize) -> Need
@@ -28,11 +29,10 @@ fn root(work: &mut [u64], nodes: usize) -> Need
     if nodes == 0 {
         return nothing();
     }
-    let which = kind(work, 0);
-    if which < kinds::ASSIGN {
-        return expression(work, 0);
+    match node_kind(work, 0) {
+        Kind::Expression(_) => expression(work, 0),
+        _ => command(work, 0, 0),
     }
-    command(work, 0, 0)
 }
 
 // The need of a whole routine: registers count as cells and as bindings.
@@ -47,19 +47,11 @@ pub fn routine(work: &mut [u64], registers: usize, nodes: usize) -> Need
     over(need, 0, 0, registers as u32, registers as u32)
 }
 
-// Whether a Loop is among so many nodes.
+// Whether a Loop is among so many nodes. Any words may stand there, and this may ask no more, so that the kinds are asked for as numbers.
 pub fn has_loop(work: &[u64], nodes: usize) -> bool
     requires most_nodes_in_bounds { most_nodes ≤ length work.now }
     requires nodes_le_most_nodes { nodes ≤ most_nodes }
     ensures { LoopFound work.now nodes result }
 {
-    let mut at = 0;
-    while at < nodes {
-        let which = kind(work, at);
-        if which == kinds::LOOP {
-            return true;
-        }
-        at = at + 1;
-    }
-    false
+    (0..nodes).any(|node| kind(work, node) == kinds::LOOP)
 }

@@ -44,7 +44,7 @@ pub(crate) fn keep(work: &mut [u64], node: usize, name: usize, link: usize, need
 // The need that an entry has.
 fn kept(work: &[u64], at: usize) -> Need
     requires at_le_most_nodes { at ≤ most_nodes }
-    requires le_at { 1 ≤ at }
+    requires at_positive { 1 ≤ at }
     requires entries_end_in_bounds { entries_end ≤ length work.now }
     ensures { EntryAt work.now at result }
 {

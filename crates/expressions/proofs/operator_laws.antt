@@ -1,3 +1,1 @@
 pub mod OperatorLaws
-pub mod OperatorNumberLaws
-pub mod OperatorClassLaws

@@ -5,7 +5,7 @@ use Rattle.rules.specs.paper.Tree.{Formal}
 use Rattle.rules.specs.paper.States.{Environment, Entry}
 use Rattle.rules.specs.paper.Rules.{Matched, match_formals}
 use Rattle.reader.specs.Stored.{StoredFormals}
-use Rattle.machine.specs.Regions.{Slot, slot, Regions, regions, with_control, with_values, raised_control, raised_values}
+use Rattle.machine.specs.Regions.{Slot, slot, Regions, regions, with_control, with_values}
 use Rattle.machine.specs.Represents.{SegmentAs, Extends, Mode, ValuesAs}
 use Rattle.machine.specs.declared.Machine.{Machine}
 
@@ -40,7 +40,8 @@ machine_with_formals count environment m =
 
 -- The Formals from one place to another are left to be bound; the actuals for them are on the value stack, of which the older rows are
 -- all that it knows; and the environment is the one that the Formals bound so far were added to.
-pub record Binding (κ : Regions) (base declared pointer : ℕ) (E : Environment) (mode : Mode) (M : Matched) (now : Regions) (formal block : ℕ) : Type 0 where
+pub record Binding (κ : Regions) (base declared pointer : ℕ) (E : Environment) (mode : Mode) (M : Matched) (now : Regions)
+    (formal block : ℕ) : Type 0 where
   pub rows : List Slot
   pub values : List Slot
   pub made_pointer : ℕ
@@ -72,8 +73,5 @@ Binds before m formal block answer after =
     Binding (regions before m) base declared pointer E mode M (regions after answer) block block
 
 -- A call's frame: the caller's location set and environment on the value stack, and on control the block over its second mark.
-abbrev pub framed : Machine → Machine
-framed m = raised_control (raised_control (raised_values (raised_values m)))
-
 abbrev pub with_frame : (base environment below top : ℕ) → Regions → Regions
 with_frame base environment below top κ = with_control top (with_control below (with_values (slot 0 environment ∷ slot 0 base ∷ κ.values) κ))

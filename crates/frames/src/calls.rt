@@ -4,17 +4,19 @@ ghost use Rattle.rules.specs.paper.States.{call_mark, mark};
 ghost use Rattle.rules.specs.paper.Limits.{most_bindings, most_value_entries, most_control_entries};
 ghost use Rattle.machine.specs.Regions.{regions, Fits};
 ghost use Rattle.machine.specs.Steps.{Applicable, Steps};
-ghost use Rattle.frames.specs.Formals.{machine_with_formals, CanBind, Binds, framed, with_frame};
+ghost use Rattle.frames.specs.Formals.{machine_with_formals, CanBind, Binds, with_frame};
 
+use crate::rows::row_label;
+use machine::Machine;
 use machine::layout::{
-    CARRIED_UNIT, CLOSURE_UNIT, COUNT_UNIT, LABEL_UNIT, LEAVE_MARK, NAME_UNIT, POINTER_UNIT,
-    ROW_PAYLOADS, TOP_LABEL, TOP_PAYLOAD,
+    CARRIED_UNIT, CLOSURE_UNIT, COUNT_UNIT, LEAVE_MARK, NAME_UNIT, ROW_PAYLOADS, TOP_LABEL,
+    TOP_PAYLOAD,
 };
 use machine::lookup::row_of;
-use machine::memory::{put_control, put_row, put_value};
-use machine::stacks::reason_of_room;
-use machine::{Machine, Stepped};
+use machine::memory::{put_row, put_value};
+use machine::stacks::{put_all, reason_of_room};
 use reader::{NAMES, operand};
+use rules::refusals::Reason;
 
 // A row for each Formal from the first one to the block, with the values on top of the value stack, on the closure's environment.
 fn bind_formals(work: &mut [u64], mut m: Machine, first: usize, block: usize) -> Machine
@@ -24,21 +26,15 @@ fn bind_formals(work: &mut [u64], mut m: Machine, first: usize, block: usize) ->
     ensures value { result ≡ machine_with_formals (block - first) result.environment m }
     ensures binds { Binds work.old m first block result work.new }
 {
-    let mut formal = first;
-    while formal < block {
+    for formal in first..block {
         let height = m.values;
         let label = work[TOP_LABEL + height];
         let payload = work[TOP_PAYLOAD + height];
         let name = operand(work, formal) % NAMES;
-        m = put_row(
-            work,
-            m,
-            name as u64 + LABEL_UNIT * label + POINTER_UNIT * m.environment as u64,
-            payload,
-        );
+        let row = row_label(name as u64, label, m.environment);
+        m = put_row(work, m, row, payload);
         m.environment = m.bindings;
         m.values = height - 1;
-        formal = formal + 1;
     }
     m
 }
@@ -55,24 +51,22 @@ fn put_frame(
     requires fits { Fits work.old m }
     requires values_bound { m.values + 2 ≤ most_value_entries }
     requires control_bound { m.control + 2 ≤ most_control_entries }
-    ensures value { result ≡ framed m }
-    ensures m_after { regions work.new (framed m) ≡ with_frame base environment below top (regions work.old m) }
+    ensures fits { Fits work.new result }
+    ensures m_after { regions work.new result ≡ with_frame base environment below top (regions work.old m) }
 {
     let once = put_value(work, m, 0, base as u64);
     let saved = put_value(work, once, 0, environment as u64);
-    let under = put_control(work, saved, below);
-    put_control(work, under, top)
+    put_all(work, saved, [below, top])
 }
 
 // Call's: the closure's environment with the Formals bound to the actuals, and its block to run.
-pub fn call_mark(work: &mut [u64], mut m: Machine, word: u64) -> Stepped
+pub fn call_mark(work: &mut [u64], mut m: Machine, word: u64) -> Result<Machine, Reason>
     requires { (p x k : ℕ) × Applicable work.old m word (mark (call_mark p x k)) }
     ensures { (p x k : ℕ) → Steps work.old m word (mark (call_mark p x k)) result work.new }
 {
     let count = (word / COUNT_UNIT) as usize;
-    let reason = reason_of_room(m.bindings + count, m.values - count + 2, m.control + 2);
-    if reason != 0 {
-        return Stepped::Withheld(reason);
+    if let Some(reason) = reason_of_room(m.bindings + count, m.values - count + 2, m.control + 2) {
+        return Err(reason);
     }
     let row = row_of(work, m, word / CARRIED_UNIT % NAME_UNIT);
     let closure = work[ROW_PAYLOADS + row];
@@ -84,5 +78,5 @@ pub fn call_mark(work: &mut [u64], mut m: Machine, word: u64) -> Stepped
     m.environment = (closure / CLOSURE_UNIT) as usize;
     m.base = m.cells;
     let called = bind_formals(work, m, first, block);
-    Stepped::Made(put_frame(work, called, base, caller, below, block as u64))
+    Ok(put_frame(work, called, base, caller, below, block as u64))
 }

@@ -4,3 +4,4 @@
 pub mod blocks;
 pub mod calls;
 pub mod declarations;
+mod rows;

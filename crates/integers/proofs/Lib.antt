@@ -1,8 +1,3 @@
-pub mod OrderLaws
-pub mod RangedLaws
-pub mod SignTest
-pub mod SumLaws
-pub mod DifferenceLaws
-pub mod SignedLaws
-pub mod QuotientLaws
-pub mod ProductLaws
+mod CastLaws
+mod OrderLaws
+mod QuotientLaws

@@ -1,29 +1,36 @@
--- With 2^63 added, modulo 2^64, words are in the order of their integers.
-use Rattle.std.proofs.Common.{◌≡◌, ℕ, ◌+◌, ◌-◌, ◌%◌, ◌^◌, ◌<◌, ◌≤◌, ltb, arith, le-ltb, lt-ltb}
-use lib.Signed.{lt_z}
-use Rattle.integers.specs.Words.{integer_of}
-use Rattle.integers.specs.WordLaws.{integer_low, integer_high, by_sign}
+-- Each order by the strict one: an order with equality is the strict order of the exchanged two, denied.
+use Rattle.std.specs.Prelude.{◌≡◌, ℕ, ℤ, pos, negsuc, not, nat_le, nat_lt, refl}
+use Rattle.std.specs.Int.Signed.{lt_z, le_z}
+use Rattle.std.proofs.Common.{lt-ltb, le-ltb, le-leb}
+use Rattle.std.proofs.lemmas.Bool.{lt-leb}
 use Rattle.rules.proofs.Basics.{by_order}
+use Rattle.rules.specs.declared.kinds.Order.TheVariants.{Lt, Le, Gt, Ge}
+use Rattle.rules.specs.paper.Integers.{compare}
 
--- Two tests of order are one where they are of the same order.
-same_order : (a b p q : ℕ) → (a < b → p < q) → (b ≤ a → q ≤ p) → ltb p q ≡ ltb a b
-same_order a b p q below above =
-    by_order a b
-    (λ l. rw (lt-ltb a b l, lt-ltb p q (below l)))
-    (λ h. rw (le-ltb a b h, le-ltb p q (above h)))
+at_most : (a b : ℕ) → nat_le a b ≡ not (nat_lt b a)
+at_most a b =
+    by_order b a
+    (λ below. rw (lt-leb a b below, lt-ltb b a below))
+    (λ above. rw (le-leb a b above, le-ltb b a above))
 
-module _ (a b p q : ℕ) (fits_a : a < 2 ^ 64) (fits_b : b < 2 ^ 64) (place_a : p ≡ (a + 2 ^ 63) % 2 ^ 64) (place_b : q ≡ (b + 2 ^ 63) % 2 ^ 64) where
-  first_other : a < 2 ^ 63 → ltb p q ≡ lt_z (integer_of a) (integer_of b)
-  first_other low_a =
-      by_sign b
-      (λ low_b. rw (integer_low a low_a, integer_low b low_b) (same_order a b p q (omega arith) (omega arith)))
-      (λ high_b. rw (integer_low a low_a, integer_high b high_b) (le-ltb p q (omega arith)))
+not_less : (a b : ℤ) → le_z a b ≡ not (lt_z b a)
+not_less (pos a) (pos b) = at_most a b
+not_less (pos a) (negsuc b) = refl
+not_less (negsuc a) (pos b) = refl
+not_less (negsuc a) (negsuc b) = at_most b a
 
-  first_negative : 2 ^ 63 ≤ a → ltb p q ≡ lt_z (integer_of a) (integer_of b)
-  first_negative high_a =
-      by_sign b
-      (λ low_b. rw (integer_high a high_a, integer_low b low_b) (lt-ltb p q (omega arith)))
-      (λ high_b. rw (integer_high a high_a, integer_high b high_b) (same_order (2 ^ 64 - 1 - b) (2 ^ 64 - 1 - a) p q (omega arith) (omega arith)))
+pub compare_lt : (a b : ℤ) → compare Lt a b ≡ lt_z a b
+unfolding compare
+compare_lt a b = refl
 
-  pub order_by_place : ltb p q ≡ lt_z (integer_of a) (integer_of b)
-  order_by_place = by_sign a first_other first_negative
+pub compare_le : (a b : ℤ) → compare Le a b ≡ not (lt_z b a)
+unfolding compare
+compare_le a b = not_less a b
+
+pub compare_gt : (a b : ℤ) → compare Gt a b ≡ lt_z b a
+unfolding compare
+compare_gt a b = refl
+
+pub compare_ge : (a b : ℤ) → compare Ge a b ≡ not (lt_z a b)
+unfolding compare
+compare_ge a b = not_less b a

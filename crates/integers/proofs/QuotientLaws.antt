@@ -1,64 +1,62 @@
--- The quotient rounded down is that of the magnitudes, negative where the signs differ, and where it is negative its magnitude is rounded up.
-use Rattle.std.proofs.Common.{◌≡◌, ℕ, zero, suc, ◌+◌, ◌/◌, ◌^◌, ◌<◌, Bool, true, false, ℤ, pos, negsuc, nat_abs, sym, refl, ap, ◌∙◌, add-one, arith}
-use native.Mathlib.Nat.{add-div_right, div-eq_of_lt, zero-div}
-use Rattle.rules.specs.paper.Refusals.{reason_number}
-use Rattle.rules.specs.paper.Tree.{Div}
-use Rattle.rules.specs.paper.Integers.{ranged, floor, divide, compute}
-use Rattle.integers.specs.Words.{integer_of, computed, opposite, signed, rounding}
-use Rattle.integers.specs.declared.Computed.{Computed}
-use Rattle.integers.specs.declared.Computed.TheVariants.{Failed}
-use Rattle.integers.proofs.SignedLaws.{magnitude_positive, magnitude_within}
+-- The quotient rounded down is that of the magnitudes, and where the signs differ it is negative and its magnitude is rounded up.
+use Rattle.std.specs.Prelude.{◌≡◌, ℕ, zero, suc, ◌+◌, ◌*◌, ◌/◌, ◌<◌, ◌≤◌, Bool, true, false, ℤ, pos, negsuc, ◌+ℤ◌, ◌-ℤ◌, int_lt, unsigned_abs}
+use Rattle.std.specs.Int.{div_ceil}
+use Rattle.std.proofs.Common.{sym, ap, ◌∙◌, arith, le-ltb, lt-ltb}
+use Rattle.std.proofs.Math.Nat.{zero-div, zero-mod, div-eq_of_lt-le}
+use Rattle.std.proofs.lemmas.Grind.{div_ceil_times}
+use mathlib.Core.Bool.{beq}
+use Rattle.rules.specs.declared.kinds.Arithmetic.TheVariants.{Div}
+use Rattle.rules.specs.paper.Integers.{ranged, divide, compute}
+use Rattle.integers.specs.Words.{integer_of}
+use Rattle.integers.specs.WordLaws.{integer_low, integer_high, by_sign}
 
--- ---- The magnitude of a quotient that is rounded down.
+-- A word other than 0 has a magnitude above 0.
+pub magnitude_positive : (w : ℕ) → (w ≡ 0 → ⊥) → 0 < unsigned_abs (integer_of w)
+magnitude_positive w nonzero =
+    by_sign w
+    (λ low. rw (integer_low w low) (omega arith))
+    (λ high. rw (integer_high w high) (omega arith))
 
--- The sum that is divided: for a negative quotient a whole divisor is added to the number before the dividend.
-added_negative : (a b : ℕ) → suc a + rounding true (suc b) ≡ a + suc b
-unfolding rounding
-added_negative a b = omega arith
+-- Whether the signs of two integers are the same.
+abbrev same_sign : ℤ → ℤ → Bool
+same_sign x y = beq (int_lt x (pos 0)) (int_lt y (pos 0))
 
-added_below : (b : ℕ) → 0 + rounding true (suc b) < suc b
-unfolding rounding
-added_below b = omega arith
+never : false ≡ true → ⊥
+never e = cc
 
-added_other : (a b : ℕ) → a + rounding false b ≡ a
-unfolding rounding
-added_other a b = omega arith
+divide_same : (x y : ℤ) → 0 < unsigned_abs y → same_sign x y ≡ true → divide x y ≡ ranged (pos 0 +ℤ pos (unsigned_abs x / unsigned_abs y))
+divide_same x (pos zero) positive same = absurd (omega arith)
+divide_same (pos a) (pos (suc b)) positive same = ap (λ q. ranged (pos q)) (omega arith)
+divide_same (negsuc a) (pos (suc b)) positive same = absurd (never (rw (le-ltb (suc b) 0 (omega arith)) at same))
+divide_same (pos a) (negsuc b) positive same = absurd (never (rw (le-ltb a 0 (omega arith)) at same))
+divide_same (negsuc a) (negsuc b) positive same = ap (λ q. ranged (pos q)) (omega arith)
 
-floored : (t : Bool) (m n : ℕ) → 0 < n → signed t ((m + rounding t n) / n) ≡ floor (signed t m) n
-unfolding signed
-floored t m zero positive = absurd (omega arith)
-floored true zero (suc n) positive = rw (div-eq_of_lt (added_below n), zero-div (suc n))
-floored true (suc m) (suc n) positive = rw (added_negative m n, add-div_right m {k = suc n} (omega arith), add-one (m / suc n))
-floored false m (suc n) positive = rw (added_other m (suc n))
-
--- ---- The quotient.
-
--- Both signs may be turned, so that the divisor is its magnitude.
-divide_floored : (x y : ℤ) → 0 < nat_abs y → divide x y ≡ ranged (floor (signed (opposite x y) (nat_abs x)) (nat_abs y))
-unfolding signed opposite
-divide_floored x (pos zero) positive = absurd (omega arith)
-divide_floored (pos a) (pos (suc b)) positive = refl
-divide_floored (negsuc a) (pos (suc b)) positive = refl
-divide_floored (pos a) (negsuc b) positive = refl
-divide_floored (negsuc a) (negsuc b) positive = refl
-
-divide_signed : (x y : ℤ) → 0 < nat_abs y → divide x y ≡ ranged (signed (opposite x y) ((nat_abs x + rounding (opposite x y) (nat_abs y)) / nat_abs y))
-divide_signed x y positive = divide_floored x y positive ∙ ap ranged (sym (floored (opposite x y) (nat_abs x) (nat_abs y) positive))
-
-pub quotient_answered : (a b m n p : ℕ) (t : Bool) (r : Computed) → (b ≡ 0 → ⊥) → m ≡ nat_abs (integer_of a) → n ≡ nat_abs (integer_of b) → t ≡ opposite (integer_of a) (integer_of b) → p ≡ rounding t n → r ≡ computed (ranged (signed t ((m + p) / n))) → r ≡ computed (compute Div (integer_of a) (integer_of b))
-unfolding compute
-quotient_answered a b m n p t r nonzero first second signs added answered =
-    answered ∙ sym (ap computed (divide_signed (integer_of a) (integer_of b) (magnitude_positive b nonzero)) ∙ rw (added, signs, first, second))
-
--- A sum of two magnitudes, the second less one, fits a word.
-pub sum_fits : (a b m n p : ℕ) (t : Bool) → a < 2 ^ 64 → b < 2 ^ 64 → (b ≡ 0 → ⊥) → m ≡ nat_abs (integer_of a) → n ≡ nat_abs (integer_of b) → p ≡ rounding t n → m + p < 2 ^ 64
-unfolding rounding
-sum_fits a b m n p t fits_a fits_b nonzero first second added = by t (rw second (magnitude_positive b nonzero)) added
+rounded_up : (a b : ℕ) → div_ceil (suc a) (suc b) ≡ suc (a / suc b)
+rounded_up a b = let t = div_ceil_times (suc a) (suc b) (omega arith) in step (div_ceil (suc a) (suc b)) t.0 t.1
   where
-    by : (t : Bool) → 0 < n → p ≡ rounding t n → m + p < 2 ^ 64
-    by true positive added = omega (arith, magnitude_within a fits_a, magnitude_within b fits_b)
-    by false positive added = omega (arith, magnitude_within a fits_a, magnitude_within b fits_b)
+    step : (c : ℕ) → suc a ≤ c * suc b → c * suc b < suc a + suc b → c ≡ suc (a / suc b)
+    step zero low high = absurd (omega arith)
+    step (suc k) low high = ap suc (sym (div-eq_of_lt-le {k = k} (suc b) {m = a} (omega arith) (omega arith)))
 
-pub quotient_by_zero : (a b : ℕ) → b ≡ 0 → Failed 31 ≡ computed (compute Div (integer_of a) (integer_of b))
-unfolding compute computed reason_number integer_of
-quotient_by_zero a b zeroed = rw zeroed
+-- Below zero by a number above 0.
+taken : (k : ℕ) → pos 0 -ℤ pos (suc k) ≡ negsuc k
+taken k = rw (lt-ltb 0 (suc k) (omega arith)) (ap negsuc (omega arith))
+
+divide_other : (x y : ℤ) → 0 < unsigned_abs y → same_sign x y ≡ false → divide x y ≡ ranged (pos 0 -ℤ pos (div_ceil (unsigned_abs x) (unsigned_abs y)))
+divide_other x (pos zero) positive other = absurd (omega arith)
+divide_other (pos a) (pos (suc b)) positive other = absurd (never (sym (rw (le-ltb a 0 (omega arith), le-ltb (suc b) 0 (omega arith)) at other)))
+divide_other (negsuc a) (pos (suc b)) positive other = sym (ap ranged (ap (λ q. pos 0 -ℤ pos q) (rounded_up a b) ∙ taken (a / suc b)))
+divide_other (pos zero) (negsuc b) positive other = rw (zero-div (suc b), zero-mod (suc b))
+divide_other (pos (suc a)) (negsuc b) positive other = sym (ap ranged (ap (λ q. pos 0 -ℤ pos q) (rounded_up a b) ∙ taken (a / suc b)))
+divide_other (negsuc a) (negsuc b) positive other = absurd (never (sym other))
+
+-- The code's quotient, of magnitudes m and n and signs s and t.
+module _ (x y : ℤ) (m n : ℕ) (s t : Bool) (positive : 0 < unsigned_abs y) (first : m ≡ unsigned_abs x) (second : n ≡ unsigned_abs y)
+    (sign_first : s ≡ int_lt x (pos 0)) (sign_second : t ≡ int_lt y (pos 0)) where
+  pub quotient_same : beq s t ≡ true → ranged (pos 0 +ℤ pos (m / n)) ≡ compute Div x y
+  unfolding compute
+  quotient_same test = rw (first, second) (sym (divide_same x y positive (rw (sign_first, sign_second) at test)))
+
+  pub quotient_other : beq s t ≡ false → (q : ℕ) → q ≡ div_ceil m n → ranged (pos 0 -ℤ pos q) ≡ compute Div x y
+  unfolding compute
+  quotient_other test q is = rw (is, first, second) (sym (divide_other x y positive (rw (sign_first, sign_second) at test)))

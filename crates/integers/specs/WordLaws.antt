@@ -1,16 +1,15 @@
 -- Laws of the words that hold integers: word and integer are one another's inverse within the range, words are equal where
--- their integers are, every integer that the rules compute is of the range, what a computed word or number of a reason says of the
--- rules' result, and the four orders from `lt_z`.
-use Rattle.std.specs.Prelude.{◌≡◌, ℕ, zero, suc, ◌-◌, ◌^◌, ◌<◌, ◌≤◌, Bool, true, false, cond, not, T, List, [], ◌∷◌, length, get_or, ℤ, pos, negsuc, ◌+ℤ◌, ◌-ℤ◌, ◌*ℤ◌, neg_ℤ, ◌==◌, nat_le, nat_lt, refl}
-use Rattle.std.proofs.Common.{sym, ap, ◌∙◌, subst, arith, ltb→lt, lt→ltb, lt-ltb, le-ltb, le-leb, eqb-true, eq-eqb}
-use Rattle.std.specs.Int.Signed.{lt_z, le_z}
-use Rattle.std.proofs.lemmas.Bool.{lt-leb}
+-- their integers are, every integer that the rules compute is of the range, and what a computed word or reason says of the
+-- rules' result.
+use Rattle.std.specs.Prelude.{◌≡◌, ℕ, zero, suc, ◌-◌, ◌^◌, ◌<◌, ◌≤◌, Bool, true, false, cond, T, List, [], ◌∷◌, length, get_or, ℤ, pos, negsuc, ◌+ℤ◌, ◌-ℤ◌, ◌*ℤ◌, neg_ℤ, ◌==◌, refl, Ok, Err}
+use Rattle.std.proofs.Common.{sym, ap, ◌∙◌, subst, arith, ltb→lt, lt→ltb, lt-ltb, le-ltb, eqb-true, eq-eqb}
 use Rattle.rules.proofs.Basics.{by_order}
-use Rattle.rules.specs.paper.Refusals.{Reason, OutOfRange, reason_number}
-use Rattle.rules.specs.paper.Tree.{Arithmetic, Sum, Sub, Mul, Div, Lt, Le, Gt, Ge}
-use Rattle.rules.specs.paper.Integers.{Result, in_range, ranged, floor, divide, compute, number, failed, equal_integers, compare}
+use Rattle.rules.specs.declared.refusals.Reason.{Reason}
+use Rattle.rules.specs.declared.refusals.Reason.TheVariants.{OutOfRange}
+use Rattle.rules.specs.declared.kinds.Arithmetic.{Arithmetic}
+use Rattle.rules.specs.declared.kinds.Arithmetic.TheVariants.{Sum, Sub, Mul, Div}
+use Rattle.rules.specs.paper.Integers.{Result as Computed, in_range, ranged, floor, divide, compute, number, failed, equal_integers}
 use Rattle.integers.specs.Words.{integer_of, word_of, computed, integers_of, words_of}
-use Rattle.integers.specs.declared.Computed.TheVariants.{Number, Failed}
 
 pub by_sign {ℓ} : {P : Type ℓ} (w : ℕ) → (w < 2 ^ 63 → P) → (2 ^ 63 ≤ w → P) → P
 by_sign w = by_order w (2 ^ 63)
@@ -100,50 +99,20 @@ computed_in_range Sub a b y same = ranged_in_range (a -ℤ b) y same
 computed_in_range Mul a b y same = ranged_in_range (a *ℤ b) y same
 computed_in_range Div a b y same = divided_in_range a b y same
 
-computed_word : (r : Result) (w : ℕ) → ((y : ℤ) → r ≡ number y → T (in_range y)) → computed r ≡ Number w → r ≡ number (integer_of w)
+computed_word : (r : Computed) (w : ℕ) → ((y : ℤ) → r ≡ number y → T (in_range y)) → computed r ≡ Ok w → r ≡ number (integer_of w)
 unfolding computed
 computed_word (number z) w ranges told =
     let same : word_of z ≡ w = cc in
     ap number (sym (integer_of_word z (ranges z refl)) ∙ ap integer_of same)
 computed_word (failed reason) w ranges told = let clash : ◌≡◌ {A = ℕ} 0 1 = cc in absurd (omega arith)
 
-pub computed_number : (o : Arithmetic) (a b : ℤ) (w : ℕ) → computed (compute o a b) ≡ Number w → compute o a b ≡ number (integer_of w)
+pub computed_number : (o : Arithmetic) (a b : ℤ) (w : ℕ) → computed (compute o a b) ≡ Ok w → compute o a b ≡ number (integer_of w)
 computed_number o a b w = computed_word (compute o a b) w (computed_in_range o a b)
 
-pub computed_failed : (r : Result) (n : ℕ) → computed r ≡ Failed n → (reason : Reason) × (r ≡ failed reason) × (reason_number reason ≡ n)
+pub computed_failed : (r : Computed) (reason : Reason) → computed r ≡ Err reason → r ≡ failed reason
 unfolding computed
-computed_failed (number z) n told = let clash : ◌≡◌ {A = ℕ} 0 1 = cc in absurd (omega arith)
-computed_failed (failed reason) n told = (reason, refl, cc)
-
--- ---- the orders
-
-at_most : (a b : ℕ) → nat_le a b ≡ not (nat_lt b a)
-at_most a b =
-    by_order b a
-    (λ below. rw (lt-leb a b below, lt-ltb b a below))
-    (λ above. rw (le-leb a b above, le-ltb b a above))
-
-not_less : (a b : ℤ) → le_z a b ≡ not (lt_z b a)
-not_less (pos a) (pos b) = at_most a b
-not_less (pos a) (negsuc b) = refl
-not_less (negsuc a) (pos b) = refl
-not_less (negsuc a) (negsuc b) = at_most b a
-
-pub compare_lt : (a b : ℤ) → compare Lt a b ≡ lt_z a b
-unfolding compare
-compare_lt a b = refl
-
-pub compare_le : (a b : ℤ) → compare Le a b ≡ not (lt_z b a)
-unfolding compare
-compare_le a b = not_less a b
-
-pub compare_gt : (a b : ℤ) → compare Gt a b ≡ lt_z b a
-unfolding compare
-compare_gt a b = refl
-
-pub compare_ge : (a b : ℤ) → compare Ge a b ≡ not (lt_z a b)
-unfolding compare
-compare_ge a b = not_less b a
+computed_failed (number z) reason told = cc
+computed_failed (failed other) reason told = cc
 
 -- ---- Lists of integers.
 

@@ -1,134 +1,111 @@
 // The arithmetic of the automaton: 64-bit integers, each held in one word by two's complement.
 #![tactic(auto)]
 
-ghost use Rattle.std.specs.Prelude.{◌≡◌, ◌<◌, int_lt, unsigned_abs};
-ghost use Rattle.rules.specs.paper.Tree.{Sum, Sub, Mul, Div};
-ghost use Rattle.rules.specs.paper.Integers.{compute, ranged};
-ghost use Rattle.integers.specs.Words.{integer_of, computed, opposite, signed, rounding};
+ghost use Rattle.std.specs.Prelude.{◌≡◌, ◌<◌, ℤ, pos, int_lt, unsigned_abs, FitsSigned};
+ghost use Rattle.std.specs.Int.{w64};
+ghost use Rattle.std.specs.Option.{SomeIff};
+ghost use Rattle.rules.specs.declared.kinds.Arithmetic.TheVariants.{Sum, Sub, Mul, Div};
+ghost use Rattle.rules.specs.paper.Integers.{compute, compare, ranged};
+ghost use Rattle.integers.specs.Words.{integer_of, computed};
 
-// 2^63: the words from here on hold the negative integers, and it is the magnitude of the least of them.
-const LEAST: u64 = 9223372036854775808;
+use rules::kinds::{Arithmetic, Order};
+use rules::refusals::Reason;
 
-// The numbers of the reasons for which an arithmetic step is withheld (rules, paper/Refusals.antt).
-const ZERO_DIVISOR: u64 = 31;
-
-const OUT_OF_RANGE: u64 = 32;
-
-// What an arithmetic mark comes to: the word of an integer, or the number of the reason for which its step is withheld.
-#[derive(Clone, Copy)]
-pub enum Computed {
-    Number(u64),
-    Failed(u64),
-}
-
-// Whether the first is below the second: with 2^63 added, words are in the order of their integers.
+// Whether the first is below the second.
+#[tactic(auto, using(crate::proofs::CastLaws::cast_word))]
 pub fn less(first: u64, second: u64) -> bool
     ensures { result ≡ int_lt (integer_of first) (integer_of second) }
 {
-    let first_place = std::num::wrapping_add_u64(first, LEAST);
-    let second_place = std::num::wrapping_add_u64(second, LEAST);
-    first_place < second_place
+    first.cast_signed() < second.cast_signed()
 }
 
-// The first plus the second: in range where the word is below the first exactly if the second is negative.
-pub fn sum(first: u64, second: u64) -> Computed
+// Whether an order holds of two integers.
+#[tactic(auto, using(crate::proofs::OrderLaws::compare_le, crate::proofs::OrderLaws::compare_ge), unfolding(rules::specs::paper::Integers::compare))]
+pub fn compare(order: Order, first: u64, second: u64) -> bool
+    ensures { result ≡ compare order (integer_of first) (integer_of second) }
+{
+    match order {
+        Order::Lt => less(first, second),
+        Order::Le => !less(second, first),
+        Order::Gt => less(second, first),
+        Order::Ge => !less(first, second),
+    }
+}
+
+// What an arithmetic operator makes of two integers: the word of an integer, or the reason for which its step is withheld.
+pub fn compute(operator: Arithmetic, first: u64, second: u64) -> Result<u64, Reason>
+    ensures { result ≡ computed (compute operator (integer_of first) (integer_of second)) }
+{
+    match operator {
+        Arithmetic::Sum => sum(first, second),
+        Arithmetic::Sub => difference(first, second),
+        Arithmetic::Mul => product(first, second),
+        Arithmetic::Div => quotient(first, second),
+    }
+}
+
+// The word of an integer that is there where it is in range.
+fn in_word(integer: Option<i64>) -> Result<u64, Reason>
+    ensures { (z : ℤ) → SomeIff integer (FitsSigned w64 z) z → result ≡ computed (ranged z) }
+{
+    match integer {
+        Some(integer) => Ok(integer.cast_unsigned()),
+        None => Err(Reason::OutOfRange),
+    }
+}
+
+// The first plus the second.
+#[tactic(auto, using(crate::proofs::CastLaws::cast_word), unfolding(rules::specs::paper::Integers::compute))]
+pub fn sum(first: u64, second: u64) -> Result<u64, Reason>
     ensures { result ≡ computed (compute Sum (integer_of first) (integer_of second)) }
 {
-    let word = std::num::wrapping_add_u64(first, second);
-    if less(word, first) == (LEAST <= second) {
-        Computed::Number(word)
-    } else {
-        Computed::Failed(OUT_OF_RANGE)
-    }
+    in_word(first.cast_signed().checked_add(second.cast_signed()))
 }
 
-// The first minus the second: in range where the word is above the first exactly if the second is negative.
-pub fn difference(first: u64, second: u64) -> Computed
+// The first minus the second.
+#[tactic(auto, using(crate::proofs::CastLaws::cast_word), unfolding(rules::specs::paper::Integers::compute))]
+pub fn difference(first: u64, second: u64) -> Result<u64, Reason>
     ensures { result ≡ computed (compute Sub (integer_of first) (integer_of second)) }
 {
-    let word = std::num::wrapping_sub_u64(first, second);
-    if less(first, word) == (LEAST <= second) {
-        Computed::Number(word)
-    } else {
-        Computed::Failed(OUT_OF_RANGE)
-    }
+    in_word(first.cast_signed().checked_sub(second.cast_signed()))
+}
+
+// The first times the second.
+#[tactic(auto, using(crate::proofs::CastLaws::cast_word), unfolding(rules::specs::paper::Integers::compute))]
+pub fn product(first: u64, second: u64) -> Result<u64, Reason>
+    ensures { result ≡ computed (compute Mul (integer_of first) (integer_of second)) }
+{
+    in_word(first.cast_signed().checked_mul(second.cast_signed()))
+}
+
+// Whether an integer is below zero.
+#[tactic(auto, using(crate::proofs::CastLaws::cast_word))]
+pub fn is_negative(word: u64) -> bool
+    ensures { result ≡ int_lt (integer_of word) (pos 0) }
+{
+    word.cast_signed().is_negative()
 }
 
 // How far an integer is from zero.
-fn magnitude(word: u64) -> u64
+#[tactic(auto, using(crate::proofs::CastLaws::cast_word))]
+pub fn magnitude(word: u64) -> u64
     ensures { result ≡ unsigned_abs (integer_of word) }
 {
-    if word < LEAST {
-        word
-    } else {
-        u64::MAX - word + 1
-    }
+    word.cast_signed().unsigned_abs()
 }
 
-// Whether one of two integers is negative and the other is not.
-fn opposite(first: u64, second: u64) -> bool
-    ensures { result ≡ opposite (integer_of first) (integer_of second) }
-{
-    (first < LEAST) != (second < LEAST)
-}
-
-// The integer of a sign and a magnitude.
-fn with_sign(negative: bool, magnitude: u64) -> Computed
-    ensures { result ≡ computed (ranged (signed negative magnitude)) }
-{
-    if negative {
-        if magnitude <= LEAST {
-            return Computed::Number(std::num::wrapping_sub_u64(0, magnitude));
-        }
-        return Computed::Failed(OUT_OF_RANGE);
-    }
-    if magnitude < LEAST {
-        return Computed::Number(magnitude);
-    }
-    Computed::Failed(OUT_OF_RANGE)
-}
-
-// The first times the second, by their magnitudes. A division tells whether the product fits, except where both are below 2^32.
-pub fn product(first: u64, second: u64) -> Computed
-    ensures { result ≡ computed (compute Mul (integer_of first) (integer_of second)) }
-{
-    let multiplicand = magnitude(first);
-    let multiplier = magnitude(second);
-    let negative = opposite(first, second);
-    if (multiplicand | multiplier) < 4294967296 {
-        return with_sign(negative, multiplicand * multiplier);
-    }
-    if multiplicand == 0 {
-        return Computed::Number(0);
-    }
-    if LEAST / multiplicand < multiplier {
-        return Computed::Failed(OUT_OF_RANGE);
-    }
-    with_sign(negative, multiplicand * multiplier)
-}
-
-// What is added to the magnitude of a dividend before it is divided, so that the quotient is rounded down. A negative quotient has its
-// magnitude rounded up for that: any fraction counts as one more.
-fn rounding(negative: bool, divisor: u64) -> u64
-    requires { 0 < divisor }
-    ensures { result ≡ rounding negative divisor }
-{
-    if negative {
-        return divisor - 1;
-    }
-    0
-}
-
-// The first by the second: the largest integer not above the quotient, by their magnitudes.
-pub fn quotient(first: u64, second: u64) -> Computed
+// The first by the second: the largest integer not above the quotient, by their magnitudes. A negative quotient has its magnitude rounded up for that.
+pub fn quotient(first: u64, second: u64) -> Result<u64, Reason>
     ensures { result ≡ computed (compute Div (integer_of first) (integer_of second)) }
 {
     if second == 0 {
-        return Computed::Failed(ZERO_DIVISOR);
+        return Err(Reason::ZeroDivisor);
     }
     let dividend = magnitude(first);
     let divisor = magnitude(second);
-    let negative = opposite(first, second);
-    let added = rounding(negative, divisor);
-    with_sign(negative, (dividend + added) / divisor)
+    if is_negative(first) == is_negative(second) {
+        in_word(0i64.checked_add_unsigned(dividend / divisor))
+    } else {
+        in_word(0i64.checked_sub_unsigned(dividend.div_ceil(divisor)))
+    }
 }

@@ -1,5 +1,4 @@
-pub mod ChoiceLaws
-pub mod EndLaws
-pub mod OperatorLaws
-pub mod OperatorNumbers
-pub mod SpanLaws
+mod ChoiceLaws
+mod EndLaws
+mod OperatorLaws
+mod SpanLaws

@@ -1,17 +1,16 @@
 -- Which carried value a sort and two words hold, and what the operators' functions answer in words. Of numbers the words are the two ends; of a
 -- location both are the location; of truths they are 1 or 0: whether false is possible, and whether true is.
-use Rattle.std.specs.Prelude.{ℕ, ◌≡◌, Bool, true, false, T, ℤ}
+use Rattle.std.specs.Prelude.{ℕ, ◌≡◌, Bool, true, false, T, ℤ, Result, Ok, Option as Present, Some, None}
 use Rattle.std.proofs.Math.Option.{Option, none, some}
-use Rattle.rules.specs.paper.Tree.{Order}
-use Rattle.rules.specs.paper.Integers.{Result, number, failed, in_range, equal_truths, combine}
-use Rattle.rules.specs.paper.Tree.{And, Or}
+use Rattle.rules.specs.declared.kinds.Order.{Order}
+use Rattle.rules.specs.declared.refusals.Refusal.TheVariants.{UnsafeArithmetic}
+use Rattle.rules.specs.declared.refusals.Refused.{Refused}
+use Rattle.rules.specs.Answers.{refused_at}
+use Rattle.rules.specs.paper.Integers.{Result as Computed, number, failed, in_range, equal_truths, combine}
+use Rattle.rules.specs.declared.kinds.Logic.TheVariants.{And, Or}
 use Rattle.rules.specs.paper.Carried.{Carried, numbers, truths, location, Carrying, carried, unsafe, unfit, lower, higher, carry_order, carry_choice}
 use Rattle.integers.specs.Words.{word_of}
 use Rattle.intervals.specs.declared.values.Value.{Value}
-use Rattle.intervals.specs.declared.values.Expressed.{Expressed}
-use Rattle.intervals.specs.declared.values.Expressed.TheVariants.{Is, Unsafe}
-use Rattle.intervals.specs.declared.ends.Span.{Span}
-use Rattle.intervals.specs.declared.ends.Span.TheVariants.{Ends, Open}
 
 -- ---- The sorts' numbers, and the word of a truth's being possible.
 
@@ -41,9 +40,9 @@ pub data HoldsValue (r : Value) : Carried → Type 0 where
 
 -- ---- What carrying comes to, as an answer. Where it is unfit, which it is of no passed image, nothing is said.
 
-abbrev pub ExpressedAs : Carrying Carried → Expressed → Type 0
-ExpressedAs (carried v) r = (x : Value) × (r ≡ Is x) × HoldsValue x v
-ExpressedAs (unsafe p) r = r ≡ Unsafe p
+abbrev pub ExpressedAs : Carrying Carried → Result Value Refused → Type 0
+ExpressedAs (carried v) r = (x : Value) × (r ≡ Ok x) × HoldsValue x v
+ExpressedAs (unsafe p) r = r ≡ refused_at UnsafeArithmetic p
 ExpressedAs unfit r = Unit {0}
 
 -- The same of what cannot be unsafe.
@@ -54,17 +53,18 @@ Gives unfit r = Unit {0}
 
 -- ---- Arithmetic.
 
-abbrev pub span_words : Option Carried → Span
-span_words none = Open
-span_words (some (numbers a b)) = Ends (word_of a) (word_of b)
-span_words (some (truths f t)) = Open
-span_words (some (location l)) = Open
+-- The two ends in words, where there are ends.
+abbrev pub span_words : Option Carried → Present (ℕ × ℕ)
+span_words none = None
+span_words (some (numbers a b)) = Some (word_of a, word_of b)
+span_words (some (truths f t)) = None
+span_words (some (location l)) = None
 
 -- The least and the greatest of two results.
-abbrev pub two_results : Result → Result → Span
-two_results (number w) (number x) = Ends (word_of (lower w x)) (word_of (higher w x))
-two_results (number w) (failed r) = Open
-two_results (failed r) x = Open
+abbrev pub two_results : Computed → Computed → Present (ℕ × ℕ)
+two_results (number w) (number x) = Some (word_of (lower w x), word_of (higher w x))
+two_results (number w) (failed r) = None
+two_results (failed r) x = None
 
 -- ---- Comparisons and choices.
 

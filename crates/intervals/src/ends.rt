@@ -1,163 +1,103 @@
 // Numbers by their ends: arithmetic, comparisons, and the wider of two ranges.
 ghost use Rattle.std.specs.Prelude.{◌≡◌, not, ◌&&◌, pos};
 ghost use Rattle.std.specs.Int.Signed.{lt_z};
-ghost use Rattle.rules.specs.paper.Kinds.{operator_number};
-ghost use Rattle.rules.specs.paper.Tree.{Arithmetic, Order, arithmetic, order};
-ghost use Rattle.rules.specs.paper.Integers.{compute, compare, equal_integers};
-ghost use Rattle.rules.specs.paper.Carried.{carry_arithmetic, lower, higher};
-ghost use Rattle.integers.specs.Words.{integer_of, word_of, computed};
+ghost use Rattle.rules.specs.paper.Integers.{compute, equal_integers};
+ghost use Rattle.rules.specs.paper.Carried.{divisor_may_be_zero, carry_arithmetic, lower, higher};
+ghost use Rattle.integers.specs.Words.{integer_of, word_of};
 ghost use Rattle.intervals.specs.Values.{span_words, two_results, OrderCarried, numbers_value};
 
 use crate::values::{NUMBERS, Value, truths};
-use integers::{Computed, difference, less, product, quotient, sum};
-use reader::kinds;
+use integers::{compare, compute, less};
+use rules::kinds::{Arithmetic, Order};
 
-// The two ends of a result; or none, where one leaves the integers or a divisor may be 0.
-#[derive(Clone, Copy)]
-pub(crate) enum Span {
-    Ends(u64, u64),
-    Open,
-}
-
+// The library's `min` and `max` are of the signed type: by two casts there and one back they are no plainer than the two tests here.
+#[tactic(auto, using(integers::specs::WordLaws::word_of_integer), unfolding(rules::specs::paper::Carried::lower))]
 fn lower(first: u64, second: u64) -> u64
     ensures { result ≡ word_of (lower (integer_of first) (integer_of second)) }
 {
-    if less(first, second) {
-        return first;
-    }
-    second
+    if less(first, second) { first } else { second }
 }
 
+#[tactic(auto, using(integers::specs::WordLaws::word_of_integer), unfolding(rules::specs::paper::Carried::higher))]
 fn higher(first: u64, second: u64) -> u64
     ensures { result ≡ word_of (higher (integer_of first) (integer_of second)) }
 {
-    if less(first, second) {
-        return second;
-    }
-    first
+    if less(first, second) { second } else { first }
 }
 
 // The numbers from the lower of two lowest ends to the higher of two highest.
-pub(crate) fn wider_ends(low: u64, high: u64, bottom: u64, top: u64) -> Value
-    ensures { result ≡ numbers_value (lower (integer_of low) (integer_of bottom)) (higher (integer_of high) (integer_of top)) }
+pub(crate) fn wider_ends(first: Value, second: Value) -> Value
+    ensures { result ≡ numbers_value (lower (integer_of first.low) (integer_of second.low)) (higher (integer_of first.high) (integer_of second.high)) }
 {
-    let least = lower(low, bottom);
-    let greatest = higher(high, top);
     Value {
         sort: NUMBERS,
-        low: least,
-        high: greatest,
+        low: lower(first.low, second.low),
+        high: higher(first.high, second.high),
     }
 }
 
-// What an arithmetic operator makes of two integers.
-fn result(which: usize, first: u64, second: u64) -> Computed
-    ensures { (o : Arithmetic) → which ≡ operator_number (arithmetic o) → result ≡ computed (compute o (integer_of first) (integer_of second)) }
+// The least and the greatest of one end of the first operand with both ends of the second; none, where one leaves the integers.
+fn with_both(operator: Arithmetic, end: u64, second: Value) -> Option<(u64, u64)>
+    ensures { result ≡ two_results (compute operator (integer_of end) (integer_of second.low)) (compute operator (integer_of end) (integer_of second.high)) }
 {
-    if which == kinds::SUM {
-        return sum(first, second);
-    }
-    if which == kinds::SUB {
-        return difference(first, second);
-    }
-    if which == kinds::MUL {
-        return product(first, second);
-    }
-    quotient(first, second)
-}
-
-// The least and the greatest of one end of the first operand with both ends of the second.
-fn with_both(which: usize, first: u64, low: u64, high: u64) -> Span
-    ensures { (o : Arithmetic) → which ≡ operator_number (arithmetic o) → result ≡ two_results (compute o (integer_of first) (integer_of low)) (compute o (integer_of first) (integer_of high)) }
-{
-    let one = result(which, first, low);
-    let Computed::Number(sooner) = one else {
-        return Span::Open;
-    };
-    let other = result(which, first, high);
-    let Computed::Number(later) = other else {
-        return Span::Open;
-    };
-    let least = lower(sooner, later);
-    let greatest = higher(sooner, later);
-    Span::Ends(least, greatest)
+    let sooner = compute(operator, end, second.low).ok()?;
+    let later = compute(operator, end, second.high).ok()?;
+    Some((lower(sooner, later), higher(sooner, later)))
 }
 
 // Whether a range holds 0.
-fn holds_zero(low: u64, high: u64) -> bool
-    ensures { result ≡ (not (lt_z (pos 0) (integer_of low)) && not (lt_z (integer_of high) (pos 0))) }
+#[tactic(auto, using(crate::proofs::EndLaws::zero_integer))]
+fn holds_zero(range: Value) -> bool
+    ensures { result ≡ (not (lt_z (pos 0) (integer_of range.low)) && not (lt_z (integer_of range.high) (pos 0))) }
 {
-    if less(0, low) {
-        return false;
-    }
-    !less(high, 0)
+    !less(0, range.low) && !less(range.high, 0)
 }
 
-// Sum, Sub, Mul and Div: the least and the greatest over the four pairs of the operands' ends.
-pub(crate) fn over_ends(which: usize, low: u64, high: u64, bottom: u64, top: u64) -> Span
-    ensures { (o : Arithmetic) → which ≡ operator_number (arithmetic o) → result ≡ span_words (carry_arithmetic o (integer_of low) (integer_of high) (integer_of bottom) (integer_of top)) }
+// Whether an operator is Div and its second operand's range holds 0.
+fn divisor_may_be_zero(operator: Arithmetic, second: Value) -> bool
+    ensures { result ≡ divisor_may_be_zero operator (integer_of second.low) (integer_of second.high) }
 {
-    if which == kinds::DIV {
-        if holds_zero(bottom, top) {
-            return Span::Open;
-        }
+    match operator {
+        Arithmetic::Div => holds_zero(second),
+        Arithmetic::Sum | Arithmetic::Sub | Arithmetic::Mul => false,
     }
-    let one = with_both(which, low, bottom, top);
-    let Span::Ends(least, greatest) = one else {
-        return Span::Open;
-    };
-    let other = with_both(which, high, bottom, top);
-    let Span::Ends(later_least, later_greatest) = other else {
-        return Span::Open;
-    };
-    let together = wider_ends(least, greatest, later_least, later_greatest);
-    Span::Ends(together.low, together.high)
 }
 
-// Whether an order holds of two integers.
-fn compared(which: usize, first: u64, second: u64) -> bool
-    ensures { (o : Order) → which ≡ operator_number (order o) → result ≡ compare o (integer_of first) (integer_of second) }
+// Sum, Sub, Mul and Div: the least and the greatest over the four pairs of the operands' ends; none, where one leaves the integers or a divisor may
+// be 0.
+pub(crate) fn over_ends(operator: Arithmetic, first: Value, second: Value) -> Option<(u64, u64)>
+    ensures { result ≡ span_words (carry_arithmetic operator (integer_of first.low) (integer_of first.high) (integer_of second.low) (integer_of second.high)) }
 {
-    if which == kinds::LT {
-        return less(first, second);
+    if divisor_may_be_zero(operator, second) {
+        return None;
     }
-    if which == kinds::LE {
-        return !less(second, first);
-    }
-    if which == kinds::GT {
-        return less(second, first);
-    }
-    !less(first, second)
+    let (least, greatest) = with_both(operator, first.low, second)?;
+    let (later_least, later_greatest) = with_both(operator, first.high, second)?;
+    Some((lower(least, later_least), higher(greatest, later_greatest)))
 }
 
 // Lt to Ge: the lowest of the first with the highest of the second, and the other two ends, tell which truths are possible.
-pub(crate) fn compared_ends(which: usize, low: u64, high: u64, bottom: u64, top: u64) -> Value
-    ensures { (o : Order) → which ≡ operator_number (order o) → OrderCarried o (integer_of low) (integer_of high) (integer_of bottom) (integer_of top) result }
+pub(crate) fn compared_ends(order: Order, first: Value, second: Value) -> Value
+    ensures { OrderCarried order (integer_of first.low) (integer_of first.high) (integer_of second.low) (integer_of second.high) result }
 {
-    let outer = compared(which, low, top);
-    let inner = compared(which, high, bottom);
-    if which < kinds::GT {
-        return truths(!inner, outer);
+    let outer = compare(order, first.low, second.high);
+    let inner = compare(order, first.high, second.low);
+    match order {
+        Order::Lt | Order::Le => truths(!inner, outer),
+        Order::Gt | Order::Ge => truths(!outer, inner),
     }
-    truths(!outer, inner)
 }
 
 // Whether two ranges meet.
-pub(crate) fn meet(low: u64, high: u64, bottom: u64, top: u64) -> bool
-    ensures { result ≡ (not (lt_z (integer_of top) (integer_of low)) && not (lt_z (integer_of high) (integer_of bottom))) }
+pub(crate) fn meet(first: Value, second: Value) -> bool
+    ensures { result ≡ (not (lt_z (integer_of second.high) (integer_of first.low)) && not (lt_z (integer_of first.high) (integer_of second.low))) }
 {
-    if less(top, low) {
-        return false;
-    }
-    !less(high, bottom)
+    !less(second.high, first.low) && !less(first.high, second.low)
 }
 
 // Whether two ranges are one number, the same.
-pub(crate) fn same_number(low: u64, high: u64, bottom: u64, top: u64) -> bool
-    ensures { result ≡ (equal_integers (integer_of low) (integer_of top) && equal_integers (integer_of high) (integer_of bottom)) }
+pub(crate) fn same_number(first: Value, second: Value) -> bool
+    ensures { result ≡ (equal_integers (integer_of first.low) (integer_of second.high) && equal_integers (integer_of first.high) (integer_of second.low)) }
 {
-    if low == top {
-        return high == bottom;
-    }
-    false
+    first.low == second.high && first.high == second.low
 }

@@ -1,46 +1,70 @@
--- Bytes to numbers and back, as the loops make them: what is still to be written, written over what stands there, is what was wanted.
-use Prim.Native.Nat.{ℕ, zero, suc, ◌+◌, ◌-◌, ◌*◌, ◌/◌, ◌%◌, ◌<◌, ◌≤◌}
+-- Bytes to numbers and back: what the library reads and writes is the number of the bytes and the bytes of the number; and of the loops, what is
+-- still to be written, written over what stands there, is what was wanted.
+use Prim.Native.Nat.{ℕ, zero, suc, ◌+◌, ◌-◌, ◌*◌, ◌/◌, ◌<◌, ◌≤◌}
 use mathlib.Core.Path.{◌≡◌, refl, sym, ap, ◌∙◌}
-use mathlib.Core.List.{List, [], ◌∷◌, ◌++◌, append-nil}
+use mathlib.Core.List.{List, [], ◌∷◌, ◌++◌, append-nil, append_assoc}
 use native.Mathlib.Omega.{arith}
-use native.Mathlib.Nat.{add-zero, add-suc, suc-add, sub-zero, mul-zero, mul-suc}
+use native.Mathlib.Nat.{div-div-eq-div-mul, add-zero, add-suc, suc-add, sub-zero, mul-zero, mul-suc}
 use lib.ListN.{length, get_or, take, drop, set, drop_of_length-le, length-append, length-drop}
-use lib.Seq.{sets, sets-eq, get_or-drop, drop-drop, drop-cons}
+use lib.Seq.{sets, sets-eq, drop-drop, drop-cons}
+use Rattle.std.specs.Array.{IsFirstChunk}
+use Rattle.std.proofs.lemmas.List.{take-take, length-take-le}
+use borrow.Rule.Slice.PartMut.{put_mid}
+use Rattle.std.specs.Int.{w32, w64, from_le_bytes, to_le_bytes}
 use Rattle.little_endian.specs.Numbers.{little_endian, numbers, bytes_of, bytes_of_words}
 use Rattle.little_endian.specs.NumberLaws.{numbers_length}
 
 -- ---- One number.
 
-four_first : (bytes : List ℕ) → 4 ≤ length bytes →
-    little_endian (take 4 bytes) ≡ get_or bytes 0 0 + 256 * (get_or bytes 1 0 + 256 * (get_or bytes 2 0 + 256 * get_or bytes 3 0))
+-- The number that the library reads, of four bytes and of eight.
+pub word_read : (bytes : List ℕ) → length bytes ≡ 4 → from_le_bytes w32 bytes ≡ little_endian bytes
 unfolding little_endian
-four_first [] h = absurd (omega (arith, h))
-four_first (a ∷ []) h = absurd (omega (arith, h))
-four_first (a ∷ b ∷ []) h = absurd (omega (arith, h))
-four_first (a ∷ b ∷ c ∷ []) h = absurd (omega (arith, h))
-four_first (a ∷ b ∷ c ∷ d ∷ bytes) h = omega arith
+word_read [] h = absurd (omega (arith, h))
+word_read (a ∷ []) h = absurd (omega (arith, h))
+word_read (a ∷ b ∷ []) h = absurd (omega (arith, h))
+word_read (a ∷ b ∷ c ∷ []) h = absurd (omega (arith, h))
+word_read (a ∷ b ∷ c ∷ d ∷ []) h = omega arith
+word_read (a ∷ b ∷ c ∷ d ∷ e ∷ bytes) h = absurd (omega (arith, h))
 
--- Four bytes at a place.
-pub four_bytes : (bytes : List ℕ) (at : ℕ) → at + 4 ≤ length bytes →
-    get_or bytes at 0 + 256 * (get_or bytes (at + 1) 0 + 256 * (get_or bytes (at + 2) 0 + 256 * get_or bytes (at + 3) 0)) ≡ little_endian (take 4 (drop at bytes))
-four_bytes bytes at h =
-    let first = get_or-drop at bytes 0 0 ∙ ap (λ k. get_or bytes k 0) (add-zero at) in
-    omega (arith, first, get_or-drop at bytes 1 0, get_or-drop at bytes 2 0, get_or-drop at bytes 3 0, four_first (drop at bytes) (omega (arith, h, length-drop at bytes)))
-
--- Eight bytes are four bytes and four more.
-eight_first : (bytes : List ℕ) → 8 ≤ length bytes → little_endian (take 4 bytes) + 4294967296 * little_endian (take 4 (drop 4 bytes)) ≡ little_endian (take 8 bytes)
+pub value_read : (bytes : List ℕ) → length bytes ≡ 8 → from_le_bytes w64 bytes ≡ little_endian bytes
 unfolding little_endian
-eight_first [] h = absurd (omega (arith, h))
-eight_first (a ∷ []) h = absurd (omega (arith, h))
-eight_first (a ∷ b ∷ []) h = absurd (omega (arith, h))
-eight_first (a ∷ b ∷ c ∷ []) h = absurd (omega (arith, h))
-eight_first (a ∷ b ∷ c ∷ d ∷ bytes) h = omega arith
+value_read [] h = absurd (omega (arith, h))
+value_read (a ∷ []) h = absurd (omega (arith, h))
+value_read (a ∷ b ∷ []) h = absurd (omega (arith, h))
+value_read (a ∷ b ∷ c ∷ []) h = absurd (omega (arith, h))
+value_read (a ∷ b ∷ c ∷ d ∷ bytes) h = omega (arith, word_read bytes (omega (arith, h)))
 
-pub eight_bytes : (bytes : List ℕ) (at low high : ℕ) → at + 8 ≤ length bytes → low ≡ little_endian (take 4 (drop at bytes)) → high ≡ little_endian (take 4 (drop (at + 4) bytes)) →
-    low + 4294967296 * high ≡ little_endian (take 8 (drop at bytes))
-eight_bytes bytes at low high h p q =
-    let upper = q ∙ ap (λ r. little_endian (take 4 r)) (sym (drop-drop 4 at bytes)) in
-    omega (arith, p, upper, eight_first (drop at bytes) (omega (arith, h, length-drop at bytes)))
+-- The bytes that the library takes at a place.
+module _ (bytes taken : List ℕ) (at size : ℕ) (fits : at + size ≤ length bytes)
+    (chunk : IsFirstChunk (take (length bytes - at) (drop at bytes)) taken size) where
+  pub taken_bytes : taken ≡ take size (drop at bytes)
+  taken_bytes = chunk.same ∙ take-take size (length bytes - at) (drop at bytes) (omega arith)
+
+  pub taken_length : length taken ≡ size
+  taken_length = ap length taken_bytes ∙ length-take-le size (drop at bytes) (omega (arith, length-drop at bytes))
+
+pub bytes_length : (size number : ℕ) → length (bytes_of size number) ≡ size
+unfolding bytes_of
+bytes_length zero number = refl
+bytes_length (suc size) number = ap suc (bytes_length size (number / 256))
+
+-- The bytes that the library writes of a number.
+value_written : (value : ℕ) → to_le_bytes w64 value ≡ bytes_of 8 value
+unfolding bytes_of
+value_written value = simp div-div-eq-div-mul
+
+pub put_written : (bytes written : List ℕ) (at value : ℕ) → at + 8 ≤ length bytes → written ≡ to_le_bytes w64 value →
+    put_mid at (at + 8 - at) bytes written ≡ sets bytes at (bytes_of 8 value)
+put_written bytes written at value fits is =
+    ap (λ k. take at bytes ++ (written ++ drop k (drop at bytes))) (eight at)
+    ∙ ap (λ r. take at bytes ++ (written ++ r)) (drop-drop 8 at bytes)
+    ∙ ap (λ r. take at bytes ++ (r ++ drop (at + 8) bytes)) (is ∙ value_written value)
+    ∙ ap (λ k. take at bytes ++ (bytes_of 8 value ++ drop (at + k) bytes)) (sym (bytes_length 8 value))
+    ∙ sym (append_assoc (take at bytes) (bytes_of 8 value) (drop (at + length (bytes_of 8 value)) bytes))
+    ∙ sym (sets-eq (bytes_of 8 value) bytes at (omega (arith, bytes_length 8 value)))
+  where
+    eight : (at : ℕ) → at + 8 - at ≡ 8
+    eight at = omega arith
 
 -- ---- From bytes to numbers.
 
@@ -49,7 +73,8 @@ pub sets_whole : (words new : List ℕ) → length new ≡ length words → sets
 sets_whole words new same =
     sets-eq new words 0 (omega (arith, same)) ∙ ap (λ r. new ++ r) (drop_of_length-le words {i = 0 + length new} (omega (arith, same))) ∙ append-nil new
 
-pub unpack_starts : (size : ℕ) (bytes words : List ℕ) → sets words 0 (numbers size (length words - 0) (drop (size * 0) bytes)) ≡ numbers size (length words) bytes
+pub unpack_starts : (size : ℕ) (bytes words : List ℕ) →
+    sets words 0 (numbers size (length words - 0) (drop (size * 0) bytes)) ≡ numbers size (length words) bytes
 unpack_starts size bytes words =
     ap (λ k. sets words 0 (numbers size k (drop (size * 0) bytes))) (sub-zero (length words))
     ∙ ap (λ k. sets words 0 (numbers size (length words) (drop k bytes))) (mul-zero size)
@@ -74,7 +99,8 @@ unpack_next size count i word bytes words wanted h p q =
     next : drop (size * (i + 1)) bytes ≡ drop size (drop (size * i) bytes)
     next = ap (λ k. drop k bytes) (ap (λ k. size * k) (after i) ∙ mul-suc size i) ∙ sym (drop-drop size (size * i) bytes)
 
-pub unpack_ends : (size count i : ℕ) (bytes words wanted : List ℕ) → count ≤ i → sets words i (numbers size (count - i) (drop (size * i) bytes)) ≡ wanted → words ≡ wanted
+pub unpack_ends : (size count i : ℕ) (bytes words wanted : List ℕ) → count ≤ i →
+    sets words i (numbers size (count - i) (drop (size * i) bytes)) ≡ wanted → words ≡ wanted
 unfolding numbers
 unpack_ends size count i bytes words wanted h q = sym (ap (λ k. sets words i (numbers size k (drop (size * i) bytes))) (none count i h)) ∙ q
   where
@@ -83,11 +109,6 @@ unpack_ends size count i bytes words wanted h q = sym (ap (λ k. sets words i (n
 
 -- ---- From numbers to bytes.
 
-pub bytes_length : (size number : ℕ) → length (bytes_of size number) ≡ size
-unfolding bytes_of
-bytes_length zero number = refl
-bytes_length (suc size) number = ap suc (bytes_length size (number / 256))
-
 pub words_length : (words : List ℕ) → length (bytes_of_words words) ≡ 8 * length words
 unfolding bytes_of_words
 words_length [] = refl
@@ -95,26 +116,6 @@ words_length (w ∷ ws) = length-append (bytes_of 8 w) (bytes_of_words ws) ∙ b
   where
     both : (a b n : ℕ) → a ≡ 8 → b ≡ 8 * n → a + b ≡ 8 * suc n
     both a b n p q = omega arith
-
--- A byte of a number is written.
-pub put_next : (at i rest byte : ℕ) (bytes wanted : List ℕ) → i < 8 → byte ≡ rest % 256 → sets bytes (at + i) (bytes_of (8 - i) rest) ≡ wanted →
-    sets (set bytes (at + i) byte) (at + (i + 1)) (bytes_of (8 - (i + 1)) (rest / 256)) ≡ wanted
-unfolding bytes_of
-put_next at i rest byte bytes wanted h p q =
-    ap (λ b. sets (set bytes (at + i) b) (at + (i + 1)) (bytes_of (8 - (i + 1)) (rest / 256))) p
-    ∙ ap (λ k. sets (set bytes (at + i) (rest % 256)) k (bytes_of (8 - (i + 1)) (rest / 256))) (next at i)
-    ∙ ap (λ k. sets bytes (at + i) (bytes_of k rest)) (left 8 i h)
-    ∙ q
-  where
-    next : (at i : ℕ) → at + (i + 1) ≡ suc (at + i)
-    next at i = omega arith
-
-pub put_ends : (at i rest : ℕ) (bytes wanted : List ℕ) → 8 ≤ i → sets bytes (at + i) (bytes_of (8 - i) rest) ≡ wanted → bytes ≡ wanted
-unfolding bytes_of
-put_ends at i rest bytes wanted h q = sym (ap (λ k. sets bytes (at + i) (bytes_of k rest)) (none i h)) ∙ q
-  where
-    none : (i : ℕ) → 8 ≤ i → 8 - i ≡ 0
-    none i h = omega arith
 
 sets_append : (words a b : List ℕ) (i : ℕ) → sets words i (a ++ b) ≡ sets (sets words i a) (i + length a) b
 sets_append words [] b i = ap (λ k. sets words k b) (sym (add-zero i))

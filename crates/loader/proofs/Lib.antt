@@ -1,2 +1,1 @@
-mod ClearLaws
 pub mod LoadLaws

@@ -5,14 +5,14 @@ use mathlib.Core.List.{List, [], ◌∷◌}
 use native.Mathlib.Omega.{arith}
 use native.Mathlib.Nat.{zero-add, suc-add}
 use lib.ListN.{length, get_or, drop}
-use Rattle.rules.specs.paper.Refusals.{refusal_number}
 use Rattle.rules.specs.paper.Limits.{most_nodes, most_depth, work_words}
 use Rattle.rules.specs.paper.Tree.{Root}
 use Rattle.rules.specs.paper.Reader.{Reading, bad, image, read}
 use Rattle.rules.specs.claims.Listing.{root_nodes}
 use Rattle.rules.specs.claims.Image.{IsImage}
 use Rattle.rules.proofs.reading.ReaderExact.{read_exact}
-use Rattle.rules.specs.paper.Checker.{Judged, fault, fine, Passed, register_scope, root_is}
+use Rattle.rules.specs.paper.Checker.{Judged, fault, fine, register_scope, root_is}
+use Rattle.rules.specs.declared.kinds.Passed.{Passed}
 use Rattle.rules.specs.paper.Engine.{check_image, check_reading, checked}
 use Rattle.reader.specs.Pack.{root_words}
 use Rattle.reader.specs.Put.{KeptBeyond, put_length, put_beyond}
@@ -20,14 +20,13 @@ use Rattle.reader.specs.Answers.{ShapeAnswer}
 use Rattle.reader.specs.Stored.{StoredRoot, RootAt}
 use Rattle.reader.specs.StoredLaws.{same_root, stored_by_put, root_next}
 use Rattle.reader.specs.declared.Shape.{Shape}
-use Rattle.reader.specs.declared.Shape.TheVariants as Shapes
-use Rattle.checker.specs.Commands.{WritesRowsFrom, root_number, root_answer, RootJudgedAt}
-use Rattle.typing.specs.declared.codes.Answer.{Answer}
-use Rattle.typing.specs.declared.codes.Answer.TheVariants.{Is, Fault}
+use Rattle.checker.specs.Commands.{WritesRowsFrom, root_answer, RootJudgedAt}
+use Rattle.std.specs.Prelude.{Result, Ok, Err}
+use Rattle.rules.specs.declared.refusals.Refused.{Refused}
+use Rattle.typing.proofs.laws.codes.AnswerLaws.{two_answers, same_ok, same_err}
 use Rattle.checker.proofs.laws.RootLaws.{root_code_low}
 use Rattle.loader.specs.Answers.{LoadAnswer}
 use Rattle.loader.specs.declared.Loaded.{Loaded}
-use Rattle.loader.specs.declared.Loaded.TheVariants as Load
 
 -- ---- Work words from `work_words` on.
 
@@ -69,51 +68,40 @@ beyond_kept {a} {b} k = record { same_length = k.same_length; same_beyond = drop
 
 -- ---- The shape.
 
-two_shapes : (s : Shape) (n r x p : ℕ) → s ≡ Shapes.Image n r → s ≡ Shapes.Refused x p → ⊥
-two_shapes s n r x p g h = let z : ◌≡◌ {A = ℕ} 0 1 = cc in omega arith
-
-same_registers : (s : Shape) (n r m q : ℕ) → s ≡ Shapes.Image n r → s ≡ Shapes.Image m q → r ≡ q
-same_registers s n r m q g h = cc
-
-same_nodes : (s : Shape) (n r m q : ℕ) → s ≡ Shapes.Image n r → s ≡ Shapes.Image m q → n ≡ m
-same_nodes s n r m q g h = cc
-
-same_refused : (s : Shape) (x p y q : ℕ) → s ≡ Shapes.Refused x p → s ≡ Shapes.Refused y q → Load.Refused x p ≡ Load.Refused y q
-same_refused s x p y q g h = cc
-
-module _ (words before after : List ℕ) (shape : Shape) (answered : ShapeAnswer (read words) shape before after) where
-  pub shape_refused : (x p : ℕ) → shape ≡ Shapes.Refused x p → LoadAnswer (check_image words) (Load.Refused x p) before after
+module _ (words before after : List ℕ) (shape : Result Shape Refused) (answered : ShapeAnswer (read words) shape before after) where
+  pub shape_refused : (x : Refused) → shape ≡ Err x → (r : Result Loaded Refused) → r ≡ Err x → LoadAnswer (check_image words) r before after
   unfolding check_image
-  shape_refused x p q = by (read words) answered
+  shape_refused x q r stays = by (read words) answered
     where
-      by : (g : Reading) → ShapeAnswer g shape before after → LoadAnswer (check_reading g) (Load.Refused x p) before after
-      by (bad y o) a = record { answer = same_refused shape x p (refusal_number y) o q a.answer; beyond = beyond_read a.kept }
-      by (image r t) a = absurd (two_shapes shape (length (root_nodes t)) r x p a.answer q)
+      by : (g : Reading) → ShapeAnswer g shape before after → LoadAnswer (check_reading g) r before after
+      by (bad y o) a = record { answer = stays ∙ ap Err (same_err shape x (record { refusal = y; place = o }) q a.answer); beyond = beyond_read a.kept }
+      by (image r t) a = absurd (two_answers shape (record { nodes = length (root_nodes t); registers = r }) x a.answer q)
 
   -- A tree that was read stands in the work words, with as many nodes as were counted.
-  pub record TreeRead (nodes registers : ℕ) : Type 0 where
+  pub record TreeRead (read_as : Shape) : Type 0 where
     pub tree : Root
-    pub reads : read words ≡ image registers tree
-    pub counted : nodes ≡ length (root_nodes tree)
-    pub stands : RootAt after nodes tree
+    pub reads : read words ≡ image read_as.registers tree
+    pub counted : read_as.nodes ≡ length (root_nodes tree)
+    pub stands : RootAt after read_as.nodes tree
     pub beyond : KeptBeyond work_words before after
 
-  pub tree_read : (nodes registers : ℕ) → work_words ≤ length before → shape ≡ Shapes.Image nodes registers → TreeRead nodes registers
-  tree_read nodes registers room q = by (read words) refl answered
+  pub tree_read : (read_as : Shape) → work_words ≤ length before → shape ≡ Ok read_as → TreeRead read_as
+  tree_read read_as room q = by (read words) refl answered
     where
-      by : (g : Reading) → read words ≡ g → ShapeAnswer g shape before after → TreeRead nodes registers
-      by (bad y o) e a = absurd (two_shapes shape nodes registers (refusal_number y) o q a.answer)
+      by : (g : Reading) → read words ≡ g → ShapeAnswer g shape before after → TreeRead read_as
+      by (bad y o) e a = absurd (two_answers shape read_as (record { refusal = y; place = o }) q a.answer)
       by (image r t) e a =
           let is : IsImage words r t = (read_exact words r t).0 e in
+          let same : record { nodes = length (root_nodes t); registers = r } ≡ read_as = same_ok shape _ read_as a.answer q in
           record {
             tree = t;
-            reads = e ∙ ap (λ k. image k t) (same_registers shape (length (root_nodes t)) r nodes registers a.answer q);
-            counted = same_nodes shape nodes registers (length (root_nodes t)) r q a.answer;
+            reads = e ∙ ap (λ s. image s.registers t) same;
+            counted = sym (ap (λ s. s.nodes) same);
             stands = record {
               depth = most_depth;
               depth_low = omega arith;
               stored =
-                  subst (λ n. StoredRoot after most_depth 0 n t) (sym (same_nodes shape nodes registers (length (root_nodes t)) r q a.answer))
+                  subst (λ s. StoredRoot after most_depth 0 s.nodes t) same
                   (subst (λ ws. StoredRoot ws most_depth 0 (length (root_nodes t)) t) (sym a.written) (stored_by_put before is.shape is.size (omega (arith, room))));
             };
             beyond = record {
@@ -128,42 +116,36 @@ module _ (words before after : List ℕ) (shape : Shape) (answered : ShapeAnswer
 tree_kept : {a b : List ℕ} {nodes : ℕ} {t : Root} → WritesRowsFrom a b 0 → RootAt a nodes t → RootAt b nodes t
 tree_kept {a} {b} k s = record { depth = s.depth; depth_low = s.depth_low; stored = same_root a b (λ i h. k.same_below i (omega (arith, h))) s.stored }
 
-two_answers : (a x p : ℕ) → Is a ≡ Fault x p → ⊥
-two_answers a x p h = let z : ◌≡◌ {A = ℕ} 0 1 = cc in omega arith
-
-same_is : (a b : ℕ) → Is a ≡ Is b → a ≡ b
-same_is a b h = cc
-
-as_refused : (x p y q : ℕ) → Fault x p ≡ Fault y q → Load.Refused x p ≡ Load.Refused y q
-as_refused x p y q h = cc
-
-module _ (words before middle after : List ℕ) (shape : Shape) (answered : ShapeAnswer (read words) shape before middle) (nodes registers : ℕ) (tree : TreeRead words before middle shape answered nodes registers)
-    (kept : WritesRowsFrom middle after 0) (r : Answer) (judged : RootJudgedAt middle registers nodes r) where
+module _ (words before middle after : List ℕ) (shape : Result Shape Refused) (answered : ShapeAnswer (read words) shape before middle) (read_as : Shape) (tree : TreeRead words before middle shape answered read_as)
+    (kept : WritesRowsFrom middle after 0) (root : Result Passed Refused) (judged : RootJudgedAt middle read_as.registers read_as.nodes root) where
   all_beyond : KeptBeyond work_words before after
   all_beyond = beyond_then tree.beyond (beyond_kept kept)
 
-  of_reading : (a : Loaded) → ((j : Judged Passed) → root_is (register_scope registers) tree.tree ≡ j → r ≡ root_answer j → LoadAnswer (checked registers tree.tree j) a before after) →
-      LoadAnswer (check_image words) a before after
+  of_reading : (r : Result Loaded Refused) →
+      ((j : Judged Passed) → root_is (register_scope read_as.registers) tree.tree ≡ j → root ≡ root_answer j → LoadAnswer (checked read_as.registers tree.tree j) r before after) →
+      LoadAnswer (check_image words) r before after
   unfolding check_image
-  of_reading a done =
-      subst (λ g. LoadAnswer (check_reading g) a before after) (sym tree.reads) (done (root_is (register_scope registers) tree.tree) refl (judged tree.tree tree.stands))
+  of_reading r done =
+      subst (λ g. LoadAnswer (check_reading g) r before after) (sym tree.reads) (done (root_is (register_scope read_as.registers) tree.tree) refl (judged tree.tree tree.stands))
 
-  pub root_passes : (number : ℕ) → r ≡ Is number → LoadAnswer (check_image words) (Load.Passed number registers nodes) before after
-  root_passes number q = of_reading (Load.Passed number registers nodes) (λ j e h. by j e (sym q ∙ h))
+  pub root_passes : (c : Passed) → root ≡ Ok c → LoadAnswer (check_image words) (Ok (record { root = c; registers = read_as.registers; nodes = read_as.nodes })) before after
+  root_passes c q = of_reading (Ok (record { root = c; registers = read_as.registers; nodes = read_as.nodes })) by
     where
-      by : (j : Judged Passed) → root_is (register_scope registers) tree.tree ≡ j → Is number ≡ root_answer j → LoadAnswer (checked registers tree.tree j) (Load.Passed number registers nodes) before after
-      by (fault x p) e h = absurd (two_answers number (refusal_number x) p h)
-      by (fine c) e h =
+      by : (j : Judged Passed) → root_is (register_scope read_as.registers) tree.tree ≡ j → root ≡ root_answer j →
+          LoadAnswer (checked read_as.registers tree.tree j) (Ok (record { root = c; registers = read_as.registers; nodes = read_as.nodes })) before after
+      by (fault x p) e h = absurd (two_answers root c (record { refusal = x; place = p }) q h)
+      by (fine d) e h =
+          let same : c ≡ d = same_ok root c d q h in
           record {
-            answer = ap (λ k. Load.Passed k registers nodes) (same_is number (root_number c) h) ∙ ap (Load.Passed (root_number c) registers) tree.counted;
+            answer = ap (λ k. Ok (record { root = k; registers = read_as.registers; nodes = read_as.nodes })) same ∙ ap (λ n. Ok (record { root = d; registers = read_as.registers; nodes = n })) tree.counted;
             stands = subst (λ n. RootAt after n tree.tree) tree.counted (tree_kept kept tree.stands);
-            code_low = λ k known. root_code_low registers tree.tree k (e ∙ ap fine known);
+            code_low = λ k known. root_code_low read_as.registers tree.tree k (e ∙ ap fine known);
             beyond = all_beyond;
           }
 
-  pub root_refused : (x p : ℕ) → r ≡ Fault x p → LoadAnswer (check_image words) (Load.Refused x p) before after
-  root_refused x p q = of_reading (Load.Refused x p) (λ j e h. by j (sym q ∙ h))
+  pub root_refused : (x : Refused) → root ≡ Err x → (r : Result Loaded Refused) → r ≡ Err x → LoadAnswer (check_image words) r before after
+  root_refused x q r stays = of_reading r by
     where
-      by : (j : Judged Passed) → Fault x p ≡ root_answer j → LoadAnswer (checked registers tree.tree j) (Load.Refused x p) before after
-      by (fault y o) h = record { answer = as_refused x p (refusal_number y) o h; beyond = all_beyond }
-      by (fine c) h = absurd (two_answers (root_number c) x p (sym h))
+      by : (j : Judged Passed) → root_is (register_scope read_as.registers) tree.tree ≡ j → root ≡ root_answer j → LoadAnswer (checked read_as.registers tree.tree j) r before after
+      by (fault y o) e h = record { answer = stays ∙ ap Err (same_err root x (record { refusal = y; place = o }) q h); beyond = all_beyond }
+      by (fine c) e h = absurd (two_answers root c x h q)

@@ -8,35 +8,32 @@ ghost use Rattle.loader.specs.Answers.{LoadAnswer};
 
 use checker::root;
 use reader::{Shape, read_image};
-use typing::codes::Answer;
+use rules::kinds::Passed;
+use rules::refusals::Refused;
 
 // The work words that a call may write: a caller lends at least as many.
 pub const WORK_WORDS: usize = 8192;
 
-// What an image is found to be: the number of what its root is (a code, or the checker's COMMAND), its count of registers and its count of
-// nodes; or a refusal with its place.
-#[derive(Clone, Copy)]
-pub enum Loaded {
-    Passed(usize, usize, usize),
-    Refused(u64, usize),
+// An image that passes: what its root is, its count of registers and its count of nodes.
+#[derive(Clone, Copy, Debug, PartialEq, Eq)]
+pub struct Loaded {
+    pub root: Passed,
+    pub registers: usize,
+    pub nodes: usize,
 }
 
 // The image is read and checked. Its tree stands in the work words then, and the rest of the first 8,192 of them is spoilt.
-pub fn load(image: &[u32], work: &mut [u64]) -> Loaded
+pub fn load(image: &[u32], work: &mut [u64]) -> Result<Loaded, Refused>
     requires { work_words ≤ length work.old }
     ensures { LoadAnswer (check_image image.now) result work.old work.new }
 {
-    let shape = read_image(work, image);
-    match shape {
-        Shape::Image(nodes, registers) => {
-            let judged = root(work, registers, nodes);
-            match judged {
-                Answer::Is(number) => Loaded::Passed(number, registers, nodes),
-                Answer::Fault(number, place) => Loaded::Refused(number, place),
-            }
-        }
-        Shape::Refused(number, place) => Loaded::Refused(number, place),
-    }
+    let Shape { nodes, registers } = read_image(work, image)?;
+    let root = root(work, registers, nodes)?;
+    Ok(Loaded {
+        root,
+        registers,
+        nodes,
+    })
 }
 
 // The first 8,192 work words become 0.
@@ -44,9 +41,5 @@ pub fn clear(work: &mut [u64])
     requires { work_words ≤ length work.old }
     ensures { work.new ≡ cleared work.old }
 {
-    let mut i = 0;
-    while i < WORK_WORDS {
-        work[i] = 0;
-        i = i + 1;
-    }
+    work[..WORK_WORDS].fill(0);
 }

@@ -2,7 +2,11 @@
 -- layout.rt.
 use Rattle.std.specs.Prelude.{ℕ, ◌+◌, ◌-◌, ◌*◌}
 use Rattle.rules.specs.paper.Limits.{names, most_cells, most_bindings, most_value_entries, most_control_entries}
-use Rattle.rules.specs.paper.Kinds.{negation, assign, loop, cseq, blk, call, conditional, bind, dseq, expression_kind, command_kind, declaration_kind, ref, abs, binary, kind_number}
+use Rattle.rules.specs.paper.Kinds.{kind_number}
+use Rattle.rules.specs.declared.kinds.ExpressionKind.TheVariants.{Not as negation, Binary as binary}
+use Rattle.rules.specs.declared.kinds.CommandKind.TheVariants.{Assign as assign, Loop as loop, CSeq as cseq, Blk as blk, Call as call, Cond as conditional}
+use Rattle.rules.specs.declared.kinds.DeclarationKind.TheVariants.{Bind as bind, DSeq as dseq}
+use Rattle.rules.specs.declared.kinds.Kind.TheVariants.{Expression as expression_kind, Command as command_kind, Declaration as declaration_kind, Ref as ref, Abs as abs}
 use Rattle.rules.specs.paper.States.{Mark, operator_mark, not_mark, assign_mark, loop_mark, conditional_mark, ref_mark, bind_mark, dseq_extend_mark, dseq_join_mark, extend_mark, leave_mark, call_mark}
 
 -- ---- The regions, one behind the other.

@@ -2,7 +2,8 @@
 -- value's label and the pointer of the row below it; a location set is the count of cells there were before its first.
 use Rattle.std.specs.Prelude.{ℕ, suc, ◌+◌, ◌*◌, ◌<◌, ◌≤◌, ◌≡◌, Bool, List, [], ◌∷◌, ℤ, length}
 use Rattle.std.proofs.Math.Option.{some}
-use Rattle.rules.specs.paper.Tree.{Operator, Expression, Formal, Command, Block, Declaration, Ref, Abs}
+use Rattle.rules.specs.paper.Tree.{Expression, Formal, Command, Block, Declaration, Ref, Abs}
+use Rattle.rules.specs.declared.kinds.Operator.{Operator}
 use Rattle.rules.specs.paper.Limits.{names, most_parameters, most_nodes}
 use Rattle.rules.specs.claims.Listing.{truth_word}
 use Rattle.rules.specs.paper.States.{Value, integer, truth, location, Bindable, value, closure, Environment, empty, bound, Cell, Store, Entry, bindable, name, node, environment, locations, operator_mark, not_mark, assign_mark, loop_mark, conditional_mark, ref_mark, bind_mark, dseq_extend_mark, dseq_join_mark, extend_mark, leave_mark, call_mark, Item, expression, command, declaration, reference, abstraction, mark}

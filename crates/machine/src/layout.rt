@@ -10,7 +10,8 @@ pub const MOST_VALUE_ENTRIES: usize = 512;
 
 pub const MOST_CONTROL_ENTRIES: usize = 512;
 
-// Control, one word an entry; the value stack, the rows of the live bindings and the cells, two words each: payloads and labels.
+// Control, one word an entry; the value stack, the rows of the live bindings and the cells, two words each: payloads and labels. The two are
+// apart, and no array of pairs, since all memory is one lent slice of words; and the registers are one stretch of the cells' payloads.
 pub const CONTROL: usize = 2048;
 
 pub const VALUE_PAYLOADS: usize = CONTROL + MOST_CONTROL_ENTRIES;

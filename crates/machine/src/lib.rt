@@ -4,7 +4,6 @@
 pub mod layout;
 pub mod lookup;
 pub mod memory;
-pub mod reasons;
 pub mod stacks;
 
 // Where a cell is: not an integer, and nothing is computed with it.
@@ -26,11 +25,4 @@ pub struct Machine {
     pub base: usize,
     // the live bindings
     pub bindings: usize,
-}
-
-// What a step comes to: the machine after it, or the number of the reason for which it is withheld.
-#[derive(Clone, Copy)]
-pub enum Stepped {
-    Made(Machine),
-    Withheld(u64),
 }

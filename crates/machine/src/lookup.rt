@@ -16,12 +16,13 @@ fn find_row(work: &[u64], bindings: usize, pointer: usize, name: u64) -> usize
     ensures { FindsRow work.now (slots row_labels row_payloads bindings work.now) pointer name result }
 {
     let mut at = pointer;
-    let mut row = work[ROW_AT_POINTER + at];
-    while row % NAME_UNIT != name {
+    loop {
+        let row = work[ROW_AT_POINTER + at];
+        if row % NAME_UNIT == name {
+            break at - 1;
+        }
         at = (row / POINTER_UNIT) as usize;
-        row = work[ROW_AT_POINTER + at];
     }
-    at - 1
 }
 
 // The number of a name's row in the environment.

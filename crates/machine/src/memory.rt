@@ -1,5 +1,5 @@
 // Entries, rows and cells, put into the work words and taken from them.
-ghost use Rattle.std.specs.Prelude.{◌≡◌, ◌∷◌, ◌+◌, ◌<◌, ◌≤◌, length, get_or};
+ghost use Rattle.std.specs.Prelude.{◌≡◌, ◌∷◌, ◌+◌, ◌<◌, ◌≤◌, length, get_or, set};
 ghost use Rattle.rules.specs.paper.Limits.{most_cells, most_bindings, most_value_entries, most_control_entries, work_words};
 ghost use Rattle.machine.specs.Layout.{cell_payloads, cell_labels};
 ghost use Rattle.machine.specs.Regions.{slot, regions, Fits, with_control, with_values, with_row, with_cells, raised_control, raised_values, raised_rows, raised_cells, set_slot};
@@ -9,6 +9,39 @@ use crate::layout::{
 };
 use crate::{Location, Machine};
 
+// Where a region of two words an entry has its payloads and its labels.
+#[derive(Clone, Copy)]
+struct Slots {
+    payloads: usize,
+    labels: usize,
+}
+
+const VALUES: Slots = Slots {
+    payloads: VALUE_PAYLOADS,
+    labels: VALUE_LABELS,
+};
+
+const ROWS: Slots = Slots {
+    payloads: ROW_PAYLOADS,
+    labels: ROW_LABELS,
+};
+
+const CELLS: Slots = Slots {
+    payloads: CELL_PAYLOADS,
+    labels: CELL_LABELS,
+};
+
+// Both words of the entry at a number.
+#[inline(always)]
+fn put_slot(work: &mut [u64], slots: Slots, at: usize, label: u64, payload: u64)
+    requires payload_in_bounds { slots.payloads + at < length work.old }
+    requires label_in_bounds { slots.labels + at < length work.old }
+    ensures { work.new ≡ set (set work.old (slots.payloads + at) payload) (slots.labels + at) label }
+{
+    work[slots.payloads + at] = payload;
+    work[slots.labels + at] = label;
+}
+
 // One more entry of control.
 pub fn put_control(work: &mut [u64], mut m: Machine, item: u64) -> Machine
     requires fits { Fits work.old m }
@@ -16,9 +49,8 @@ pub fn put_control(work: &mut [u64], mut m: Machine, item: u64) -> Machine
     ensures value { result ≡ raised_control m }
     ensures m_after { regions work.new (raised_control m) ≡ with_control item (regions work.old m) }
 {
-    let height = m.control;
-    work[CONTROL + height] = item;
-    m.control = height + 1;
+    work[CONTROL + m.control] = item;
+    m.control = m.control + 1;
     m
 }
 
@@ -29,10 +61,8 @@ pub fn put_value(work: &mut [u64], mut m: Machine, label: u64, payload: u64) -> 
     ensures value { result ≡ raised_values m }
     ensures m_after { regions work.new (raised_values m) ≡ with_values (slot label payload ∷ (regions work.old m).values) (regions work.old m) }
 {
-    let height = m.values;
-    work[VALUE_PAYLOADS + height] = payload;
-    work[VALUE_LABELS + height] = label;
-    m.values = height + 1;
+    put_slot(work, VALUES, m.values, label, payload);
+    m.values = m.values + 1;
     m
 }
 
@@ -43,10 +73,8 @@ pub fn put_row(work: &mut [u64], mut m: Machine, label: u64, payload: u64) -> Ma
     ensures value { result ≡ raised_rows m }
     ensures m_after { regions work.new (raised_rows m) ≡ with_row (slot label payload) (regions work.old m) }
 {
-    let row = m.bindings;
-    work[ROW_PAYLOADS + row] = payload;
-    work[ROW_LABELS + row] = label;
-    m.bindings = row + 1;
+    put_slot(work, ROWS, m.bindings, label, payload);
+    m.bindings = m.bindings + 1;
     m
 }
 
@@ -57,10 +85,8 @@ pub fn put_cell(work: &mut [u64], mut m: Machine, label: u64, payload: u64) -> M
     ensures value { result ≡ raised_cells m }
     ensures m_after { regions work.new (raised_cells m) ≡ with_cells (slot label payload ∷ (regions work.old m).cells) (regions work.old m) }
 {
-    let cell = m.cells;
-    work[CELL_PAYLOADS + cell] = payload;
-    work[CELL_LABELS + cell] = label;
-    m.cells = cell + 1;
+    put_slot(work, CELLS, m.cells, label, payload);
+    m.cells = m.cells + 1;
     m
 }
 
@@ -70,19 +96,16 @@ pub fn set_cell(work: &mut [u64], m: Machine, at: Location, label: u64, payload:
     requires at_lt_cells { at.0 < m.cells }
     ensures { regions work.new m ≡ with_cells (set_slot at.0 (slot label payload) (regions work.old m).cells) (regions work.old m) }
 {
-    let place = at.0;
-    work[CELL_PAYLOADS + place] = payload;
-    work[CELL_LABELS + place] = label;
+    put_slot(work, CELLS, at.0, label, payload);
 }
 
-// What a live cell holds: its label and its payload.
+// What a live cell holds: its label and its payload. A function over both regions would be no plainer: it reads one word of a given place.
 pub fn cell_label(work: &[u64], at: Location) -> u64
     requires work_words_in_bounds { work_words ≤ length work.now }
     requires at_lt_most_cells { at.0 < most_cells }
     ensures { result ≡ get_or work.now (cell_labels + at.0) 0 }
 {
-    let cell = at.0;
-    work[CELL_LABELS + cell]
+    work[CELL_LABELS + at.0]
 }
 
 pub fn cell_payload(work: &[u64], at: Location) -> u64
@@ -90,6 +113,5 @@ pub fn cell_payload(work: &[u64], at: Location) -> u64
     requires at_lt_most_cells { at.0 < most_cells }
     ensures { result ≡ get_or work.now (cell_payloads + at.0) 0 }
 {
-    let cell = at.0;
-    work[CELL_PAYLOADS + cell]
+    work[CELL_PAYLOADS + at.0]
 }

@@ -3,13 +3,15 @@ use Prim.Native.Nat.{ℕ, suc, ◌+◌, ◌-◌, ◌/◌, ◌%◌, ◌<◌, ◌�
 use mathlib.Core.Path.{◌≡◌, refl, sym, ap, ◌∙◌}
 use mathlib.Core.List.{List, [], ◌∷◌, ◌++◌}
 use native.Mathlib.Omega.{arith}
-use lib.ListN.{length, set, length-replicate}
+use lib.ListN.{length, set, take, drop, length-replicate, length-set, length-drop}
+use lib.Seq.{length-take-le}
+use borrow.Rule.Slice.PartMut.{put_mid}
 use Rattle.rules.proofs.Basics.{append_assoc}
 use Rattle.rules.specs.paper.Decimal.{digit, decimal}
 use Rattle.reader.specs.Put.{put, put_none, put_length, set_put}
 use Rattle.page.specs.Page.{blank, blanks, to_the_right}
 use Rattle.page.specs.DecimalLaws.{decimal_short, decimal_long, length_long, decimal_some}
-use Rattle.page.proofs.PutLaws.{put_joined, set_one}
+use Rattle.page.proofs.PutLaws.{put_joined, put_over, set_one}
 
 -- ---- The last digit of a number that stands to the right.
 
@@ -93,60 +95,38 @@ module _ {before now : List ℕ} {at columns number left column : ℕ} (w : Digi
       again : w.ahead ≡ suc (w.ahead - 1)
       again = omega (arith, w.fits, decimal_some left)
 
--- ---- The blanks.
-
--- Blanks stand from this column on up to where they began.
-pub record BlanksFrom (before : List ℕ) (at last column : ℕ) (now : List ℕ) : Type 0 where
-  pub count : ℕ
-  pub counted : column + count ≡ last
-  pub after : at ≤ column
-  pub written : now ≡ put column (blanks count) before
-
-pub no_blank : (before : List ℕ) (at last : ℕ) → at ≤ last → BlanksFrom before at last last before
-no_blank before at last h = record { count = 0; counted = omega arith; after = h; written = sym (put_none last before) }
-
-module _ {before now : List ℕ} {at last column : ℕ} (w : BlanksFrom before at last column now) where
-  pub blanks_length : length now ≡ length before
-  blanks_length = ap length w.written ∙ put_length column (blanks w.count) before
-
-  pub blank_written : at < column → BlanksFrom before at last (column - 1) (set now (column - 1) blank)
-  blank_written h =
-      record {
-        count = suc w.count;
-        counted = omega (arith, w.counted, h);
-        after = omega (arith, h);
-        written = ap (λ l. set l (column - 1) blank) (w.written ∙ ap (λ c. put c (blanks w.count) before) (again column h)) ∙ set_put (column - 1) blank (blanks w.count) before;
-      }
-    where
-      again : (c : ℕ) → at < c → c ≡ suc (c - 1)
-      again c g = omega (arith, g)
-
 -- ---- The whole of it: a byte behind the columns, the digits, the first digit, the blanks.
 
-pub number_written : (before : List ℕ) (behind : ℕ) {digits_now now : List ℕ} {at columns number left column last_column : ℕ} →
-    (w : DigitsFrom (set before (at + columns) behind) at columns number left column digits_now) → left < 10 →
-    BlanksFrom (set digits_now (column - 1) (48 + left)) at (column - 1) last_column now → last_column ≤ at →
-    now ≡ put at (to_the_right columns (decimal number) ++ (behind ∷ [])) before
-number_written before behind {digits_now} {now} {at} {columns} {number} {left} {column} {last_column} w low b end =
-    b.written
-    ∙ ap (λ c. put c (blanks b.count) (set digits_now (column - 1) (48 + left))) first_column
-    ∙ ap (put at (blanks b.count)) (byte_before w (48 + left) ∙ ap (put (column - 1) (digit left ∷ w.done)) (set_one (at + columns) behind before) ∙ put_joined (column - 1) (at + columns) (digit left ∷ w.done) (behind ∷ []) before after_digits)
-    ∙ put_joined at (column - 1) (blanks b.count) ((digit left ∷ w.done) ++ (behind ∷ [])) before after_blanks
+pub number_written : (before : List ℕ) (behind : ℕ) {digits_now : List ℕ} (filled : List ℕ) {at columns number left column : ℕ} →
+    (w : DigitsFrom (set before (at + columns) behind) at columns number left column digits_now) → left < 10 → at + columns < length before →
+    filled ≡ blanks (length (take (column - 1 - at) (drop at (set digits_now (column - 1) (48 + left))))) →
+    put_mid at (column - 1 - at) (set digits_now (column - 1) (48 + left)) filled ≡ put at (to_the_right columns (decimal number) ++ (behind ∷ [])) before
+number_written before behind {digits_now} filled {at} {columns} {number} {left} {column} w low room blank_all =
+    ap (put_mid at count one_digit) (blank_all ∙ ap blanks (length-take-le count (drop at one_digit) (omega (arith, fits, length-drop at one_digit))))
+    ∙ put_over at count (blanks count) one_digit (length-replicate count blank) fits
+    ∙ ap (put at (blanks count)) (byte_before w (48 + left) ∙ ap (put (column - 1) (digit left ∷ w.done)) (set_one (at + columns) behind before) ∙ put_joined (column - 1) (at + columns) (digit left ∷ w.done) (behind ∷ []) before after_digits)
+    ∙ put_joined at (column - 1) (blanks count) ((digit left ∷ w.done) ++ (behind ∷ [])) before after_blanks
     ∙ ap (λ l. put at l before) (sym whole)
   where
-    first_column : last_column ≡ at
-    first_column = omega (arith, b.after, end)
+    count : ℕ
+    count = column - 1 - at
+
+    one_digit : List ℕ
+    one_digit = set digits_now (column - 1) (48 + left)
 
     after_digits : at + columns ≡ (column - 1) + suc (length w.done)
     after_digits = omega (arith, w.column_is, w.counted, digit_room w)
 
-    after_blanks : column - 1 ≡ at + length (blanks b.count)
-    after_blanks = omega (arith, b.counted, first_column, length-replicate b.count blank)
+    after_blanks : column - 1 ≡ at + length (blanks count)
+    after_blanks = omega (arith, digit_room w, length-replicate count blank)
 
-    ahead_is : w.ahead ≡ suc b.count
-    ahead_is = omega (arith, b.counted, first_column, w.column_is, digit_room w)
+    fits : at + count ≤ length one_digit
+    fits = omega (arith, digit_room w, digit_low w, digits_length w, length-set digits_now (column - 1) (48 + left), length-set before (at + columns) behind, room)
 
-    whole : to_the_right columns (decimal number) ++ (behind ∷ []) ≡ blanks b.count ++ ((digit left ∷ w.done) ++ (behind ∷ []))
+    ahead_is : w.ahead ≡ suc count
+    ahead_is = omega (arith, w.column_is, digit_room w)
+
+    whole : to_the_right columns (decimal number) ++ (behind ∷ []) ≡ blanks count ++ ((digit left ∷ w.done) ++ (behind ∷ []))
     whole =
-        ap (λ l. l ++ (behind ∷ [])) (w.text ∙ ap (λ k. to_the_right k (decimal left) ++ w.done) ahead_is ∙ ap (λ l. l ++ w.done) (only_digit b.count left low) ∙ append_assoc (blanks b.count) (digit left ∷ []) w.done)
-        ∙ append_assoc (blanks b.count) (digit left ∷ w.done) (behind ∷ [])
+        ap (λ l. l ++ (behind ∷ [])) (w.text ∙ ap (λ k. to_the_right k (decimal left) ++ w.done) ahead_is ∙ ap (λ l. l ++ w.done) (only_digit count left low) ∙ append_assoc (blanks count) (digit left ∷ []) w.done)
+        ∙ append_assoc (blanks count) (digit left ∷ w.done) (behind ∷ [])

@@ -6,7 +6,8 @@ use native.Mathlib.Omega.{arith}
 use lib.ListN.{length, get_or, drop}
 use Rattle.rules.proofs.Basics.{append_assoc, append_nothing}
 use Rattle.rules.specs.paper.Limits.{most_nodes, most_depth}
-use Rattle.rules.specs.paper.Kinds.{Kind, kind_number}
+use Rattle.rules.specs.paper.Kinds.{kind_number}
+use Rattle.rules.specs.declared.kinds.Kind.{Kind}
 use Rattle.reader.specs.Put.{put, put_none, put_length, put_append}
 use Rattle.reader.specs.Pack.{packed_end}
 use Rattle.reader.specs.Stored.{HasWord}

@@ -1,7 +1,8 @@
 -- The annex page as a call (document 02, "Tree on the contract's annex page"): from image words, the bytes of the lent page and the work
 -- slice's words to the answer, the final bytes and the final work words.
 use Rattle.std.specs.Prelude.{ℕ, ◌*◌, cond, List, ◌++◌, ltb, length, drop}
-use Rattle.rules.specs.paper.Refusals.{Refusal, Work, ShortPage}
+use Rattle.rules.specs.declared.refusals.Refusal.{Refusal}
+use Rattle.rules.specs.declared.refusals.Refusal.TheVariants.{Work, ShortPage}
 use Rattle.rules.specs.paper.Limits.{work_words}
 use Rattle.rules.specs.paper.Engine.{Checked, turned_back, passed, check_image, cleared}
 use Rattle.rules.specs.claims.Listing.{root_nodes}

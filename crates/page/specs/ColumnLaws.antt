@@ -5,7 +5,8 @@ use Rattle.std.proofs.Common.{sym, ap, ◌∙◌, subst, arith, lt-ltb, le-ltb, 
 use Rattle.std.proofs.Math.ListN.{get_or-append}
 use Rattle.rules.proofs.Basics.{by_order, and_left, and_right}
 use Rattle.rules.specs.paper.Decimal.{ascii, digit, digits_within, decimal}
-use Rattle.rules.specs.paper.Kinds.{Kind, every_kind}
+use Rattle.rules.specs.paper.Kinds.{every_kind}
+use Rattle.rules.specs.declared.kinds.Kind.{Kind}
 use Rattle.reader.proofs.TableRows.{all_of, each_kind}
 use Rattle.page.specs.Names.{kind_name}
 use Rattle.page.specs.Lines.{Line}

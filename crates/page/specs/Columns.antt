@@ -4,7 +4,7 @@ use Rattle.std.specs.Prelude.{ℕ, suc, ◌+◌, ◌-◌, ◌*◌, ◌<◌, ◌�
 use Rattle.rules.specs.paper.Limits.{most_depth}
 use Rattle.rules.specs.paper.Tree.{Root}
 use Rattle.rules.specs.paper.Kinds.{kind_number}
-use Rattle.rules.specs.paper.Checker.{Passed}
+use Rattle.rules.specs.declared.kinds.Passed.{Passed}
 use Rattle.rules.specs.paper.Engine.{passed, check_image}
 use Rattle.rules.specs.paper.Decimal.{ascii, decimal}
 use Rattle.rules.specs.claims.Listing.{root_nodes}

@@ -2,7 +2,8 @@
 -- children between its root and its end, one deeper. Their lines follow from the reader's answers.
 use Rattle.std.specs.Prelude.{ℕ, suc, ◌≤◌, List, [], ◌∷◌, ◌++◌}
 use Rattle.rules.specs.paper.Limits.{most_depth}
-use Rattle.rules.specs.paper.Kinds.{Kind, kind_number}
+use Rattle.rules.specs.paper.Kinds.{kind_number}
+use Rattle.rules.specs.declared.kinds.Kind.{Kind}
 use Rattle.reader.specs.Stored.{HasWord}
 use Rattle.page.specs.Lines.{Line, line_of}
 

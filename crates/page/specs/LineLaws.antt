@@ -6,7 +6,8 @@ use Rattle.rules.proofs.Basics.{append_assoc}
 use Rattle.rules.specs.paper.Limits as Limits
 use Rattle.rules.specs.paper.Limits.{most_nodes, most_depth}
 use Rattle.rules.specs.paper.Decimal.{ascii, decimal}
-use Rattle.rules.specs.paper.Kinds.{Kind, kind_number, every_kind}
+use Rattle.rules.specs.paper.Kinds.{kind_number, every_kind}
+use Rattle.rules.specs.declared.kinds.Kind.{Kind}
 use Rattle.reader.specs.Pack.{kinds_room}
 use Rattle.reader.specs.Stored.{HasWord}
 use Rattle.reader.proofs.TableRows.{all_of, each_kind, known_low}

@@ -1,8 +1,11 @@
 -- Pages as they look: that of 5 × (3 + 2), and the widest line.
 use Rattle.std.specs.Prelude.{◌≡◌, refl, [], ◌++◌}
 use Rattle.std.proofs.Common.{arith}
-use Rattle.rules.specs.paper.Tree.{arithmetic, Sum, Mul, Num, Binary, expression, absent}
-use Rattle.rules.specs.paper.Kinds.{num, expression_kind}
+use Rattle.rules.specs.paper.Tree.{Num, Binary, expression, absent}
+use Rattle.rules.specs.declared.kinds.Operator.TheVariants.{Arithmetic as arithmetic}
+use Rattle.rules.specs.declared.kinds.Arithmetic.TheVariants.{Sum, Mul}
+use Rattle.rules.specs.declared.kinds.ExpressionKind.TheVariants.{Num as num}
+use Rattle.rules.specs.declared.kinds.Kind.TheVariants.{Expression as expression_kind}
 use Rattle.rules.specs.paper.Decimal.{ascii, digits_within, decimal}
 use Rattle.page.specs.Lines.{line_of, expression_lines, root_lines}
 use Rattle.page.specs.Page.{line_text, lines_text, page_of}

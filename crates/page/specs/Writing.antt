@@ -2,21 +2,26 @@
 use Rattle.std.specs.Prelude.{ℕ, ◌*◌, ◌≤◌, ◌≡◌, List, [], ◌∷◌, ◌++◌, drop}
 use Rattle.rules.specs.paper.Limits.{most_depth}
 use Rattle.rules.specs.paper.Tree.{Root}
-use Rattle.rules.specs.paper.Kinds.{Kind, kind_number}
+use Rattle.rules.specs.paper.Kinds.{kind_number}
+use Rattle.rules.specs.declared.kinds.Kind.{Kind}
+use Rattle.rules.specs.declared.kinds.Operator.{Operator}
 use Rattle.rules.specs.paper.Decimal.{ascii}
 use Rattle.reader.specs.Put.{put}
 use Rattle.reader.specs.Stored.{HasWord, RootAt}
-use Rattle.page.specs.Names.{kind_name}
+use Rattle.page.specs.Names.{operator_name, kind_name}
 use Rattle.page.specs.Lines.{Line, line_of}
 use Rattle.page.specs.Page.{name_columns, line_bytes, blank, to_the_left, line_text, lines_text, page_of}
 use Rattle.page.specs.Forest.{Forest}
 
--- The name of the kind with this number, in its columns.
-abbrev pub NameOf : (number : ℕ) → (letters : List ℕ) → Type 0
-NameOf number letters = (k : Kind) → number ≡ kind_number k → letters ≡ to_the_left name_columns (ascii (kind_name k))
+-- The name of an operator and of a kind, in their columns.
+abbrev pub IsOperatorName : Operator → (letters : List ℕ) → Type 0
+IsOperatorName o letters = letters ≡ to_the_left name_columns (ascii (operator_name o))
 
-abbrev pub NamePut : (number at : ℕ) → (before after : List ℕ) → Type 0
-NamePut number at before after = (k : Kind) → number ≡ kind_number k → after ≡ put at (to_the_left name_columns (ascii (kind_name k)) ++ (blank ∷ [])) before
+abbrev pub IsName : Kind → (letters : List ℕ) → Type 0
+IsName k letters = letters ≡ to_the_left name_columns (ascii (kind_name k))
+
+abbrev pub NamePut : Kind → (at : ℕ) → (before after : List ℕ) → Type 0
+NamePut k at before after = after ≡ put at (to_the_left name_columns (ascii (kind_name k)) ++ (blank ∷ [])) before
 
 -- A node that has its word, with this end, at a depth that a tree may have.
 abbrev pub SomeLine : List ℕ → (node depth end : ℕ) → Type 0

@@ -6,7 +6,7 @@ ghost use Rattle.page.specs.Writing.{SomeLine, LinePut};
 
 use crate::names::{NAME_COLUMNS, put_name};
 use crate::text::put_number;
-use reader::{kind, operand};
+use reader::{node_kind, operand};
 
 // How many columns each number has. A blank stands behind each column but the last, and a newline behind that.
 const NODE_COLUMNS: usize = 4;
@@ -38,7 +38,7 @@ pub(crate) fn put_line(page: &mut [u8], work: &[u64], node: usize, depth: usize,
     let at = LINE_BYTES * node;
     put_number(page, at, NODE_COLUMNS, node, b' ');
     put_number(page, at + DEPTH_AT, DEPTH_COLUMNS, depth, b' ');
-    put_name(page, at + NAME_AT, kind(work, node));
+    put_name(page, at + NAME_AT, node_kind(work, node));
     put_number(
         page,
         at + OPERAND_AT,

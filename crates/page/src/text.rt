@@ -8,7 +8,7 @@ ghost use Rattle.page.specs.Page.{to_the_right};
 const ZERO: u8 = b'0';
 
 // A number in decimal, to the right of so many columns from a place on, filled with blanks; and a byte behind them. It is written from the
-// right to the left.
+// right to the left: the loop follows the digits that are left. Std prints numbers into a formatter, and not to the right of a lent slice.
 pub(crate) fn put_number(page: &mut [u8], at: usize, columns: usize, number: usize, behind: u8)
     requires columns_in_bounds { at + columns < length page.old }
     requires number_len_bound { length (decimal number) ≤ columns }
@@ -24,8 +24,5 @@ pub(crate) fn put_number(page: &mut [u8], at: usize, columns: usize, number: usi
     }
     column = column - 1;
     page[column] = ZERO + left as u8;
-    while at < column {
-        column = column - 1;
-        page[column] = b' ';
-    }
+    page[at..column].fill(b' ');
 }

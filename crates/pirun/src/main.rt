@@ -7,7 +7,6 @@ use arrayvec::ArrayString;
 use std::env::{Env, FillError};
 use std::fmt::Write;
 use std::io;
-use streams::Ended;
 
 // One byte more than the largest input that fits, so a longer input is cut at a byte count that fits nothing and is refused.
 const INPUT_ROOM: usize = MOST_INPUT_BYTES + 1;
@@ -59,15 +58,15 @@ fn fail(rt: &impl Eprint, what: &str, error: io::Error) {
 fn respond(rt: &HostRuntime, input: &[u8]) {
     let mut output = [0u8; ANSWER_BYTES];
     let length = answer::answer(input, &mut output);
-    let ended = streams::send(&mut rt.stdout(), &output[..length]);
-    match ended {
-        Ended::Full => {}
-        Ended::Nothing(_) => {
-            let _ = rt.eprintln(
-                "pirun: the answer could not be written whole: standard output takes no more",
-            );
+    match streams::send(&mut rt.stdout(), &output[..length]) {
+        Ok(moved) => {
+            if moved < length {
+                let _ = rt.eprintln(
+                    "pirun: the answer could not be written whole: standard output takes no more",
+                );
+            }
         }
-        Ended::Failed(error) => fail(rt, "pirun: the answer could not be written whole", error),
+        Err(error) => fail(rt, "pirun: the answer could not be written whole", error),
     }
 }
 
@@ -77,19 +76,12 @@ fn main(rt: HostRuntime) {
         return;
     }
     let mut input = [0u8; INPUT_ROOM];
-    let ended = streams::receive(&mut rt.stdin(), &mut input);
-    match ended {
-        Ended::Full => respond(&rt, &input),
-        Ended::Nothing(left) => {
-            let count = INPUT_ROOM - left;
-            respond(&rt, &input[..count]);
-        }
-        Ended::Failed(error) => {
-            fail(
-                &rt,
-                "pirun: no answer, since standard input could not be read",
-                error,
-            );
-        }
+    match streams::receive(&mut rt.stdin(), &mut input) {
+        Ok(count) => respond(&rt, &input[..count]),
+        Err(error) => fail(
+            &rt,
+            "pirun: no answer, since standard input could not be read",
+            error,
+        ),
     }
 }

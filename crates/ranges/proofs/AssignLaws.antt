@@ -3,6 +3,7 @@ use Prim.Native.Nat.{ℕ, ◌<◌, ◌≤◌}
 use mathlib.Core.Path.{◌≡◌, refl, sym, ap, ◌∙◌, subst}
 use mathlib.Core.Bool.{Bool, true, false, cond}
 use mathlib.Core.List.{List}
+use Rattle.std.specs.Prelude.{Some, None, Ok}
 use mathlib.Core.Option.{Option, none, some}
 use native.Mathlib.Omega.{arith}
 use lib.ListN.{get_or}
@@ -21,7 +22,6 @@ use Rattle.carrying.specs.States.{FoundAt, Sees}
 use Rattle.carrying.specs.Frames.{SetCell}
 use Rattle.carrying.specs.Answers.{Fits, CommandAs}
 use Rattle.ranges.specs.Commands.{AssignThere, assigning, SomeAssign, AssignCarried}
-use Rattle.carrying.specs.declared.Outcome.TheVariants.{Through}
 use Rattle.carrying.proofs.StateLaws.{holds_same, cell_there, cells_set}
 use Rattle.carrying.proofs.LeafLaws.{ValueRow, found_value}
 
@@ -68,14 +68,14 @@ fit_target x v A K fits = by (assigned x v A K)
     by (sets t q) = t
     by (never_sets q) = absurd (fits q)
 
-module _ (words : List ℕ) (environment node word r : ℕ) (value : Value) (operand : word ≡ packed_operand (get_or words node 0)) (found : FoundAt words environment word r) where
+module _ (words : List ℕ) (environment node word : ℕ) (value : Value) (operand : word ≡ packed_operand (get_or words node 0)) where
   assigned_name : {d j x : ℕ} {e : Expression} {c : Command} → c ≡ Assign node x e → StoredCommand words d node j c → word ≡ x
   assigned_name {x = x} q (Stored.assign {x = y} l h a) = let same : y ≡ x = cc in operand ∙ operand_is h (omega arith) ∙ same
-  assigned_name q (Stored.loop w a b) = let clash : ◌≡◌ {A = ℕ} 0 1 = cc in absurd (omega arith)
-  assigned_name q (Stored.cseq w a b) = let clash : ◌≡◌ {A = ℕ} 0 1 = cc in absurd (omega arith)
-  assigned_name q (Stored.block_of a) = let clash : ◌≡◌ {A = ℕ} 0 1 = cc in absurd (omega arith)
-  assigned_name q (Stored.call l few w a) = let clash : ◌≡◌ {A = ℕ} 0 1 = cc in absurd (omega arith)
-  assigned_name q (Stored.conditional w a b c) = let clash : ◌≡◌ {A = ℕ} 0 1 = cc in absurd (omega arith)
+  assigned_name q (Stored.loop w a b) = absurd cc
+  assigned_name q (Stored.cseq w a b) = absurd cc
+  assigned_name q (Stored.block_of a) = absurd cc
+  assigned_name q (Stored.call l few w a) = absurd cc
+  assigned_name q (Stored.conditional w a b c) = absurd cc
 
   name_is : {d j x : ℕ} {e : Expression} → StoredCommand words d node j (Assign node x e) → word ≡ x
   name_is t = assigned_name refl t
@@ -83,10 +83,18 @@ module _ (words : List ℕ) (environment node word r : ℕ) (value : Value) (ope
   sees_of : {count x : ℕ} {v : Carried} {A : CarriedNames} {K : CarriedCells} → AssignThere words environment node value count x v A K → Sees words environment A K
   sees_of there = record { limit = there.limit; needs = there.needs; count = _; names_are = there.names_are; cells_are = there.cells_are; count_few = there.count_few }
 
+  -- Its row is found.
+  pub row_found : FoundAt words environment word None → SomeAssign words environment node value → ⊥
+  row_found found s =
+      let there = s.5 in
+      let t = fit_target s.1 s.2 s.3 s.4 s.6 in
+      found there.limit s.3 there.needs (a_value (location t.place)) there.names_are (ap (λ y. carried_meaning y s.3) (name_is there.tree) ∙ t.meaning_is)
+
+module _ (words : List ℕ) (environment node word r : ℕ) (value : Value) (operand : word ≡ packed_operand (get_or words node 0)) (found : FoundAt words environment word (Some r)) where
   -- The row has the cell's location.
   target_row : {count x : ℕ} {v : Carried} {A : CarriedNames} {K : CarriedCells} → AssignThere words environment node value count x v A K → (t : Target x v A K) → ValueRow words r (location t.place)
   target_row {x = x} {A = A} there t =
-      found_value word r (location t.place) found (sees_of there) (ap (λ y. carried_meaning y A) (name_is there.tree) ∙ t.meaning_is)
+      found_value word r (location t.place) found (sees_of words environment node word value operand there) (ap (λ y. carried_meaning y A) (name_is words environment node word value operand there.tree) ∙ t.meaning_is)
 
   row_low : {l : ℕ} {s : Value} → HoldsValue s (location l) → s.low ≡ l
   row_low (holds_location p i j) = i
@@ -107,11 +115,11 @@ module _ (words : List ℕ) (environment node word r : ℕ) (value : Value) (ope
     pub assign_carried : (words' : List ℕ) → SetCell words words' s.low value.low value.high → AssignCarried words words' environment node value
     assign_carried words' written count x v A K there = by (assigned x v A K)
       where
-        by : Assigned x v A K → CommandAs words' count (assigning x v A K) Through
+        by : Assigned x v A K → CommandAs words' count (assigning x v A K) (Ok tt)
         by (sets t q) =
-            subst (λ c. CommandAs words' count c Through) (sym q) (
+            subst (λ c. CommandAs words' count c (Ok tt)) (sym q) (
               refl,
               cells_set t.place value.low value.high (subst (λ l. SetCell words words' l value.low value.high) (place_is there t) written) v t.old there.count_few refl refl there.value_is
                   there.cells_are t.cell_is t.sorted,
             )
-        by (never_sets q) = subst (λ c. CommandAs words' count c Through) (sym q) tt
+        by (never_sets q) = subst (λ c. CommandAs words' count c (Ok tt)) (sym q) tt

@@ -2,6 +2,8 @@
 use Prim.Native.Nat.{ℕ, ◌+◌, ◌<◌, ◌≤◌}
 use mathlib.Core.Path.{◌≡◌, refl, sym, ap, ◌∙◌, subst}
 use mathlib.Core.List.{List, ◌++◌}
+use Rattle.std.specs.Prelude.{Result, Ok, Err}
+use Rattle.rules.specs.declared.refusals.Refused.{Refused}
 use native.Mathlib.Omega.{arith}
 use lib.ListN.{length, get_or}
 use Rattle.rules.specs.paper.Limits.{most_nodes}
@@ -18,10 +20,8 @@ use Rattle.carrying.specs.States.{CellsAt, StateAt, Room}
 use Rattle.carrying.specs.Frames.{Keeps}
 use Rattle.carrying.specs.Answers.{Fits, DeclarationThere, SomeDeclaration, DeclaredState, DeclarationCarried, CommandThere, SomeCommand, CommandAs, CommandCarried, FunctionThere, EnteredAs, entered, not_entered, never_entered, SomeCall, CallCarried}
 use Rattle.carrying.specs.declared.Held.{Held}
-use Rattle.carrying.specs.declared.Outcome.{Outcome}
-use Rattle.carrying.specs.declared.Outcome.TheVariants.{Through, Unsafe}
-use Rattle.carrying.specs.declared.declarations.Declared.{Declared}
 use Rattle.carrying.specs.declared.functions.Entered.{Entered}
+use Rattle.carrying.proofs.ResultLaws.{ok_not_err, same_ok, same_refusal}
 use Rattle.carrying.proofs.FrameLaws.{kept_nodes, keeps_all}
 use Rattle.carrying.proofs.StateLaws.{cells_length, cells_oldest}
 use Rattle.carrying.proofs.ReachLaws.{second_place, reach, child_reach, function_reach}
@@ -72,16 +72,16 @@ module _ (words : List ℕ) (held : Held) (node which : ℕ) (known : which ≡ 
         ))
         (λ e c tree fits. absurd (fits refl)) (seen words held node which known s.4) s.4.tree s.5
 
-    pub sequence_unsafe : (words₁ : List ℕ) (r : Outcome) (p : ℕ) → r ≡ Unsafe p → CommandCarried words words₁ held (node + 1) r → CommandCarried words words₁ held node r
+    pub sequence_unsafe : (words₁ : List ℕ) (refused : Refused) → CommandCarried words words₁ held (node + 1) (Err refused) → CommandCarried words words₁ held node (Err refused)
     unfolding carry_command
-    sequence_unsafe words₁ r p told first c A N K there =
-        only_sequence (λ c. CommandAs words₁ held.cells (carry_command A K c) r)
+    sequence_unsafe words₁ refused first c A N K there =
+        only_sequence (λ c. CommandAs words₁ held.cells (carry_command A K c) (Err refused))
         (λ c₁ c₂ a b f g.
-        told_at words₁ held.cells words₁ held.cells (λ M. carry_command A M c₂) (carry_command A K c₁) r p told
+        told_at words₁ held.cells words₁ held.cells (λ M. carry_command A M c₂) (carry_command A K c₁) refused
         (first c₁ A N K (part_there words kept_here a there.state there.state.cells_are f)))
         (λ e c. tt) (seen words held node which known there)
 
-    module _ (words₁ : List ℕ) (r : Outcome) (told : r ≡ Through) (first : CommandCarried words words₁ held (node + 1) r) (kept : Keeps words words₁ held.bindings held.cells) (after : ℕ)
+    module _ (words₁ : List ℕ) (first : CommandCarried words words₁ held (node + 1) (Ok tt)) (kept : Keeps words words₁ held.bindings held.cells) (after : ℕ)
         (place : after ≡ second_place words₁ node) (node_low : node + 1 < most_nodes) where
       after_is : after ≡ second_place words node
       after_is = place ∙ ap packed_end (kept.same_nodes (node + 1) node_low)
@@ -95,7 +95,7 @@ module _ (words : List ℕ) (held : Held) (node which : ℕ) (known : which ≡ 
       sequence_second s =
           only_sequence (λ c. StoredCommand words s.4.depth node s.4.next c → Fits (carry_command s.1 s.3 c) → SomeCommand words₁ held after × (reach words₁ after < reach words node))
           (λ c₁ c₂ a b f g tree fits.
-          told_through (carry_command s.1 s.3 c₁) r told (first c₁ s.1 s.2 s.3 (part_there words kept_here a s.4.state s.4.state.cells_are f))
+          told_through (carry_command s.1 s.3 c₁) (first c₁ s.1 s.2 s.3 (part_there words kept_here a s.4.state s.4.state.cells_are f))
           (λ M same now. (
             (c₂, s.1, s.2, M, second_there b s.4.state now g, λ never. fits (ap (λ o. o >>= λ M. carry_command s.1 M c₂) same ∙ never)),
             subst (λ i. reach words₁ i < reach words node) (sym after_is) (part_reach words₁ kept tree b),
@@ -103,12 +103,12 @@ module _ (words : List ℕ) (held : Held) (node which : ℕ) (known : which ≡ 
           (λ never. absurd (fits (ap (λ o. o >>= λ M. carry_command s.1 M c₂) never))))
           (λ e c tree fits. absurd (fits refl)) (seen words held node which known s.4) s.4.tree s.5
 
-      pub sequence_carried : (words₂ : List ℕ) (t : Outcome) → CommandCarried words₁ words₂ held after t → CommandCarried words words₂ held node t
+      pub sequence_carried : (words₂ : List ℕ) (t : Result (Unit {0}) Refused) → CommandCarried words₁ words₂ held after t → CommandCarried words words₂ held node t
       unfolding carry_command
       sequence_carried words₂ t second c A N K there =
           only_sequence (λ c. CommandAs words₂ held.cells (carry_command A K c) t)
           (λ c₁ c₂ a b f g.
-          told_through (carry_command A K c₁) r told (first c₁ A N K (part_there words kept_here a there.state there.state.cells_are f))
+          told_through (carry_command A K c₁) (first c₁ A N K (part_there words kept_here a there.state there.state.cells_are f))
           (λ M same now. subst (λ o. CommandAs words₂ held.cells (o >>= λ M. carry_command A M c₂) t) (sym same) (second c₂ A N M (second_there b there.state now g)))
           (λ never. subst (λ o. CommandAs words₂ held.cells (o >>= λ M. carry_command A M c₂) t) (sym never) tt))
           (λ e c. tt) (seen words held node which known there)
@@ -138,14 +138,14 @@ module _ (words : List ℕ) (held : Held) (node which : ℕ) (known : which ≡ 
         (λ d c m e a b r fits. (m, d, s.1, s.2, s.3, a, first_fits (inside_then s.1 s.3 c) (carry_declaration s.1 s.3 d) fits))
         (λ e c fits. absurd (fits refl)) (seen words held node which known s.4) s.5
 
-    pub block_unsafe : (words₁ : List ℕ) (r : Declared) (p : ℕ) → r ≡ Declared.Unsafe p → DeclarationCarried words words₁ held (node + 1) r → CommandCarried words words₁ held node (Unsafe p)
+    pub block_unsafe : (words₁ : List ℕ) (refused : Refused) → DeclarationCarried words words₁ held (node + 1) (Err refused) → CommandCarried words words₁ held node (Err refused)
     unfolding carry_command carry_block
-    block_unsafe words₁ r p told declared c A N K there =
-        only_block (λ c. CommandAs words₁ held.cells (carry_command A K c) (Unsafe p))
-        (λ d c m e a b room. told_undeclared words₁ m held d A N words₁ held.cells (inside_then A K c) (carry_declaration A K d) r p told (declared m d A N K a))
+    block_unsafe words₁ refused declared c A N K there =
+        only_block (λ c. CommandAs words₁ held.cells (carry_command A K c) (Err refused))
+        (λ d c m e a b room. told_undeclared words₁ m held d A N words₁ held.cells (inside_then A K c) (carry_declaration A K d) refused (declared m d A N K a))
         (λ e c. tt) (seen words held node which known there)
 
-    module _ (words₁ : List ℕ) (r : Declared) (inner : Held) (told : r ≡ Declared.Names inner) (declared : DeclarationCarried words words₁ held (node + 1) r) (kept : Keeps words words₁ held.bindings held.cells)
+    module _ (words₁ : List ℕ) (inner : Held) (declared : DeclarationCarried words words₁ held (node + 1) (Ok inner)) (kept : Keeps words words₁ held.bindings held.cells)
         (inside : ℕ) (place : inside ≡ second_place words₁ node) (node_low : node + 1 < most_nodes) where
       inside_is : inside ≡ second_place words node
       inside_is = place ∙ ap packed_end (kept.same_nodes (node + 1) node_low)
@@ -168,7 +168,7 @@ module _ (words : List ℕ) (held : Held) (node which : ℕ) (known : which ≡ 
       more_held s =
           only_block (λ c. Fits (carry_command s.1 s.3 c) → (held.bindings ≤ inner.bindings) × (held.cells ≤ inner.cells))
           (λ d c m e a b room fits.
-          told_names (carry_declaration s.1 s.3 d) r inner told (declared m d s.1 s.2 s.3 a)
+          told_names (carry_declaration s.1 s.3 d) inner (declared m d s.1 s.2 s.3 a)
           (λ D same state. (omega (arith, state.bindings_are), omega (arith, state.cells_are))) (λ never. absurd (fits (ap (λ o. o >>= inside_then s.1 s.3 c) never))))
           (λ e c fits. absurd (fits refl)) (seen words held node which known s.4) s.5
 
@@ -177,7 +177,7 @@ module _ (words : List ℕ) (held : Held) (node which : ℕ) (known : which ≡ 
       block_inside s =
           only_block (λ c. StoredCommand words s.4.depth node s.4.next c → Fits (carry_command s.1 s.3 c) → SomeCommand words₁ inner inside × (reach words₁ inside < reach words node))
           (λ d c m e a b room tree fits.
-          told_names (carry_declaration s.1 s.3 d) r inner told (declared m d s.1 s.2 s.3 a)
+          told_names (carry_declaration s.1 s.3 d) inner (declared m d s.1 s.2 s.3 a)
           (λ D same state. (
             (
               c,
@@ -194,18 +194,18 @@ module _ (words : List ℕ) (held : Held) (node which : ℕ) (known : which ≡ 
           (λ e c tree fits. absurd (fits refl)) (seen words held node which known s.4) s.4.tree s.5
 
       -- The cells there were.
-      left_as : (words₂ : List ℕ) (t : Outcome) (K : CarriedCells) (o : Carrying CarriedCells) → length K ≡ held.cells → held.cells ≤ inner.cells → CommandAs words₂ inner.cells o t →
+      left_as : (words₂ : List ℕ) (t : Result (Unit {0}) Refused) (K : CarriedCells) (o : Carrying CarriedCells) → length K ≡ held.cells → held.cells ≤ inner.cells → CommandAs words₂ inner.cells o t →
           CommandAs words₂ held.cells (o >>= λ M. carried (oldest_cells (length K) M)) t
       left_as words₂ t K (carried M) long more (same, now) = (same, subst (λ n. CellsAt words₂ held.cells (oldest_cells n M)) (sym long) (cells_oldest more now))
       left_as words₂ t K (unsafe p) long more same = same
       left_as words₂ t K unfit long more answer = tt
 
-      pub block_carried : (words₂ : List ℕ) (t : Outcome) → CommandCarried words₁ words₂ inner inside t → CommandCarried words words₂ held node t
+      pub block_carried : (words₂ : List ℕ) (t : Result (Unit {0}) Refused) → CommandCarried words₁ words₂ inner inside t → CommandCarried words words₂ held node t
       unfolding carry_command carry_block
       block_carried words₂ t ran c A N K there =
           only_block (λ c. CommandAs words₂ held.cells (carry_command A K c) t)
           (λ d c m e a b room.
-          told_names (carry_declaration A K d) r inner told (declared m d A N K a)
+          told_names (carry_declaration A K d) inner (declared m d A N K a)
           (λ D same state.
           subst (λ o. CommandAs words₂ held.cells (o >>= inside_then A K c) t) (sym same)
           (left_as words₂ t K (carry_command (D.names_declared ++ A) D.cells_after c) (cells_length there.state.cells_are) (omega (arith, state.cells_are))
@@ -231,30 +231,21 @@ module _ (words : List ℕ) (held : Held) (node which : ℕ) (known : which ≡ 
         only_call (λ c. CommandThere words held node c s.1 s.2 s.3 → Fits (carry_command s.1 s.3 c) → SomeCall words held node) (λ x es there fits. (x, es, s.1, s.2, s.3, there, fits))
         (λ e c there fits. absurd (fits refl)) (seen words held node which known s.4) s.4 s.5
 
-    not_both : {A : Type 0} {inner : Held} {inside p : ℕ} → ◌≡◌ {A = Entered} (Entered.Function inner inside) (Entered.Unsafe p) → A
-    not_both e = let clash : ◌≡◌ {A = ℕ} 0 1 = cc in absurd (omega arith)
+    abbrev entered_as : (inner : Held) (inside : ℕ) → Entered
+    entered_as inner inside = record { held = inner; block = inside }
 
-    same_inner : {x y : Held} {i j : ℕ} → ◌≡◌ {A = Entered} (Entered.Function x i) (Entered.Function y j) → x ≡ y
-    same_inner e = cc
-
-    same_inside : {x y : Held} {i j : ℕ} → ◌≡◌ {A = Entered} (Entered.Function x i) (Entered.Function y j) → i ≡ j
-    same_inside e = cc
-
-    same_place : {p r : ℕ} → ◌≡◌ {A = Entered} (Entered.Unsafe p) (Entered.Unsafe r) → p ≡ r
-    same_place e = cc
-
-    pub call_unsafe : (words₁ : List ℕ) (r : Entered) (p : ℕ) → r ≡ Entered.Unsafe p → CallCarried words words₁ held node r → CommandCarried words words₁ held node (Unsafe p)
+    pub call_unsafe : (words₁ : List ℕ) (refused : Refused) → CallCarried words words₁ held node (Err refused) → CommandCarried words words₁ held node (Err refused)
     unfolding carry_command
-    call_unsafe words₁ r p told called c A N K there =
-        only_call (λ c. CommandThere words held node c A N K → CommandAs words₁ held.cells (carry_command A K c) (Unsafe p)) (λ x es there. by (carry_command A K (Call node x es)) (called x es A N K there)) (λ e c there. tt)
+    call_unsafe words₁ refused called c A N K there =
+        only_call (λ c. CommandThere words held node c A N K → CommandAs words₁ held.cells (carry_command A K c) (Err refused)) (λ x es there. by (carry_command A K (Call node x es)) (called x es A N K there)) (λ e c there. tt)
         (seen words held node which known there) there
       where
-        by : (whole : Carrying CarriedCells) → EnteredAs words₁ held node K whole r → CommandAs words₁ held.cells whole (Unsafe p)
-        by whole (entered inner inside b F M same function is) = not_both (sym same ∙ told)
-        by whole (not_entered o same is) = subst (λ w. CommandAs words₁ held.cells w (Unsafe p)) (sym is) (ap Unsafe (same_place (sym told ∙ same)))
-        by whole (never_entered is) = subst (λ w. CommandAs words₁ held.cells w (Unsafe p)) (sym is) tt
+        by : (whole : Carrying CarriedCells) → EnteredAs words₁ held node K whole (Err refused) → CommandAs words₁ held.cells whole (Err refused)
+        by whole (entered inner inside b F M same function is) = ok_not_err (sym same)
+        by whole (not_entered o same is) = subst (λ w. CommandAs words₁ held.cells w (Err refused)) (sym is) (same_refusal same)
+        by whole (never_entered is) = subst (λ w. CommandAs words₁ held.cells w (Err refused)) (sym is) tt
 
-    module _ (words₁ : List ℕ) (r : Entered) (inner : Held) (inside : ℕ) (told : r ≡ Entered.Function inner inside) (called : CallCarried words words₁ held node r) where
+    module _ (words₁ : List ℕ) (inner : Held) (inside : ℕ) (called : CallCarried words words₁ held node (Ok (entered_as inner inside))) where
       -- The function's Blk as a command.
       function_there : {b : Block} {F : CarriedNames} {N : Needs} {K : CarriedCells} → FunctionThere words₁ held node inner inside b F N K → CommandThere words₁ inner inside (block b) F N K
       unfolding command_need
@@ -270,31 +261,31 @@ module _ (words : List ℕ) (held : Held) (node which : ℕ) (known : which ≡ 
           (λ x es there fits. by (carry_command s.1 s.3 (Call node x es)) there.tree fits (called x es s.1 s.2 s.3 there)) (λ e c there fits. absurd (fits refl)) (seen words held node which known s.4) s.4
           s.5
         where
-          by : {d j : ℕ} {c : Command} (whole : Carrying CarriedCells) → StoredCommand words d node j c → Fits whole → EnteredAs words₁ held node s.3 whole r →
+          by : {d j : ℕ} {c : Command} (whole : Carrying CarriedCells) → StoredCommand words d node j c → Fits whole → EnteredAs words₁ held node s.3 whole (Ok (entered_as inner inside)) →
               SomeCommand words₁ inner inside × (reach words₁ inside < reach words node) × (held.bindings ≤ inner.bindings) × (inner.cells ≡ held.cells)
           by whole tree fits (entered x i b F M same function is) =
               let here : FunctionThere words₁ held node inner inside b F M s.3 =
-              subst (λ y. FunctionThere words₁ held node y inside b F M s.3) (same_inner (sym same ∙ told))
-              (subst (λ k. FunctionThere words₁ held node x k b F M s.3) (same_inside (sym same ∙ told)) function) in (
+              subst (λ y. FunctionThere words₁ held node y inside b F M s.3) (sym (ap (λ e. e.held) (same_ok same)))
+              (subst (λ k. FunctionThere words₁ held node x k b F M s.3) (sym (ap (λ e. e.block) (same_ok same))) function) in (
                 (block b, F, M, s.3, function_there here, λ never. fits (is ∙ never)),
                 function_reach (command_root tree) (block_root here.tree) (command_on tree) here.before,
                 here.more_bindings,
                 here.same_cells,
               )
-          by whole tree fits (not_entered o same is) = not_both (sym told ∙ same)
+          by whole tree fits (not_entered o same is) = ok_not_err same
           by whole tree fits (never_entered is) = absurd (fits is)
 
-      pub call_carried : (words₂ : List ℕ) (t : Outcome) → CommandCarried words₁ words₂ inner inside t → CommandCarried words words₂ held node t
+      pub call_carried : (words₂ : List ℕ) (t : Result (Unit {0}) Refused) → CommandCarried words₁ words₂ inner inside t → CommandCarried words words₂ held node t
       unfolding carry_command
       call_carried words₂ t ran c A N K there =
           only_call (λ c. CommandThere words held node c A N K → CommandAs words₂ held.cells (carry_command A K c) t) (λ x es there. by (carry_command A K (Call node x es)) (called x es A N K there)) (λ e c there. tt)
           (seen words held node which known there) there
         where
-          by : (whole : Carrying CarriedCells) → EnteredAs words₁ held node K whole r → CommandAs words₂ held.cells whole t
+          by : (whole : Carrying CarriedCells) → EnteredAs words₁ held node K whole (Ok (entered_as inner inside)) → CommandAs words₂ held.cells whole t
           by whole (entered x i b F M same function is) =
               let here : FunctionThere words₁ held node inner inside b F M K =
-              subst (λ y. FunctionThere words₁ held node y inside b F M K) (same_inner (sym same ∙ told))
-              (subst (λ k. FunctionThere words₁ held node x k b F M K) (same_inside (sym same ∙ told)) function) in
+              subst (λ y. FunctionThere words₁ held node y inside b F M K) (sym (ap (λ e. e.held) (same_ok same)))
+              (subst (λ k. FunctionThere words₁ held node x k b F M K) (sym (ap (λ e. e.block) (same_ok same))) function) in
               subst (λ w. CommandAs words₂ held.cells w t) (sym is) (subst (λ n. CommandAs words₂ n (carry_block F K b) t) here.same_cells (ran (block b) F M K (function_there here)))
-          by whole (not_entered o same is) = not_both (sym told ∙ same)
+          by whole (not_entered o same is) = ok_not_err same
           by whole (never_entered is) = subst (λ w. CommandAs words₂ held.cells w t) (sym is) tt

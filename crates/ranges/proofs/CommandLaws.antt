@@ -1,12 +1,18 @@
 -- Commands by the kind of their node: what stands there, that its parts' carrying is fit where its own is, and what it leaves from what they leave.
 use Prim.Native.Nat.{ℕ, suc, ◌+◌, ◌<◌, ◌≤◌}
-use mathlib.Core.Path.{◌≡◌, sym, ◌∙◌, subst}
+use mathlib.Core.Path.{◌≡◌, sym, ap, ◌∙◌, subst}
 use mathlib.Core.List.{List, [], ◌∷◌, ◌++◌}
 use native.Mathlib.Omega.{arith}
 use lib.ListN.{get_or}
 use Rattle.rules.specs.paper.Tree.{Expression, Command, Assign, Loop, CSeq, block, Call, Cond, Blk, Declaration}
 use Rattle.rules.specs.paper.Needs.{Figure, sizes, Need, Needs, step, over, either, node_step, in_turn, expression_need, cells_left, bindings_left, tested_need, command_need, block_need, declaration_need, names_given}
 use Rattle.rules.specs.paper.Carrying.{CarriedCells, CarriedNames}
+use Rattle.rules.specs.paper.Kinds.{kind_number}
+use Rattle.rules.specs.declared.kinds.CommandKind.{CommandKind}
+use Rattle.rules.specs.declared.kinds.Kind.{Kind}
+use Rattle.rules.specs.declared.kinds.Kind.TheVariants.{Command as command_kind}
+use Rattle.reader.specs.NodeKinds.{command_kind_of, Known}
+use Rattle.reader.proofs.NodeKindLaws.{command_known, command_is}
 use Rattle.reader.specs.KindNumbers.{assign_number, cseq_number, blk_number, call_number, conditional_number}
 use Rattle.reader.specs.Pack.{packed_kind, packed_end}
 use Rattle.reader.specs.Stored.{StoredExpression, StoredCommand, blk, StoredDeclaration}
@@ -14,11 +20,23 @@ use Rattle.reader.proofs.StoredFields.{kind_is}
 use Rattle.reader.specs.Stored as Stored
 use Rattle.reader.proofs.StandingLaws.{after_node, expression_on, expression_end, command_on, command_end, declaration_on, declaration_end}
 use Rattle.carrying.specs.States.{StateAt, Sees, Room}
-use Rattle.carrying.specs.Answers.{ExpressionThere, DeclarationThere, CommandThere}
+use Rattle.carrying.specs.Answers.{ExpressionThere, DeclarationThere, CommandThere, SomeCommand}
 use Rattle.carrying.specs.declared.Held.{Held}
 use Rattle.carrying.proofs.StateLaws.{names_later}
 use Rattle.carrying.proofs.ReachLaws.{second_place}
 use Rattle.ranges.proofs.OutcomeLaws.{first_of, later_of, same_room}
+
+-- ---- The kind of its node.
+
+pub known_there : (words : List ℕ) (held : Held) (node : ℕ) → SomeCommand words held node → Known (get_or words node 0)
+known_there words held node s = command_known s.4.tree
+
+pub no_other : (words : List ℕ) (held : Held) (node : ℕ) (k : Kind) → kind_number k ≡ packed_kind (get_or words node 0) → ((x : CommandKind) → k ≡ command_kind x → ⊥) → SomeCommand words held node → ⊥
+no_other words held node k known other s = other (command_kind_of s.0) (command_is k s.4.tree known)
+
+-- Its number, where it is one of the commands'.
+pub number_at : {which : ℕ} {k : CommandKind} (l : CommandKind) → kind_number (command_kind k) ≡ which → k ≡ l → which ≡ kind_number (command_kind l)
+number_at l known same = sym known ∙ ap (λ k. kind_number (command_kind k)) same
 
 -- ---- What an expression of a command sees.
 
@@ -66,9 +84,6 @@ module _ (words : List ℕ) (held : Held) (node which : ℕ) (known : which ≡ 
 
       expression_there : {d j : ℕ} {e : Expression} → StoredExpression words d (suc node) j e → ExpressionThere words held.environment (node + 1) e A K
       expression_there {d} {j} a = record { depth = d; next = j; tree = child_expression a; sees = sees }
-
-      of_list : (n : Need) → {m : Need} → ((f : Figure) → n.most f ≤ m.most f) → Room held m → Room held n
-      of_list n h room = same_room h room
 
       by : {d j : ℕ} {c : Command} → StoredCommand words d node j c → Room held (command_need N c) → Seen j A N K c
       by (Stored.assign l h a) room = seen_assign (known ∙ kind_is h (omega arith)) (expression_there a)

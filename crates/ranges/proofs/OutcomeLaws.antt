@@ -1,8 +1,10 @@
 -- What follows from an answer: where carrying went through, what it left; where it is unsafe, that whatever goes on is unsafe there too. And room for a
 -- part where there is room for the whole, and what stands in the work words later.
 use Prim.Native.Nat.{ℕ, ◌+◌, ◌≤◌}
-use mathlib.Core.Path.{◌≡◌, refl, sym, ap, ◌∙◌, subst}
+use mathlib.Core.Path.{◌≡◌, refl, sym, subst}
 use mathlib.Core.List.{List, ◌∷◌}
+use Rattle.std.specs.Prelude.{Ok, Err}
+use Rattle.rules.specs.declared.refusals.Refused.{Refused}
 use native.Mathlib.Omega.{arith}
 use Rattle.rules.specs.paper.Needs.{Figure, bindings, cells, Need, Needs, in_turn}
 use Rattle.rules.specs.paper.Carried.{Carrying, carried, unsafe, unfit, ◌>>=◌}
@@ -12,51 +14,37 @@ use Rattle.carrying.specs.States.{CellsAt, StateAt, Room}
 use Rattle.carrying.specs.Frames.{Keeps}
 use Rattle.carrying.specs.Answers.{CommandAs, DeclaredState, DeclaredAs}
 use Rattle.carrying.specs.declared.Held.{Held}
-use Rattle.carrying.specs.declared.Outcome.{Outcome}
-use Rattle.carrying.specs.declared.Outcome.TheVariants.{Through, Unsafe}
-use Rattle.carrying.specs.declared.declarations.Declared.{Declared}
+use Rattle.carrying.proofs.ResultLaws.{ok_not_err, same_ok, same_refusal}
 use Rattle.carrying.proofs.StateLaws.{names_kept, names_later}
 
 -- ---- Outcomes.
 
-not_both : {A : Type 0} {p : ℕ} → ◌≡◌ {A = Outcome} Through (Unsafe p) → A
-not_both q = let clash : ◌≡◌ {A = ℕ} 0 1 = cc in absurd (omega arith)
-
-pub told_through : {X : Type 0} {words : List ℕ} {n : ℕ} (c : Carrying CarriedCells) (r : Outcome) → r ≡ Through → CommandAs words n c r →
+pub told_through : {X : Type 0} {words : List ℕ} {n : ℕ} (c : Carrying CarriedCells) → CommandAs words n c (Ok tt) →
     ((M : CarriedCells) → c ≡ carried M → CellsAt words n M → X) → (c ≡ unfit → X) → X
-told_through (carried M) r told (same, left) give never = give M refl left
-told_through (unsafe p) r told same give never = not_both (sym told ∙ same)
-told_through unfit r told answer give never = never refl
+told_through (carried M) (same, left) give never = give M refl left
+told_through (unsafe p) same give never = ok_not_err same
+told_through unfit answer give never = never refl
 
-pub told_at : (words : List ℕ) (n : ℕ) (words' : List ℕ) (m : ℕ) (f : CarriedCells → Carrying CarriedCells) (c : Carrying CarriedCells) (r : Outcome) (p : ℕ) → r ≡ Unsafe p → CommandAs words n c r →
-    CommandAs words' m (c >>= f) r
-told_at words n words' m f (carried M) r p told (same, left) = not_both (sym same ∙ told)
-told_at words n words' m f (unsafe q) r p told same = same
-told_at words n words' m f unfit r p told answer = tt
+pub told_at : (words : List ℕ) (n : ℕ) (words' : List ℕ) (m : ℕ) (f : CarriedCells → Carrying CarriedCells) (c : Carrying CarriedCells) (refused : Refused) → CommandAs words n c (Err refused) →
+    CommandAs words' m (c >>= f) (Err refused)
+told_at words n words' m f (carried M) refused (same, left) = ok_not_err (sym same)
+told_at words n words' m f (unsafe q) refused same = same
+told_at words n words' m f unfit refused answer = tt
 
 -- ---- Declarations.
 
-not_declared : {A : Type 0} {inner : Held} {p : ℕ} → ◌≡◌ {A = Declared} (Declared.Names inner) (Declared.Unsafe p) → A
-not_declared q = let clash : ◌≡◌ {A = ℕ} 0 1 = cc in absurd (omega arith)
-
-same_names : {x y : Held} → ◌≡◌ {A = Declared} (Declared.Names x) (Declared.Names y) → x ≡ y
-same_names q = cc
-
-same_place : {p q : ℕ} → ◌≡◌ {A = Declared} (Declared.Unsafe p) (Declared.Unsafe q) → p ≡ q
-same_place e = cc
-
-pub told_names : {X : Type 0} {words : List ℕ} {next : ℕ} {held : Held} {d : Declaration} {A : CarriedNames} {N : Needs} (c : Carrying CarriedDeclared) (r : Declared) (inner : Held) → r ≡ Declared.Names inner →
-    DeclaredAs words next held d A N c r → ((D : CarriedDeclared) → c ≡ carried D → DeclaredState words next held inner d A N D → X) → (c ≡ unfit → X) → X
-told_names {words = words} {next = next} {held = held} {d = d} {A = A} {N = N} (carried D) r inner told (x, same, state) give never =
-    give D refl (subst (λ y. DeclaredState words next held y d A N D) (same_names (sym same ∙ told)) state)
-told_names (unsafe p) r inner told same give never = not_declared (sym told ∙ same)
-told_names unfit r inner told answer give never = never refl
+pub told_names : {X : Type 0} {words : List ℕ} {next : ℕ} {held : Held} {d : Declaration} {A : CarriedNames} {N : Needs} (c : Carrying CarriedDeclared) (inner : Held) →
+    DeclaredAs words next held d A N c (Ok inner) → ((D : CarriedDeclared) → c ≡ carried D → DeclaredState words next held inner d A N D → X) → (c ≡ unfit → X) → X
+told_names {words = words} {next = next} {held = held} {d = d} {A = A} {N = N} (carried D) inner (x, same, state) give never =
+    give D refl (subst (λ y. DeclaredState words next held y d A N D) (sym (same_ok same)) state)
+told_names (unsafe p) inner same give never = ok_not_err same
+told_names unfit inner answer give never = never refl
 
 pub told_undeclared : (words : List ℕ) (next : ℕ) (held : Held) (d : Declaration) (A : CarriedNames) (N : Needs) (words' : List ℕ) (n : ℕ) (f : CarriedDeclared → Carrying CarriedCells) (c : Carrying CarriedDeclared)
-    (r : Declared) (p : ℕ) → r ≡ Declared.Unsafe p → DeclaredAs words next held d A N c r → CommandAs words' n (c >>= f) (Unsafe p)
-told_undeclared words next held d A N words' n f (carried D) r p told (x, same, state) = not_declared (sym same ∙ told)
-told_undeclared words next held d A N words' n f (unsafe q) r p told same = ap Unsafe (same_place (sym told ∙ same))
-told_undeclared words next held d A N words' n f unfit r p told answer = tt
+    (refused : Refused) → DeclaredAs words next held d A N c (Err refused) → CommandAs words' n (c >>= f) (Err refused)
+told_undeclared words next held d A N words' n f (carried D) refused (x, same, state) = ok_not_err (sym same)
+told_undeclared words next held d A N words' n f (unsafe q) refused same = same_refusal same
+told_undeclared words next held d A N words' n f unfit refused answer = tt
 
 -- ---- Room.
 

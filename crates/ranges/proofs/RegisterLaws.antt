@@ -7,8 +7,10 @@ use mathlib.Core.Option.{Option, some}
 use native.Mathlib.Omega.{arith}
 use lib.Dec.{T, eqb, eqb_refl}
 use lib.IntN.{ℤ, pos}
-use lib.ListN.{length, get_or, set, drop, length-set}
-use lib.Seq.{drop-cons, drop-length, get_or-set_same, get_or-set_other}
+use lib.ListN.{length, get_or, drop, length-drop}
+use Rattle.std.proofs.Common.{Iter, ◌⊎◌, inl, inr}
+use Rattle.std.proofs.lemmas.Grind.{same_number_lists}
+use Rattle.std.specs.List.{list_any, zip}
 use lib.Signed.{lt_z}
 use Rattle.rules.specs.paper.Limits.{most_registers, most_bindings, most_cells}
 use Rattle.rules.specs.paper.Integers.{in_range}
@@ -22,56 +24,24 @@ use Rattle.integers.specs.Words.{integer_of, word_of, integers_of, words_of}
 use Rattle.integers.specs.WordLaws.{integer_in_range, word_of_integer, integers_at}
 use Rattle.intervals.specs.Values.{numbers_sort, location_sort, HoldsValue, holds_numbers, holds_truths, holds_location}
 use Rattle.intervals.specs.declared.values.Value.{Value}
-use Rattle.carrying.specs.Layout.{cell_sorts, cell_lows, cell_highs, cell_value}
+use Rattle.carrying.specs.Layout.{cell_sorts, cell_lows, cell_highs}
 use Rattle.carrying.specs.States.{RowAt, no_names, one_value, CellsAt, no_cells, one_cell}
 use Rattle.carrying.specs.Frames.{Keeps, KeepsCells, PutRow, PutCell}
 use Rattle.ranges.specs.Routine.{RegistersAt, RegisterPut, EndsTaken}
-use Rattle.carrying.proofs.FrameLaws.{row_keeps, row_keeps_cells, cell_keeps, cell_keeps_cells, keeps_then, keeps_fewer}
+use Rattle.carrying.proofs.FrameLaws.{keeps_all, row_keeps, row_keeps_cells, cell_keeps, cell_keeps_cells, keeps_then, keeps_fewer}
 use Rattle.carrying.proofs.StateLaws.{names_kept, row_there, cells_kept, cells_length, cell_more, cell_there}
 
 -- ---- Whether some limits cross.
 
--- So far none do.
-abbrev pub NoneCross : (lowest highest : List ℕ) → (at : ℕ) → Type 0
-NoneCross lowest highest i = (i ≤ length lowest) × (limits_cross (integers_of lowest) (integers_of highest) ≡ limits_cross (integers_of (drop i lowest)) (integers_of (drop i highest)))
+-- A register's lowest above its highest.
+abbrev pub crosses : ℕ × ℕ → Bool
+crosses p = lt_z (integer_of p.1) (integer_of p.0)
 
-module _ (lowest highest : List ℕ) (as_long : length highest ≡ length lowest) (i : ℕ) (so_far : NoneCross lowest highest i) where
-  next_limits : i < length lowest →
-      limits_cross (integers_of lowest) (integers_of highest)
-      ≡ (lt_z (integer_of (get_or highest i 0)) (integer_of (get_or lowest i 0)) || limits_cross (integers_of (drop (suc i) lowest)) (integers_of (drop (suc i) highest)))
-  unfolding limits_cross integers_of
-  next_limits less =
-      so_far.1
-      ∙ ap (λ l. limits_cross (integers_of l) (integers_of (drop i highest))) (drop-cons lowest i 0 less)
-      ∙ ap (λ h. limits_cross (integer_of (get_or lowest i 0) ∷ integers_of (drop (suc i) lowest)) (integers_of h)) (drop-cons highest i 0 (omega (arith, less, as_long)))
-
-  pub crosses : i < length lowest → lt_z (integer_of (get_or highest i 0)) (integer_of (get_or lowest i 0)) ≡ true → true ≡ limits_cross (integers_of lowest) (integers_of highest)
-  crosses less q = sym (next_limits less ∙ ap (λ t. t || limits_cross (integers_of (drop (suc i) lowest)) (integers_of (drop (suc i) highest))) q)
-
-  pub not_here : i < length lowest → lt_z (integer_of (get_or highest i 0)) (integer_of (get_or lowest i 0)) ≡ false → NoneCross lowest highest (i + 1)
-  not_here less q = (
-    omega (arith, less),
-    next_limits less
-        ∙ ap (λ t. t || limits_cross (integers_of (drop (suc i) lowest)) (integers_of (drop (suc i) highest))) q
-        ∙ ap (λ k. limits_cross (integers_of (drop k lowest)) (integers_of (drop k highest))) (one_more i),
-  )
-    where
-      one_more : (i : ℕ) → suc i ≡ i + 1
-      one_more i = omega arith
-
-  pub none_cross : length lowest ≤ i → false ≡ limits_cross (integers_of lowest) (integers_of highest)
-  unfolding limits_cross integers_of
-  none_cross done =
-      sym
-      (so_far.1
-      ∙ ap (λ k. limits_cross (integers_of (drop k lowest)) (integers_of (drop i highest))) all_passed
-      ∙ ap (λ l. limits_cross (integers_of l) (integers_of (drop i highest))) (drop-length lowest))
-    where
-      all_passed : i ≡ length lowest
-      all_passed = omega (arith, so_far.0, done)
-
-pub none_yet : (lowest highest : List ℕ) → NoneCross lowest highest 0
-none_yet lowest highest = (omega arith, refl)
+pub some_cross : (lowest highest : List ℕ) → list_any crosses (zip lowest highest) ≡ limits_cross (integers_of lowest) (integers_of highest)
+unfolding limits_cross integers_of
+some_cross [] highest = refl
+some_cross (l ∷ lowest) [] = refl
+some_cross (l ∷ lowest) (h ∷ highest) = ap (λ t. lt_z (integer_of h) (integer_of l) || t) (some_cross lowest highest)
 
 -- ---- Names and cells.
 
@@ -86,9 +56,6 @@ module _ (words middle words' : List ℕ) (i low high : ℕ) (few : i < most_reg
 
   cells_below : Keeps middle words' most_bindings i
   cells_below = cell_keeps (omega (arith, few)) cell
-
-  pub register_keeps : Keeps words words' 0 0
-  register_keeps = keeps_then (keeps_fewer (omega arith) (omega arith) rows_kept) (keeps_fewer (omega arith) (omega arith) cells_below)
 
   all_kept : Keeps words words' i i
   all_kept = keeps_then (keeps_fewer (omega arith) (omega (arith, few)) rows_kept) (keeps_fewer (omega (arith, few)) (omega arith) cells_below)
@@ -136,45 +103,53 @@ module _ (words middle words' : List ℕ) (i low high : ℕ) (few : i < most_reg
       one_more : (i : ℕ) → suc i ≡ i + 1
       one_more i = omega arith
 
--- ---- The ends.
+-- What is left of a list begins with the element at the index.
+pub next_left : (words : List ℕ) (i w : ℕ) (left : List ℕ) → drop i words ≡ w ∷ left → (i < length words) × (w ≡ get_or words i 0) × (left ≡ drop (suc i) words)
+next_left [] zero w left q = absurd cc
+next_left [] (suc i) w left q = absurd cc
+next_left (v ∷ words) zero w left q = (omega arith, cc, cc)
+next_left (v ∷ words) (suc i) w left q = let later = next_left words i w left q in (omega (arith, later.0), later.1, later.2)
 
--- So far the first of them are taken.
-pub record TakenSoFar (words first_lowest first_highest lowest highest : List ℕ) (at : ℕ) : Type 0 where
-  pub within : at ≤ length first_lowest
-  pub lowest_long : length lowest ≡ length first_lowest
-  pub highest_long : length highest ≡ length first_highest
-  pub lows_taken : (i : ℕ) → i < at → get_or lowest i 0 ≡ get_or words (cell_lows + i) 0
-  pub highs_taken : (i : ℕ) → i < at → get_or highest i 0 ≡ get_or words (cell_highs + i) 0
+-- So many registers are put, and the limits of the others are left.
+pub record PutSoFar (first words lowest highest : List ℕ) (count : ℕ) (lows_left highs_left : List ℕ) : Type 0 where
+  pub few : count ≤ length lowest
+  pub lows_are : drop count lowest ≡ lows_left
+  pub highs_are : drop count highest ≡ highs_left
+  pub there : RegistersAt words count lowest highest
+  pub keeps : Keeps first words 0 0
 
-pub none_taken : (words lowest highest : List ℕ) → TakenSoFar words lowest highest lowest highest 0
-none_taken words lowest highest =
-    record { within = omega arith; lowest_long = refl; highest_long = refl; lows_taken = λ i h. absurd (omega (arith, h)); highs_taken = λ i h. absurd (omega (arith, h)) }
+pub none_put : (words lowest highest : List ℕ) → PutSoFar words words lowest highest 0 lowest highest
+none_put words lowest highest = record { few = omega arith; lows_are = refl; highs_are = refl; there = no_registers words lowest highest; keeps = keeps_all words 0 0 }
 
-set_next : (words now : List ℕ) (from at w : ℕ) → at < length now → w ≡ get_or words (from + at) 0 → ((i : ℕ) → i < at → get_or now i 0 ≡ get_or words (from + i) 0) → (i : ℕ) → i < at + 1 → get_or (set now at w) i 0 ≡ get_or words (from + i) 0
-set_next words now from at w among q before i h =
-    by_order i at (λ below. get_or-set_other now at i w 0 (omega (arith, below)) ∙ before i below)
-    (λ above. let same : i ≡ at = omega (arith, h, above) in ap (λ k. get_or (set now at w) k 0) same ∙ get_or-set_same now at w 0 among ∙ q ∙ ap (λ k. get_or words (from + k) 0) (sym same))
-
-pub one_more_taken : (words first_lowest first_highest lowest highest : List ℕ) (at : ℕ) (cell : Value) → length first_highest ≡ length first_lowest → at < length lowest → cell ≡ cell_value words at →
-    TakenSoFar words first_lowest first_highest lowest highest at → TakenSoFar words first_lowest first_highest (set lowest at cell.low) (set highest at cell.high) (at + 1)
-one_more_taken words first_lowest first_highest lowest highest at cell as_long less q so =
+pub one_more_put : {first words words' lowest highest lows_left highs_left lows_after highs_after : List ℕ} {count after i low high : ℕ} → lows_left ≡ low ∷ lows_after → highs_left ≡ high ∷ highs_after →
+    i ≡ count → after ≡ count + 1 → PutSoFar first words lowest highest count lows_left highs_left → RegisterPut words words' i low high → Keeps words words' 0 0 →
+    PutSoFar first words' lowest highest after lows_after highs_after
+one_more_put {words = words} {words' = words'} {lowest = lowest} {highest = highest} {count = count} {after = after} {i = i} {low = low} {high = high} p q same next so put kept =
+    let lows = next_left lowest count low _ (so.lows_are ∙ p) in
+    let highs = next_left highest count high _ (so.highs_are ∙ q) in
+    let number : suc count ≡ after = omega (arith, next) in
     record {
-      within = omega (arith, less, so.lowest_long);
-      lowest_long = length-set lowest at cell.low ∙ so.lowest_long;
-      highest_long = length-set highest at cell.high ∙ so.highest_long;
-      lows_taken = set_next words lowest cell_lows at cell.low less (ap (λ v. v.low) q) so.lows_taken;
-      highs_taken = set_next words highest cell_highs at cell.high (omega (arith, less, so.lowest_long, so.highest_long, as_long)) (ap (λ v. v.high) q) so.highs_taken;
+      few = omega (arith, lows.0, next);
+      lows_are = ap (λ k. drop k lowest) (sym number) ∙ sym lows.2;
+      highs_are = ap (λ k. drop k highest) (sym number) ∙ sym highs.2;
+      there =
+          subst (λ k. RegistersAt words' k lowest highest) (omega (arith, same, next))
+          (put lowest highest (omega (arith, same, lows.0)) (omega (arith, same, highs.0)) (lows.1 ∙ ap (λ k. get_or lowest k 0) (sym same)) (highs.1 ∙ ap (λ k. get_or highest k 0) (sym same))
+          (subst (λ k. RegistersAt words k lowest highest) (sym same) so.there));
+      keeps = keeps_then so.keeps kept;
     }
 
--- A list is told by its elements.
-same_list : (a b : List ℕ) → length a ≡ length b → ((i : ℕ) → i < length a → get_or a i 0 ≡ get_or b i 0) → a ≡ b
-same_list [] [] long each = refl
-same_list [] (w ∷ b) long each = absurd (omega (arith, long))
-same_list (v ∷ a) [] long each = absurd (omega (arith, long))
-same_list (v ∷ a) (w ∷ b) long each = both (each 0 (omega arith)) (same_list a b (omega (arith, long)) (λ i h. each (suc i) (omega (arith, h))))
-  where
-    both : v ≡ w → a ≡ b → ◌≡◌ {A = List ℕ} (v ∷ a) (w ∷ b)
-    both p q = cc
+-- Where one of the lists has no limits left, all registers are put.
+pub all_put : {first words lowest highest : List ℕ} {count : ℕ} {lows highs : Iter ℕ} → PutSoFar first words lowest highest count lows.rest.now highs.rest.now → length highest ≡ length lowest →
+    ((u : Iter ℕ) × ((length lows.rest.now ≡ 0) × (u ≡ lows))) ⊎ ((u : Iter ℕ) × ((length highs.rest.now ≡ 0) × (u ≡ highs))) → count ≡ length lowest
+all_put {lowest = lowest} {count = count} so as_long (inl done) = omega (arith, so.few, done.1.0, ap length so.lows_are, length-drop count lowest)
+all_put {highest = highest} {count = count} so as_long (inr done) = omega (arith, so.few, as_long, done.1.0, ap length so.highs_are, length-drop count highest)
+
+-- ---- The ends.
+
+-- So far the first of them are taken, from the words of one end of the cells.
+abbrev pub TakenSoFar : List ℕ → (from at : ℕ) → List ℕ → Type 0
+TakenSoFar words from at now = (i : ℕ) → i < at → get_or now i 0 ≡ get_or words (from + i) 0
 
 ends_length : (end : Option Carried → ℤ) (first count : ℕ) (K : CarriedCells) → length (words_of (ends_from end first count K)) ≡ count
 unfolding words_of ends_from
@@ -206,19 +181,16 @@ number_words q (holds_numbers s l h a b) = (l, h)
 number_words q (holds_truths s l h) = absurd (omega (arith, q, s))
 number_words q (holds_location s l h) = absurd (omega (arith, q, s))
 
-pub all_taken : (words first_lowest first_highest lowest highest : List ℕ) (at : ℕ) → length first_highest ≡ length first_lowest → TakenSoFar words first_lowest first_highest lowest highest at → length lowest ≤ at →
-    EndsTaken words (length first_lowest) lowest highest
-all_taken words first_lowest first_highest lowest highest at as_long so done K cells sorts = (
-  same_list lowest (words_of (ends_from lowest_of 0 (length first_lowest) K)) (so.lowest_long ∙ sym (ends_length lowest_of 0 (length first_lowest) K))
-      (λ i h. so.lows_taken i (omega (arith, h, done)) ∙ (words_are i (omega (arith, h, so.lowest_long))).0 ∙ sym (end_at lowest_of 0 (length first_lowest) i K (omega (arith, h, so.lowest_long)))),
-  same_list highest (words_of (ends_from highest_of 0 (length first_lowest) K)) (so.highest_long ∙ as_long ∙ sym (ends_length highest_of 0 (length first_lowest) K))
-      (λ i h.
-      so.highs_taken i (omega (arith, h, done, so.highest_long, so.lowest_long, as_long))
-      ∙ (words_are i (omega (arith, h, so.highest_long, as_long))).1
-      ∙ sym (end_at highest_of 0 (length first_lowest) i K (omega (arith, h, so.highest_long, as_long)))),
+pub all_taken : (words : List ℕ) (registers at_low at_high : ℕ) (lowest highest : List ℕ) → length lowest ≡ registers → length highest ≡ registers → registers ≤ at_low → registers ≤ at_high →
+    TakenSoFar words cell_lows at_low lowest → TakenSoFar words cell_highs at_high highest → EndsTaken words registers lowest highest
+all_taken words registers at_low at_high lowest highest lowest_long highest_long lows_done highs_done lows highs K cells sorts = (
+  same_number_lists lowest (words_of (ends_from lowest_of 0 registers K)) (lowest_long ∙ sym (ends_length lowest_of 0 registers K))
+      (λ i h. lows i (omega (arith, h, lowest_long, lows_done)) ∙ (words_are i (omega (arith, h, lowest_long))).0 ∙ sym (end_at lowest_of 0 registers i K (omega (arith, h, lowest_long)))),
+  same_number_lists highest (words_of (ends_from highest_of 0 registers K)) (highest_long ∙ sym (ends_length highest_of 0 registers K))
+      (λ i h. highs i (omega (arith, h, highest_long, highs_done)) ∙ (words_are i (omega (arith, h, highest_long))).1 ∙ sym (end_at highest_of 0 registers i K (omega (arith, h, highest_long)))),
 )
   where
-    words_are : (i : ℕ) → i < length first_lowest → (get_or words (cell_lows + i) 0 ≡ word_of (lowest_of (carried_at (0 + i) K))) × (get_or words (cell_highs + i) 0 ≡ word_of (highest_of (carried_at (0 + i) K)))
+    words_are : (i : ℕ) → i < registers → (get_or words (cell_lows + i) 0 ≡ word_of (lowest_of (carried_at (0 + i) K))) × (get_or words (cell_highs + i) 0 ≡ word_of (highest_of (carried_at (0 + i) K)))
     words_are i h =
         let v = some_cell i cells h in
         let held = number_words (sorts i h) (cell_there i v.0 cells v.1).holds in

@@ -1,15 +1,21 @@
 -- The root by the kind of node 0, and the whole routine: carried from the registers' names and cells, with their ends taken where it goes through.
-use Prim.Native.Nat.{ℕ, ◌+◌, ◌<◌, ◌≤◌}
+use Prim.Native.Nat.{ℕ, ◌+◌, ◌<◌}
 use mathlib.Core.Path.{◌≡◌, refl, sym, ap, ◌∙◌, subst}
 use mathlib.Core.List.{List}
+use Rattle.std.specs.Prelude.{Result, Ok, Err}
+use Rattle.rules.specs.declared.refusals.Refused.{Refused}
 use native.Mathlib.Omega.{arith}
 use lib.ListN.{length, get_or}
 use Rattle.rules.specs.paper.Tree.{Expression, Command, Root, expression, command}
 use Rattle.rules.specs.paper.Needs.{Needs, register_needs, root_need, routine_need}
 use Rattle.rules.specs.paper.Carried.{Carrying, carried, unsafe, unfit, ◌>>=◌}
 use Rattle.rules.specs.paper.Carrying.{CarriedCells, CarriedNames, register_names, register_cells, carry_expression, carry_root, carry_routine}
-use Rattle.reader.specs.KindNumbers.{assign_number}
-use Rattle.reader.proofs.KindTrees.{stored_expression_kind, stored_command_kind}
+use Rattle.rules.specs.paper.Kinds.{kind_number}
+use Rattle.rules.specs.declared.kinds.ExpressionKind.{ExpressionKind}
+use Rattle.rules.specs.declared.kinds.Kind.{Kind}
+use Rattle.rules.specs.declared.kinds.Kind.TheVariants.{Expression as expression_kind}
+use Rattle.reader.specs.NodeKinds.{Known}
+use Rattle.reader.proofs.NodeKindLaws.{expression_known, command_known, expression_is, command_is}
 use Rattle.reader.specs.Pack.{packed_kind}
 use Rattle.reader.specs.Stored.{StoredRoot, root_expression, root_command, root_absent, RootAt}
 use Rattle.reader.specs.StoredLaws.{same_root}
@@ -17,15 +23,13 @@ use Rattle.reader.proofs.StandingLaws.{expression_on, command_on}
 use Rattle.integers.specs.Words.{integers_of}
 use Rattle.intervals.specs.Values.{numbers_sort}
 use Rattle.intervals.specs.declared.values.Value.{Value}
-use Rattle.intervals.specs.declared.values.Expressed.{Expressed}
 use Rattle.carrying.specs.Layout.{cell_sorts}
 use Rattle.carrying.specs.States.{CellsAt, StateAt, Sees, Room}
 use Rattle.carrying.specs.Frames.{Keeps}
 use Rattle.carrying.specs.Answers.{Fits, ExpressionThere, SomeExpression, ExpressionCarried, CommandThere, SomeCommand, CommandAs, CommandCarried}
 use Rattle.ranges.specs.Routine.{RegistersAt, registers_held, EndsTaken, RootThere, SomeRoot, RootCarried, EnoughRoom, SomeRoutine, CarriedAs, RoutineCarried}
 use Rattle.carrying.specs.declared.Held.{Held}
-use Rattle.carrying.specs.declared.Outcome.{Outcome}
-use Rattle.carrying.specs.declared.Outcome.TheVariants.{Through, Unsafe}
+use Rattle.carrying.proofs.ResultLaws.{ok_not_err}
 use Rattle.carrying.proofs.FrameLaws.{kept_nodes}
 use Rattle.carrying.proofs.ExpressionLaws.{first_fits, told_value}
 use Rattle.ranges.proofs.OutcomeLaws.{told_through}
@@ -37,25 +41,33 @@ use Rattle.ranges.proofs.TestLaws.{unsafe_value}
 
 module _ (words : List ℕ) (held : Held) (nodes : ℕ) where
   -- With no node the cells are left as they are.
-  pub absent_carried : nodes ≡ 0 → RootCarried words words held nodes Through
+  pub absent_carried : nodes ≡ 0 → RootCarried words words held nodes (Ok tt)
   unfolding carry_root
   absent_carried none t A N K there = by none there.tree.stored there.state
     where
-      by : {d j : ℕ} {t : Root} → j ≡ 0 → StoredRoot words d 0 j t → StateAt words 0 held A N K → CommandAs words held.cells (carry_root A K t) Through
+      by : {d j : ℕ} {t : Root} → j ≡ 0 → StoredRoot words d 0 j t → StateAt words 0 held A N K → CommandAs words held.cells (carry_root A K t) (Ok tt)
       by q (root_expression s) state = absurd (omega (arith, q, expression_on s))
       by q (root_command s) state = absurd (omega (arith, q, command_on s))
       by q root_absent state = (refl, state.cells_are)
 
-  module _ (some_nodes : nodes ≡ 0 → ⊥) (which : ℕ) (known : which ≡ packed_kind (get_or words 0 0)) where
+  pub known_there : (nodes ≡ 0 → ⊥) → SomeRoot words held nodes → Known (get_or words 0 0)
+  known_there some_nodes s = by some_nodes s.4.tree.stored
+    where
+      by : {d j : ℕ} {t : Root} → (j ≡ 0 → ⊥) → StoredRoot words d 0 j t → Known (get_or words 0 0)
+      by q (root_expression s) = expression_known s
+      by q (root_command s) = command_known s
+      by q root_absent = absurd (q refl)
+
+  module _ (some_nodes : nodes ≡ 0 → ⊥) (k : Kind) (known : kind_number k ≡ packed_kind (get_or words 0 0)) where
     -- An expression.
-    module _ (low : which < assign_number) where
+    module _ (x : ExpressionKind) (is_expression : k ≡ expression_kind x) where
       only_expression : {A : CarriedNames} {N : Needs} {K : CarriedCells} {t : Root} (X : Root → Type 0) → ((e : Expression) → ExpressionThere words held.environment 0 e A K → X (expression e)) →
           RootThere words held nodes t A N K → X t
       only_expression {A = A} {N = N} {K = K} X give there = by (λ q. some_nodes q) there.tree.stored (state_sees there.room there.state)
         where
           by : {d j : ℕ} {t : Root} → (j ≡ 0 → ⊥) → StoredRoot words d 0 j t → Sees words held.environment A K → X t
           by q (root_expression {d = d} {j = j} s) sees = give _ (record { depth = d; next = j; tree = s; sees = sees })
-          by q (root_command s) sees = absurd (omega (arith, low, known, (stored_command_kind s).0))
+          by q (root_command s) sees = let is_command = command_is k s known in absurd cc
           by q root_absent sees = absurd (q refl)
 
       pub expression_there : SomeRoot words held nodes → SomeExpression words held.environment 0
@@ -64,32 +76,31 @@ module _ (words : List ℕ) (held : Held) (nodes : ℕ) where
           only_expression (λ t. Fits (carry_root s.1 s.3 t) → SomeExpression words held.environment 0)
           (λ e there fits. (e, s.1, s.3, there, first_fits (λ v. carried s.3) (carry_expression s.1 s.3 e) fits)) s.4 s.5
 
-      module _ (r : Expressed) (answered : ExpressionCarried words held.environment 0 r) where
-        pub expression_carried : (x : Value) → r ≡ Expressed.Is x → RootCarried words words held nodes Through
-        unfolding carry_root
-        expression_carried x told t A N K there =
-            only_expression (λ t. StateAt words 0 held A N K → CommandAs words held.cells (carry_root A K t) Through)
-            (λ e at state.
-            told_value (carry_expression A K e) r x told (answered e A K at)
-            (λ v same holds. subst (λ o. CommandAs words held.cells (o >>= λ v. carried K) Through) (sym same) (refl, state.cells_are))
-            (λ never. subst (λ o. CommandAs words held.cells (o >>= λ v. carried K) Through) (sym never) tt))
-            there there.state
+      pub expression_carried : (value : Value) → ExpressionCarried words held.environment 0 (Ok value) → RootCarried words words held nodes (Ok tt)
+      unfolding carry_root
+      expression_carried value answered t A N K there =
+          only_expression (λ t. StateAt words 0 held A N K → CommandAs words held.cells (carry_root A K t) (Ok tt))
+          (λ e at state.
+          told_value (carry_expression A K e) value (answered e A K at)
+          (λ v same holds. subst (λ o. CommandAs words held.cells (o >>= λ v. carried K) (Ok tt)) (sym same) (refl, state.cells_are))
+          (λ never. subst (λ o. CommandAs words held.cells (o >>= λ v. carried K) (Ok tt)) (sym never) tt))
+          there there.state
 
-        pub expression_unsafe : (p : ℕ) → r ≡ Expressed.Unsafe p → RootCarried words words held nodes (Unsafe p)
-        unfolding carry_root
-        expression_unsafe p told t A N K there =
-            only_expression (λ t. CommandAs words held.cells (carry_root A K t) (Unsafe p))
-            (λ e at. unsafe_value words held.cells (λ v. carried K) (carry_expression A K e) r p told (answered e A K at)) there
+      pub expression_unsafe : (refused : Refused) → ExpressionCarried words held.environment 0 (Err refused) → RootCarried words words held nodes (Err refused)
+      unfolding carry_root
+      expression_unsafe refused answered t A N K there =
+          only_expression (λ t. CommandAs words held.cells (carry_root A K t) (Err refused))
+          (λ e at. unsafe_value words held.cells (λ v. carried K) (carry_expression A K e) refused (answered e A K at)) there
 
     -- A command.
-    module _ (high : assign_number ≤ which) where
+    module _ (no_expression : (x : ExpressionKind) → k ≡ expression_kind x → ⊥) where
       only_command : {A : CarriedNames} {N : Needs} {K : CarriedCells} {t : Root} (X : Root → Type 0) → ((c : Command) → CommandThere words held 0 c A N K → X (command c)) →
           RootThere words held nodes t A N K → X t
       unfolding root_need
       only_command {A = A} {N = N} {K = K} X give there = by (λ q. some_nodes q) there.tree.stored there.state there.room
         where
           by : {d j : ℕ} {t : Root} → (j ≡ 0 → ⊥) → StoredRoot words d 0 j t → StateAt words 0 held A N K → Room held (root_need N t) → X t
-          by q (root_expression s) state room = absurd (omega (arith, high, known, stored_expression_kind s))
+          by q (root_expression s) state room = absurd (no_expression _ (expression_is k s known))
           by q (root_command {d = d} {j = j} s) state room = give _ (record { depth = d; next = j; tree = s; state = state; room = room })
           by q root_absent state room = absurd (q refl)
 
@@ -97,7 +108,7 @@ module _ (words : List ℕ) (held : Held) (nodes : ℕ) where
       unfolding carry_root
       command_there s = only_command (λ t. Fits (carry_root s.1 s.3 t) → SomeCommand words held 0) (λ c there fits. (c, s.1, s.2, s.3, there, fits)) s.4 s.5
 
-      pub command_carried : (words₁ : List ℕ) (r : Outcome) → CommandCarried words words₁ held 0 r → RootCarried words words₁ held nodes r
+      pub command_carried : (words₁ : List ℕ) (r : Result (Unit {0}) Refused) → CommandCarried words words₁ held 0 r → RootCarried words words₁ held nodes r
       unfolding carry_root
       command_carried words₁ r ran t A N K there = only_command (λ t. CommandAs words₁ held.cells (carry_root A K t) r) (λ c at. ran c A N K at) there
 
@@ -135,32 +146,29 @@ module _ (words words₁ : List ℕ) (nodes : ℕ) (lowest highest : List ℕ) (
   held_cells : held.cells ≡ length lowest
   held_cells = ap (λ h. h.cells) is_held_lem
 
-  unsafe_lists : (o : Carrying CarriedCells) (words₂ : List ℕ) (r : Outcome) (p : ℕ) → r ≡ Unsafe p → CommandAs words₂ held.cells o r → CarriedAs o lowest highest lowest highest r
-  unsafe_lists (carried K) words₂ r p told (same, left) = absurd (clash (sym same ∙ told))
-    where
-      clash : ◌≡◌ {A = Outcome} Through (Unsafe p) → ⊥
-      clash q = let z : ◌≡◌ {A = ℕ} 0 1 = cc in omega arith
-  unsafe_lists (unsafe q) words₂ r p told same = record { is_unsafe = same; same_lowest = refl; same_highest = refl }
-  unsafe_lists unfit words₂ r p told answer = tt
+  unsafe_lists : (o : Carrying CarriedCells) (words₂ : List ℕ) (refused : Refused) → CommandAs words₂ held.cells o (Err refused) → CarriedAs o lowest highest lowest highest (Err refused)
+  unsafe_lists (carried K) words₂ refused (same, left) = ok_not_err (sym same)
+  unsafe_lists (unsafe q) words₂ refused same = record { is_unsafe = same; same_lowest = refl; same_highest = refl }
+  unsafe_lists unfit words₂ refused answer = tt
 
-  pub routine_unsafe : (words₂ : List ℕ) (r : Outcome) (p : ℕ) → r ≡ Unsafe p → RootCarried words₁ words₂ held nodes r → RoutineCarried words nodes lowest highest lowest highest r
+  pub routine_unsafe : (words₂ : List ℕ) (refused : Refused) → RootCarried words₁ words₂ held nodes (Err refused) → RoutineCarried words nodes lowest highest lowest highest (Err refused)
   unfolding carry_routine
-  routine_unsafe words₂ r p told ran t at enough =
-      unsafe_lists (carry_root (register_names (length lowest)) (register_cells (length lowest) (integers_of lowest) (integers_of highest)) t) words₂ r p told
+  routine_unsafe words₂ refused ran t at enough =
+      unsafe_lists (carry_root (register_names (length lowest)) (register_cells (length lowest) (integers_of lowest) (integers_of highest)) t) words₂ refused
       (ran t (register_names (length lowest)) (register_needs (length lowest)) (register_cells (length lowest) (integers_of lowest) (integers_of highest)) (root_there at enough))
 
-  pub routine_carried : (words₂ : List ℕ) (r : Outcome) → r ≡ Through → RootCarried words₁ words₂ held nodes r → Keeps words₁ words₂ held.bindings held.cells → (lowest' highest' : List ℕ) →
-      EndsTaken words₂ (length lowest) lowest' highest' → RoutineCarried words nodes lowest highest lowest' highest' Through
+  pub routine_carried : (words₂ : List ℕ) → RootCarried words₁ words₂ held nodes (Ok tt) → Keeps words₁ words₂ held.bindings held.cells → (lowest' highest' : List ℕ) →
+      EndsTaken words₂ (length lowest) lowest' highest' → RoutineCarried words nodes lowest highest lowest' highest' (Ok tt)
   unfolding carry_routine
-  routine_carried words₂ r told ran kept_root_words lowest' highest' taken t at enough =
-      told_through (carry_root (register_names (length lowest)) (register_cells (length lowest) (integers_of lowest) (integers_of highest)) t) r told
+  routine_carried words₂ ran kept_root_words lowest' highest' taken t at enough =
+      told_through (carry_root (register_names (length lowest)) (register_cells (length lowest) (integers_of lowest) (integers_of highest)) t)
       (ran t (register_names (length lowest)) (register_needs (length lowest)) (register_cells (length lowest) (integers_of lowest) (integers_of highest)) (root_there at enough))
       (λ K same now.
-      subst (λ o. CarriedAs o lowest highest lowest' highest' Through) (sym same)
+      subst (λ o. CarriedAs o lowest highest lowest' highest' (Ok tt)) (sym same)
       (let ends = taken K (subst (λ n. CellsAt words₂ n K) held_cells now) sorts in
       let ranged = ends_ranged now (length lowest) in
       record { went_through = refl; lowest_are = ends.0; highest_are = ends.1; lowest_ranged = ranged.0; highest_ranged = ranged.1 }))
-      (λ never. subst (λ o. CarriedAs o lowest highest lowest' highest' Through) (sym never) tt)
+      (λ never. subst (λ o. CarriedAs o lowest highest lowest' highest' (Ok tt)) (sym never) tt)
     where
       sorts : (i : ℕ) → i < length lowest → get_or words₂ (cell_sorts + i) 0 ≡ numbers_sort
       sorts i h = kept_root_words.same_sorts i (omega (arith, h, held_cells)) ∙ there.numbers_there i h

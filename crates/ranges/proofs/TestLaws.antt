@@ -3,6 +3,8 @@ use Prim.Native.Nat.{ℕ, ◌+◌, ◌<◌}
 use mathlib.Core.Path.{◌≡◌, refl, sym, ap, ◌∙◌, subst}
 use mathlib.Core.Bool.{true, false}
 use mathlib.Core.List.{List}
+use Rattle.std.specs.Prelude.{Result, Ok, Err}
+use Rattle.rules.specs.declared.refusals.Refused.{Refused}
 use native.Mathlib.Omega.{arith}
 use lib.ListN.{get_or}
 use Rattle.rules.specs.paper.Limits.{most_nodes}
@@ -10,20 +12,18 @@ use Rattle.rules.specs.paper.Tree.{Expression, Command, Assign, Loop, CSeq, bloc
 use Rattle.rules.specs.paper.Needs.{Needs, command_need}
 use Rattle.rules.specs.paper.Carried.{Carried, truths, Carrying, carried, unsafe, unfit, ◌>>=◌}
 use Rattle.rules.specs.paper.Carrying.{CarriedCells, CarriedNames, carry_expression, carry_choosing, carry_command}
-use Rattle.reader.specs.KindNumbers.{assign_number, cseq_number, blk_number, call_number}
+use Rattle.reader.specs.KindNumbers.{assign_number, loop_number, conditional_number}
 use Rattle.reader.specs.Pack.{packed_kind, packed_end}
 use Rattle.reader.specs.Stored.{StoredCommand}
 use Rattle.reader.proofs.StandingLaws.{expression_low, command_low}
 use Rattle.intervals.specs.Values.{HoldsValue, holds_numbers, holds_truths, holds_location, ExpressedAs}
 use Rattle.intervals.specs.declared.values.Value.{Value}
-use Rattle.intervals.specs.declared.values.Expressed.{Expressed}
 use Rattle.carrying.specs.States.{Room}
 use Rattle.carrying.specs.Frames.{Keeps}
 use Rattle.carrying.specs.Answers.{Fits, ExpressionThere, SomeExpression, ExpressionCarried, CommandThere, SomeCommand, CommandAs, CommandCarried}
 use Rattle.ranges.specs.Commands.{AssignThere, assigning, SomeAssign, AssignCarried, Valued, an_assign, a_conditional, SomeTested, TestedCarried, SomeBoth, BothCarried}
 use Rattle.carrying.specs.declared.Held.{Held}
-use Rattle.carrying.specs.declared.Outcome.{Outcome}
-use Rattle.carrying.specs.declared.Outcome.TheVariants.{Through, Unsafe}
+use Rattle.carrying.proofs.ResultLaws.{ok_not_err, same_refusal}
 use Rattle.carrying.proofs.FrameLaws.{keeps_all}
 use Rattle.carrying.proofs.ReachLaws.{second_place, reach}
 use Rattle.carrying.proofs.ExpressionLaws.{first_fits, told_value}
@@ -32,17 +32,11 @@ use Rattle.ranges.proofs.BranchLaws.{part_there, part_reach}
 
 -- ---- Answers.
 
-not_both : {A : Type 0} {x : Value} {p : ℕ} → ◌≡◌ {A = Expressed} (Expressed.Is x) (Expressed.Unsafe p) → A
-not_both q = let clash : ◌≡◌ {A = ℕ} 0 1 = cc in absurd (omega arith)
-
-same_place : {p q : ℕ} → ◌≡◌ {A = Expressed} (Expressed.Unsafe p) (Expressed.Unsafe q) → p ≡ q
-same_place e = cc
-
 -- An expression that is unsafe, and what goes on with its value.
-pub unsafe_value : (words : List ℕ) (n : ℕ) (f : Carried → Carrying CarriedCells) (c : Carrying Carried) (r : Expressed) (p : ℕ) → r ≡ Expressed.Unsafe p → ExpressedAs c r → CommandAs words n (c >>= f) (Unsafe p)
-unsafe_value words n f (carried v) r p told (x, same, holds) = not_both (sym same ∙ told)
-unsafe_value words n f (unsafe q) r p told same = ap Unsafe (same_place (sym told ∙ same))
-unsafe_value words n f unfit r p told answer = tt
+pub unsafe_value : (words : List ℕ) (n : ℕ) (f : Carried → Carrying CarriedCells) (c : Carrying Carried) (refused : Refused) → ExpressedAs c (Err refused) → CommandAs words n (c >>= f) (Err refused)
+unsafe_value words n f (carried v) refused (x, same, holds) = ok_not_err (sym same)
+unsafe_value words n f (unsafe q) refused same = same_refusal same
+unsafe_value words n f unfit refused answer = tt
 
 -- ---- Which command a test chooses.
 
@@ -79,7 +73,19 @@ both_chosen a b p q (holds_location s l h) = neither_may refl
 
 -- ---- The value or test of a command.
 
-module _ (words : List ℕ) (held : Held) (node which : ℕ) (known : which ≡ packed_kind (get_or words node 0)) (not_sequence : which ≡ cseq_number → ⊥) (not_block : which ≡ blk_number → ⊥) (not_call : which ≡ call_number → ⊥) where
+-- The node is an Assign or a Cond.
+pub data TakesValue (which : ℕ) : Type 0 where
+  of_assign : which ≡ assign_number → TakesValue which
+  of_conditional : which ≡ conditional_number → TakesValue which
+
+module _ (words : List ℕ) (held : Held) (node which : ℕ) (known : which ≡ packed_kind (get_or words node 0)) (takes : TakesValue which) where
+  no_other : {other : ℕ} → (other ≡ assign_number → ⊥) → (other ≡ conditional_number → ⊥) → which ≡ other → ⊥
+  no_other f g q = by takes
+    where
+      by : TakesValue which → ⊥
+      by (of_assign p) = f (sym q ∙ p)
+      by (of_conditional p) = g (sym q ∙ p)
+
   -- An Assign or a Cond, with what comes after the value, and a Loop.
   only_valued : {next : ℕ} {A : CarriedNames} {N : Needs} {K : CarriedCells} {c : Command} (X : Command → Type 0) →
       ((e : Expression) (c : Command) (f : Carried → Carrying CarriedCells) → carry_command A K c ≡ carry_expression A K e >>= f → ((v : Carried) → carry_expression A K e ≡ carried v → Valued A K v c) →
@@ -88,9 +94,9 @@ module _ (words : List ℕ) (held : Held) (node which : ℕ) (known : which ≡ 
   unfolding carry_command
   only_valued X give never (seen_assign p e) = give _ _ _ refl (λ v q. an_assign q) e
   only_valued X give never seen_loop = never _ _
-  only_valued X give never (seen_sequence p a b f g) = absurd (not_sequence p)
-  only_valued X give never (seen_block p e a b r) = absurd (not_block p)
-  only_valued X give never (seen_call p) = absurd (not_call p)
+  only_valued X give never (seen_sequence p a b f g) = absurd (no_other (λ q. omega (arith, q)) (λ q. omega (arith, q)) p)
+  only_valued X give never (seen_block p e a b r) = absurd (no_other (λ q. omega (arith, q)) (λ q. omega (arith, q)) p)
+  only_valued X give never (seen_call p) = absurd (no_other (λ q. omega (arith, q)) (λ q. omega (arith, q)) p)
   only_valued {A = A} {K = K} X give never (seen_conditional {c₁ = c₁} {c₂ = c₂} p e a b f g) = give _ _ (λ v. carry_choosing v (carry_command A K c₁) (carry_command A K c₂)) refl (λ v q. a_conditional q) e
 
   loop_unfit : (A : CarriedNames) (K : CarriedCells) (e : Expression) (c : Command) → carry_command A K (Loop node e c) ≡ unfit
@@ -103,32 +109,41 @@ module _ (words : List ℕ) (held : Held) (node which : ℕ) (known : which ≡ 
       (λ e c f q valued there fits. (e, s.1, s.3, there, first_fits f (carry_expression s.1 s.3 e) (λ never. fits (q ∙ never))))
       (λ e c fits. absurd (fits (loop_unfit s.1 s.3 e c))) (seen words held node which known s.4) s.5
 
-  pub value_low : SomeCommand words held node → node + 1 < most_nodes
-  value_low s = expression_low (value_there s).3.tree
+  pub value_unsafe : (refused : Refused) → ExpressionCarried words held.environment (node + 1) (Err refused) → CommandCarried words words held node (Err refused)
+  value_unsafe refused answered c A N K there =
+      only_valued (λ c. CommandAs words held.cells (carry_command A K c) (Err refused))
+      (λ e c f q valued there. subst (λ o. CommandAs words held.cells o (Err refused)) (sym q) (unsafe_value words held.cells f (carry_expression A K e) refused (answered e A K there)))
+      (λ e c. subst (λ o. CommandAs words held.cells o (Err refused)) (sym (loop_unfit A K e c)) tt) (seen words held node which known there)
 
-  module _ (r : Expressed) (answered : ExpressionCarried words held.environment (node + 1) r) where
-    pub value_unsafe : (p : ℕ) → r ≡ Expressed.Unsafe p → CommandCarried words words held node (Unsafe p)
-    value_unsafe p told c A N K there =
-        only_valued (λ c. CommandAs words held.cells (carry_command A K c) (Unsafe p))
-        (λ e c f q valued there. subst (λ o. CommandAs words held.cells o (Unsafe p)) (sym q) (unsafe_value words held.cells f (carry_expression A K e) r p told (answered e A K there)))
-        (λ e c. subst (λ o. CommandAs words held.cells o (Unsafe p)) (sym (loop_unfit A K e c)) tt) (seen words held node which known there)
+  module _ (value : Value) (answered : ExpressionCarried words held.environment (node + 1) (Ok value)) where
+    pub value_known : SomeCommand words held node → SomeTested words held node value
+    value_known s =
+        only_valued (λ c. CommandThere words held node c s.1 s.2 s.3 → Fits (carry_command s.1 s.3 c) → SomeTested words held node value)
+        (λ e c f q valued there whole fits.
+        told_value (carry_expression s.1 s.3 e) value (answered e s.1 s.3 there) (λ v same holds. (c, v, s.1, s.2, s.3, whole, holds, valued v same, fits))
+        (λ never. absurd (fits (q ∙ ap (λ o. o >>= f) never))))
+        (λ e c whole fits. absurd (fits (loop_unfit s.1 s.3 e c))) (seen words held node which known s.4) s.4 s.5
 
-    module _ (value : Value) (told : r ≡ Expressed.Is value) where
-      pub value_known : SomeCommand words held node → SomeTested words held node value
-      value_known s =
-          only_valued (λ c. CommandThere words held node c s.1 s.2 s.3 → Fits (carry_command s.1 s.3 c) → SomeTested words held node value)
-          (λ e c f q valued there whole fits.
-          told_value (carry_expression s.1 s.3 e) r value told (answered e s.1 s.3 there) (λ v same holds. (c, v, s.1, s.2, s.3, whole, holds, valued v same, fits))
-          (λ never. absurd (fits (q ∙ ap (λ o. o >>= f) never))))
-          (λ e c whole fits. absurd (fits (loop_unfit s.1 s.3 e c))) (seen words held node which known s.4) s.4 s.5
+    pub value_carried : (words₁ : List ℕ) (t : Result (Unit {0}) Refused) → TestedCarried words words₁ held node value t → CommandCarried words words₁ held node t
+    value_carried words₁ t tested c A N K there =
+        only_valued (λ c. CommandThere words held node c A N K → CommandAs words₁ held.cells (carry_command A K c) t)
+        (λ e c f q valued at whole.
+        told_value (carry_expression A K e) value (answered e A K at) (λ v same holds. tested c v A N K whole holds (valued v same))
+        (λ never. subst (λ o. CommandAs words₁ held.cells o t) (sym (q ∙ ap (λ o. o >>= f) never)) tt))
+        (λ e c whole. subst (λ o. CommandAs words₁ held.cells o t) (sym (loop_unfit A K e c)) tt) (seen words held node which known there) there
 
-      pub value_carried : (words₁ : List ℕ) (t : Outcome) → TestedCarried words words₁ held node value t → CommandCarried words words₁ held node t
-      value_carried words₁ t tested c A N K there =
-          only_valued (λ c. CommandThere words held node c A N K → CommandAs words₁ held.cells (carry_command A K c) t)
-          (λ e c f q valued at whole.
-          told_value (carry_expression A K e) r value told (answered e A K at) (λ v same holds. tested c v A N K whole holds (valued v same))
-          (λ never. subst (λ o. CommandAs words₁ held.cells o t) (sym (q ∙ ap (λ o. o >>= f) never)) tt))
-          (λ e c whole. subst (λ o. CommandAs words₁ held.cells o t) (sym (loop_unfit A K e c)) tt) (seen words held node which known there) there
+-- A Loop is not fit.
+pub never_loop : (words : List ℕ) (held : Held) (node which : ℕ) (known : which ≡ packed_kind (get_or words node 0)) → which ≡ loop_number → SomeCommand words held node → ⊥
+unfolding carry_command
+never_loop words held node which known q s = by (seen words held node which known s.4) s.5
+  where
+    by : {next : ℕ} {A : CarriedNames} {N : Needs} {K : CarriedCells} {c : Command} → Seen words held node which known next A N K c → Fits (carry_command A K c) → ⊥
+    by (seen_assign p e) fits = omega (arith, p, q)
+    by seen_loop fits = fits refl
+    by (seen_sequence p a b f g) fits = omega (arith, p, q)
+    by (seen_block p e a b r) fits = omega (arith, p, q)
+    by (seen_call p) fits = omega (arith, p, q)
+    by (seen_conditional p e a b f g) fits = omega (arith, p, q)
 
 -- ---- With its value.
 
@@ -186,12 +201,12 @@ module _ (words : List ℕ) (held : Held) (node which : ℕ) (value : Value) (kn
       (λ x e same there fits. (held.cells, x, s.1, s.2, s.4, assign_at s.6 there, λ never. fits (ap (λ o. o >>= λ v. assigning x v s.2 s.4) same ∙ never))) s.7 (seen words held node which known s.5) s.5
       s.8
 
-  pub assign_tested : which ≡ assign_number → (words₁ : List ℕ) → AssignCarried words words₁ held.environment node value → TestedCarried words words₁ held node value Through
+  pub assign_tested : which ≡ assign_number → (words₁ : List ℕ) → AssignCarried words words₁ held.environment node value → TestedCarried words words₁ held node value (Ok tt)
   unfolding carry_command
   assign_tested q words₁ assigned c v A N K there holds valued =
-      only_assign (λ c. CommandThere words held node c A N K → CommandAs words₁ held.cells (carry_command A K c) Through) q
+      only_assign (λ c. CommandThere words held node c A N K → CommandAs words₁ held.cells (carry_command A K c) (Ok tt)) q
       (λ x e same at.
-      subst (λ o. CommandAs words₁ held.cells (o >>= λ v. assigning x v A K) Through) (sym same) (assigned held.cells x v A K (assign_at holds at))) valued (seen words held node which known there) there
+      subst (λ o. CommandAs words₁ held.cells (o >>= λ v. assigning x v A K) (Ok tt)) (sym same) (assigned held.cells x v A K (assign_at holds at))) valued (seen words held node which known there) there
 
   -- ---- Cond.
 
@@ -243,7 +258,7 @@ module _ (words : List ℕ) (held : Held) (node which : ℕ) (value : Value) (kn
               by (is_one q) = q ∙ never
               by (is_unfit q) = q
 
-      pub first_carried : (words₁ : List ℕ) (t : Outcome) → CommandCarried words words₁ held first t → TestedCarried words words₁ held node value t
+      pub first_carried : (words₁ : List ℕ) (t : Result (Unit {0}) Refused) → CommandCarried words words₁ held first t → TestedCarried words words₁ held node value t
       unfolding carry_command
       first_carried words₁ t ran c v A N K there holds valued =
           only_conditional (λ c. CommandThere words held node c A N K → CommandAs words₁ held.cells (carry_command A K c) t)
@@ -287,7 +302,7 @@ module _ (words : List ℕ) (held : Held) (node which : ℕ) (value : Value) (kn
               by (is_one q) = q ∙ never
               by (is_unfit q) = q
 
-      pub second_carried : (words₁ : List ℕ) (t : Outcome) → CommandCarried words words₁ held second t → TestedCarried words words₁ held node value t
+      pub second_carried : (words₁ : List ℕ) (t : Result (Unit {0}) Refused) → CommandCarried words words₁ held second t → TestedCarried words words₁ held node value t
       unfolding carry_command
       second_carried words₁ t ran c v A N K there holds valued =
           only_conditional (λ c. CommandThere words held node c A N K → CommandAs words₁ held.cells (carry_command A K c) t)
@@ -318,7 +333,7 @@ module _ (words : List ℕ) (held : Held) (node which : ℕ) (value : Value) (kn
           by e c₁ c₂ whole fits same (both_may q) = (e, c₁, c₂, s.2, s.3, s.4, whole, same ∙ ap carried q, fits)
           by e c₁ c₂ whole fits same (neither_may q) = absurd (fits (ap (λ o. o >>= λ v. carry_choosing v (carry_command s.2 s.4 c₁) (carry_command s.2 s.4 c₂)) same ∙ q))
 
-      pub both_tested : (words₁ : List ℕ) (t : Outcome) → BothCarried words words₁ held node t → TestedCarried words words₁ held node value t
+      pub both_tested : (words₁ : List ℕ) (t : Result (Unit {0}) Refused) → BothCarried words words₁ held node t → TestedCarried words words₁ held node value t
       unfolding carry_command
       both_tested words₁ t ran c v A N K there holds valued =
           only_conditional (λ c. CommandThere words held node c A N K → CommandAs words₁ held.cells (carry_command A K c) t)

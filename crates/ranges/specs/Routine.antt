@@ -1,5 +1,8 @@
 -- What is answered of a whole routine over the registers' limits: the limits crossed or not, the registers' names and cells at the start, and the ends.
-use Rattle.std.specs.Prelude.{ℕ, ◌+◌, ◌<◌, ◌≤◌, ◌≡◌, List, length, get_or}
+use Rattle.std.specs.Prelude.{ℕ, ◌+◌, ◌<◌, ◌≤◌, ◌≡◌, List, length, get_or, Result, Ok}
+use Rattle.rules.specs.Answers.{refused_at}
+use Rattle.rules.specs.declared.refusals.Refusal.TheVariants.{UnsafeArithmetic}
+use Rattle.rules.specs.declared.refusals.Refused.{Refused}
 use Rattle.rules.specs.paper.Limits.{most_bindings, most_cells}
 use Rattle.rules.specs.paper.Tree.{Root}
 use Rattle.rules.specs.paper.Needs.{bindings, cells, Needs, register_needs, root_need, routine_need}
@@ -14,8 +17,6 @@ use Rattle.carrying.specs.Layout.{cell_sorts}
 use Rattle.carrying.specs.States.{NamesAt, CellsAt, StateAt, Room}
 use Rattle.carrying.specs.Answers.{Fits, CommandAs}
 use Rattle.carrying.specs.declared.Held.{Held}
-use Rattle.carrying.specs.declared.Outcome.{Outcome}
-use Rattle.carrying.specs.declared.Outcome.TheVariants.{Through, Unsafe}
 
 -- ---- The registers.
 
@@ -49,7 +50,7 @@ pub record RootThere (words : List ℕ) (held : Held) (nodes : ℕ) (t : Root) (
 abbrev pub SomeRoot : List ℕ → Held → (nodes : ℕ) → Type 0
 SomeRoot words held nodes = (t : Root) × (A : CarriedNames) × (N : Needs) × (K : CarriedCells) × RootThere words held nodes t A N K × Fits (carry_root A K t)
 
-abbrev pub RootCarried : (words words' : List ℕ) → Held → (nodes : ℕ) → Outcome → Type 0
+abbrev pub RootCarried : (words words' : List ℕ) → Held → (nodes : ℕ) → Result (Unit {0}) Refused → Type 0
 RootCarried words words' held nodes r =
     (t : Root) (A : CarriedNames) (N : Needs) (K : CarriedCells) → RootThere words held nodes t A N K → CommandAs words' held.cells (carry_root A K t) r
 
@@ -65,25 +66,25 @@ SomeRoutine words nodes lowest highest =
     (t : Root) × RootAt words nodes t × EnoughRoom (length lowest) t × Fits (carry_routine (length lowest) t (integers_of lowest) (integers_of highest))
 
 -- The ends are given, or both lists are as they were.
-pub record EndsGiven (K : CarriedCells) (registers : ℕ) (lowest highest : List ℕ) (r : Outcome) : Type 0 where
-  pub went_through : r ≡ Through
+pub record EndsGiven (K : CarriedCells) (registers : ℕ) (lowest highest : List ℕ) (r : Result (Unit {0}) Refused) : Type 0 where
+  pub went_through : r ≡ Ok tt
   pub lowest_are : lowest ≡ words_of (ends_from lowest_of 0 registers K)
   pub highest_are : highest ≡ words_of (ends_from highest_of 0 registers K)
   -- the ends are integers, so that their words hold them
   pub lowest_ranged : AllInRange (ends_from lowest_of 0 registers K)
   pub highest_ranged : AllInRange (ends_from highest_of 0 registers K)
 
-pub record ListsKept (p : ℕ) (lowest highest lowest' highest' : List ℕ) (r : Outcome) : Type 0 where
-  pub is_unsafe : r ≡ Unsafe p
+pub record ListsKept (p : ℕ) (lowest highest lowest' highest' : List ℕ) (r : Result (Unit {0}) Refused) : Type 0 where
+  pub is_unsafe : r ≡ refused_at UnsafeArithmetic p
   pub same_lowest : lowest' ≡ lowest
   pub same_highest : highest' ≡ highest
 
-abbrev pub CarriedAs : Carrying CarriedCells → (lowest highest lowest' highest' : List ℕ) → Outcome → Type 0
+abbrev pub CarriedAs : Carrying CarriedCells → (lowest highest lowest' highest' : List ℕ) → Result (Unit {0}) Refused → Type 0
 CarriedAs (carried K) lowest highest lowest' highest' r = EndsGiven K (length lowest) lowest' highest' r
 CarriedAs (unsafe p) lowest highest lowest' highest' r = ListsKept p lowest highest lowest' highest' r
 CarriedAs unfit lowest highest lowest' highest' r = Unit {0}
 
-abbrev pub RoutineCarried : List ℕ → (nodes : ℕ) → (lowest highest lowest' highest' : List ℕ) → Outcome → Type 0
+abbrev pub RoutineCarried : List ℕ → (nodes : ℕ) → (lowest highest lowest' highest' : List ℕ) → Result (Unit {0}) Refused → Type 0
 RoutineCarried words nodes lowest highest lowest' highest' r =
     (t : Root) → RootAt words nodes t → EnoughRoom (length lowest) t →
     CarriedAs (carry_routine (length lowest) t (integers_of lowest) (integers_of highest)) lowest highest lowest' highest' r

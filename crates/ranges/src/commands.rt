@@ -1,20 +1,24 @@
 // Commands: what they leave in the cells. At a Cond whose test may be both, each command is carried from the cells before it.
-ghost use Rattle.std.specs.Prelude.{◌≤◌, length};
+ghost use Rattle.std.specs.Prelude.{◌≡◌, ◌≤◌, length, get_or};
 ghost use Rattle.rules.specs.paper.Limits.{most_bindings, most_cells};
+ghost use Rattle.reader.specs.KindNumbers.{conditional_number};
+ghost use Rattle.reader.specs.Pack.{packed_kind};
 ghost use Rattle.carrying.specs.Layout.{regions_end};
 ghost use Rattle.carrying.specs.Frames.{Keeps};
 ghost use Rattle.carrying.specs.Answers.{SomeCommand, CommandCarried};
 ghost use Rattle.ranges.specs.Commands.{SomeAssign, SomeTested, SomeBoth, AssignCarried, TestedCarried, BothCarried};
 
-use carrying::cells::{copy, exchange, set_cell, widen};
-use carrying::declarations::{Declared, declaration};
+use carrying::Held;
+use carrying::cells::{Ends, copy, exchange, set_cell, widen};
+use carrying::declarations::declaration;
 use carrying::expressions::expression;
-use carrying::functions::{Entered, enter};
-use carrying::layout::KEPT_WORDS;
+use carrying::functions::enter;
 use carrying::names::{find, row_value};
-use carrying::{Held, Outcome};
-use intervals::values::{Expressed, Value};
-use reader::{end, kind, kinds, operand};
+use intervals::values::Value;
+use machine::layout::MOST_CELLS;
+use reader::{end, node_kind, operand};
+use rules::kinds::{CommandKind, Kind};
+use rules::refusals::Refused;
 
 // The cell that the Assign at a node names is set to a value.
 fn assign(work: &mut [u64], environment: usize, node: usize, value: Value)
@@ -24,76 +28,66 @@ fn assign(work: &mut [u64], environment: usize, node: usize, value: Value)
     ensures keeps { Keeps work.old work.new most_bindings most_cells }
 {
     let name = operand(work, node);
-    let row = find(work, environment, name);
+    let Some(row) = find(work, environment, name) else {
+        unreachable!();
+    };
     let at = row_value(work, row).low as usize;
     set_cell(work, at, value.low, value.high);
 }
 
-// The command at a node.
-#[cycle(command_either_with_value)]
-pub(crate) fn command(work: &mut [u64], held: Held, node: usize) -> Outcome
+// The command at a node. No Loop is carried.
+#[cycle(command_conditional_either)]
+pub(crate) fn command(work: &mut [u64], held: Held, node: usize) -> Result<(), Refused>
     requires regions_end_in_bounds { regions_end ≤ length work.old }
     requires some_command { SomeCommand work.old held node }
     ensures command_carried { CommandCarried work.old work.new held node result }
     ensures keeps { Keeps work.old work.new held.bindings held.cells }
 {
-    let which = kind(work, node);
-    if which == kinds::CSEQ {
-        let first = command(work, held, node + 1);
-        let Outcome::Through = first else {
-            return first;
-        };
-        let after = end(work, node + 1);
-        return command(work, held, after);
-    }
-    if which == kinds::BLK {
-        let declared = declaration(work, held, node + 1);
-        match declared {
-            Declared::Names(inner) => {
-                let inside = end(work, node + 1);
-                return command(work, inner, inside);
-            }
-            Declared::Unsafe(place) => {
-                return Outcome::Unsafe(place);
-            }
+    let Kind::Command(kind) = node_kind(work, node) else {
+        unreachable!();
+    };
+    match kind {
+        CommandKind::CSeq => {
+            command(work, held, node + 1)?;
+            let after = end(work, node + 1);
+            command(work, held, after)
         }
-    }
-    if which == kinds::CALL {
-        let entered = enter(work, held, node);
-        match entered {
-            Entered::Function(inner, inside) => {
-                return command(work, inner, inside);
-            }
-            Entered::Unsafe(place) => {
-                return Outcome::Unsafe(place);
-            }
+        CommandKind::Blk => {
+            let inner = declaration(work, held, node + 1)?;
+            let inside = end(work, node + 1);
+            command(work, inner, inside)
         }
-    }
-    let given = expression(work, held.environment, node + 1);
-    match given {
-        Expressed::Is(value) => with_value(work, held, node, value),
-        Expressed::Unsafe(place) => Outcome::Unsafe(place),
+        CommandKind::Call => {
+            let entered = enter(work, held, node)?;
+            command(work, entered.held, entered.block)
+        }
+        CommandKind::Assign => {
+            let value = expression(work, held.environment, node + 1)?;
+            assign(work, held.environment, node, value);
+            Ok(())
+        }
+        CommandKind::Cond => {
+            let test = expression(work, held.environment, node + 1)?;
+            conditional(work, held, node, test)
+        }
+        CommandKind::Loop => unreachable!(),
     }
 }
 
-// The Assign or Cond at a node, whose value or test is this.
-#[cycle(command_either_with_value)]
-fn with_value(work: &mut [u64], held: Held, node: usize, value: Value) -> Outcome
+// The Cond at a node, whose test is this.
+#[cycle(command_conditional_either)]
+fn conditional(work: &mut [u64], held: Held, node: usize, test: Value) -> Result<(), Refused>
     requires regions_end_in_bounds { regions_end ≤ length work.old }
-    requires some_tested { SomeTested work.old held node value }
-    ensures tested_carried { TestedCarried work.old work.new held node value result }
+    requires kind_is { packed_kind (get_or work.old node 0) ≡ conditional_number }
+    requires some_tested { SomeTested work.old held node test }
+    ensures tested_carried { TestedCarried work.old work.new held node test result }
     ensures keeps { Keeps work.old work.new held.bindings held.cells }
 {
-    let which = kind(work, node);
-    if which == kinds::ASSIGN {
-        assign(work, held.environment, node, value);
-        return Outcome::Through;
-    }
     let first = end(work, node + 1);
-    if value.low == 0 {
+    if test.low == 0 {
         return command(work, held, first);
     }
-    if value.high == 0 {
+    if test.high == 0 {
         let second = end(work, first);
         return command(work, held, second);
     }
@@ -102,27 +96,21 @@ fn with_value(work: &mut [u64], held: Held, node: usize, value: Value) -> Outcom
 
 // The Cond at a node, whose test may be both: the cells before it are kept while the first command is carried, and what that leaves while the second
 // is.
-#[cycle(command_either_with_value)]
-fn either(work: &mut [u64], held: Held, node: usize) -> Outcome
+#[cycle(command_conditional_either)]
+fn either(work: &mut [u64], held: Held, node: usize) -> Result<(), Refused>
     requires regions_end_in_bounds { regions_end ≤ length work.old }
     requires some_both { SomeBoth work.old held node }
     ensures both_carried { BothCarried work.old work.new held node result }
     ensures keeps { Keeps work.old work.new held.bindings held.cells }
 {
     let cells = held.cells;
-    let mut kept = [0; KEPT_WORDS];
+    let mut kept = [Ends { low: 0, high: 0 }; MOST_CELLS];
     let first = end(work, node + 1);
     copy(&mut kept, work, cells);
-    let sooner = command(work, held, first);
-    let Outcome::Through = sooner else {
-        return sooner;
-    };
+    command(work, held, first)?;
     exchange(&mut kept, work, cells);
     let second = end(work, first);
-    let later = command(work, held, second);
-    let Outcome::Through = later else {
-        return later;
-    };
+    command(work, held, second)?;
     widen(work, &kept, cells);
-    Outcome::Through
+    Ok(())
 }

@@ -13,38 +13,39 @@ ghost use Rattle.ranges.specs.Routine.{SomeRoot, RootCarried, SomeRoutine, Routi
 
 use crate::commands::command;
 use crate::registers::{start, take_ends};
+use carrying::Held;
 use carrying::expressions::expression;
-use carrying::{Held, Outcome};
-use intervals::values::Expressed;
-use reader::{kind, kinds};
+use reader::node_kind;
+use rules::kinds::Kind;
+use rules::refusals::Refused;
 
 // The root of a tree of so many nodes; with no node it is absent, and the cells are left as they are.
-fn root(work: &mut [u64], held: Held, nodes: usize) -> Outcome
+fn root(work: &mut [u64], held: Held, nodes: usize) -> Result<(), Refused>
     requires regions_end_in_bounds { regions_end ≤ length work.old }
     requires some_root { SomeRoot work.old held nodes }
     ensures root_carried { RootCarried work.old work.new held nodes result }
     ensures keeps { Keeps work.old work.new held.bindings held.cells }
 {
     if nodes == 0 {
-        return Outcome::Through;
+        return Ok(());
     }
-    let which = kind(work, 0);
-    if which < kinds::ASSIGN {
-        let given = expression(work, held.environment, 0);
-        match given {
-            Expressed::Is(value) => {
-                return Outcome::Through;
-            }
-            Expressed::Unsafe(place) => {
-                return Outcome::Unsafe(place);
-            }
+    match node_kind(work, 0) {
+        Kind::Expression(_) => {
+            expression(work, held.environment, 0)?;
+            Ok(())
         }
+        _ => command(work, held, 0),
     }
-    command(work, held, 0)
 }
 
-// The tree of so many nodes is carried from the limits in the two lists, as long as there are registers. Where it goes through the ends replace them.
-pub fn carry(work: &mut [u64], lowest: &mut [u64], highest: &mut [u64], nodes: usize) -> Outcome
+// The tree of so many nodes is carried from the limits in the two lists, as long as there are registers. Where it goes through the ends replace them;
+// else the answer is UnsafeArithmetic with its node.
+pub fn carry(
+    work: &mut [u64],
+    lowest: &mut [u64],
+    highest: &mut [u64],
+    nodes: usize,
+) -> Result<(), Refused>
     requires regions_end_in_bounds { regions_end ≤ length work.old }
     requires lowest_len_bound { length lowest.old ≤ most_registers }
     requires highest_len { length highest.old ≡ length lowest.old }
@@ -53,10 +54,7 @@ pub fn carry(work: &mut [u64], lowest: &mut [u64], highest: &mut [u64], nodes: u
     ensures keeps { Keeps work.old work.new 0 0 }
 {
     let held = start(work, lowest, highest);
-    let outcome = root(work, held, nodes);
-    let Outcome::Through = outcome else {
-        return outcome;
-    };
+    root(work, held, nodes)?;
     take_ends(work, lowest, highest);
-    Outcome::Through
+    Ok(())
 }

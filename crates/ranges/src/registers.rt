@@ -8,10 +8,10 @@ ghost use Rattle.carrying.specs.Frames.{Keeps};
 ghost use Rattle.ranges.specs.Routine.{RegisterPut, registers_held, RegistersAt, EndsTaken};
 
 use carrying::Held;
-use carrying::cells::{contents, put_cell};
+use carrying::cells::{contents, location, put_cell};
 use carrying::names::put_row;
 use integers::less;
-use intervals::values::{LOCATION, NUMBERS, Value};
+use intervals::values::{NUMBERS, Value};
 
 // Whether some lowest is above its highest.
 pub fn crossed(lowest: &[u64], highest: &[u64]) -> bool
@@ -19,14 +19,10 @@ pub fn crossed(lowest: &[u64], highest: &[u64]) -> bool
     requires highest_len { length highest.now ≡ length lowest.now }
     ensures { result ≡ limits_cross (integers_of lowest.now) (integers_of highest.now) }
 {
-    let mut i = 0;
-    while i < lowest.len() {
-        if less(highest[i], lowest[i]) {
-            return true;
-        }
-        i = i + 1;
-    }
-    false
+    lowest
+        .iter()
+        .zip(highest)
+        .any(|(low, high)| less(*high, *low))
 }
 
 // Register i is bound to cell i, which holds the numbers within its limits.
@@ -36,17 +32,12 @@ fn put_register(work: &mut [u64], i: usize, low: u64, high: u64)
     ensures register_put { RegisterPut work.old work.new i low high }
     ensures keeps { Keeps work.old work.new 0 0 }
 {
-    let location = Value {
-        sort: LOCATION,
-        low: i as u64,
-        high: i as u64,
-    };
     let numbers = Value {
         sort: NUMBERS,
         low,
         high,
     };
-    put_row(work, i, i, i, location);
+    put_row(work, i, i, i, location(i));
     put_cell(work, i, numbers);
 }
 
@@ -59,17 +50,14 @@ pub(crate) fn start(work: &mut [u64], lowest: &[u64], highest: &[u64]) -> Held
     ensures registers_at { RegistersAt work.new (length lowest.now) lowest.now highest.now }
     ensures keeps { Keeps work.old work.new 0 0 }
 {
-    let mut i = 0;
-    while i < lowest.len() {
-        let low = lowest[i];
-        let high = highest[i];
-        put_register(work, i, low, high);
-        i = i + 1;
+    for (i, (low, high)) in lowest.iter().zip(highest).enumerate() {
+        put_register(work, i, *low, *high);
     }
+    let registers = lowest.len();
     Held {
-        environment: i,
-        bindings: i,
-        cells: i,
+        environment: registers,
+        bindings: registers,
+        cells: registers,
     }
 }
 
@@ -80,11 +68,10 @@ pub(crate) fn take_ends(work: &[u64], lowest: &mut [u64], highest: &mut [u64])
     requires highest_len { length highest.old ≡ length lowest.old }
     ensures { EndsTaken work.now (length lowest.old) lowest.new highest.new }
 {
-    let mut i = 0;
-    while i < lowest.len() {
-        let cell = contents(work, i);
-        lowest[i] = cell.low;
-        highest[i] = cell.high;
-        i = i + 1;
+    for (i, low) in lowest.iter_mut().enumerate() {
+        *low = contents(work, i).low;
+    }
+    for (i, high) in highest.iter_mut().enumerate() {
+        *high = contents(work, i).high;
     }
 }

@@ -1,9 +1,8 @@
-pub mod AnswerLaws
 pub mod ScanLaws
 pub mod ScanExact
 pub mod TableRows
-pub mod Faults
-pub mod Children
+pub mod PassingLaws
+pub mod ChildLaws
 pub mod ReadLaws
 pub mod SiblingLaws
 pub mod ImageLaws
@@ -11,3 +10,5 @@ pub mod PackLaws
 pub mod StoredFields
 pub mod StandingLaws
 pub mod KindTrees
+pub mod NodeKindLaws
+pub mod NodesKnown

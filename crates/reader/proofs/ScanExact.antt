@@ -8,7 +8,16 @@ use lib.ListN.{length, replicate}
 use Rattle.rules.proofs.Basics.{append_nothing}
 use Rattle.rules.specs.paper.Tree.{Num, Boo, Id, DeRef, ValRef, Binary, Not, Assign, Loop, CSeq, block, Call, Cond, Blk, Bind, DSeq, plain, Ref, Abs, expression, command}
 use Rattle.rules.specs.paper.Limits.{names}
-use Rattle.rules.specs.paper.Kinds.{Kind, ExpressionKind, CommandKind, DeclarationKind, num, boo, id, deref, valref, binary, negation, assign, loop, cseq, blk, call, conditional, bind, dseq, expression_kind, command_kind, declaration_kind, ref, abs, formal, operand_fits, operator_number, upper_part, an_expression, a_command, a_declaration, a_bound, a_formal, a_Block, a_root}
+use Rattle.rules.specs.paper.Kinds.{operand_fits, operator_number, upper_part}
+use Rattle.rules.specs.declared.kinds.Kind.{Kind}
+use Rattle.rules.specs.declared.kinds.ExpressionKind.{ExpressionKind}
+use Rattle.rules.specs.declared.kinds.CommandKind.{CommandKind}
+use Rattle.rules.specs.declared.kinds.DeclarationKind.{DeclarationKind}
+use Rattle.rules.specs.declared.kinds.ExpressionKind.TheVariants.{Num as num, Boo as boo, Id as id, DeRef as deref, ValRef as valref, Binary as binary, Not as negation}
+use Rattle.rules.specs.declared.kinds.CommandKind.TheVariants.{Assign as assign, Loop as loop, CSeq as cseq, Blk as blk, Call as call, Cond as conditional}
+use Rattle.rules.specs.declared.kinds.DeclarationKind.TheVariants.{Bind as bind, DSeq as dseq}
+use Rattle.rules.specs.declared.kinds.Kind.TheVariants.{Expression as expression_kind, Command as command_kind, Declaration as declaration_kind, Ref as ref, Abs as abs, Formal as formal}
+use Rattle.rules.specs.declared.kinds.Sort.TheVariants.{Expression as an_expression, Command as a_command, Declaration as a_declaration, Bound as a_bound, Formal as a_formal, Block as a_Block, Root as a_root}
 use Rattle.rules.specs.paper.Reader.{Node, got, then, ◌>>=◌, give, wants_expression, wants_command, wants_declaration, wants_blk, wants_bound, wants_formal, wants_root, BlkKind, blk_kind, BoundKind, plain_kind, ref_kind, abs_kind, FormalKind, formal_kind, RootKind, root_expression, root_command, expression_by, command_by, declaration_by, bound_by, root_by, name_part, read_expression, read_many, read_formal, read_command, read_block, read_declaration, read_bound, read_root}
 use Rattle.rules.specs.claims.Listing.{truth_word}
 use Rattle.reader.specs.KindNumbers.{boo_number, not_number, loop_number, cseq_number, blk_number, call_number, conditional_number, dseq_number, ref_number, abs_number, formal_number}

@@ -8,9 +8,11 @@ use mathlib.Core.Option.{Option, none, some, some-injective, some-ne-none, none-
 use lib.Dec.{T}
 use lib.ListN.{length, replicate}
 use Rattle.rules.proofs.Basics.{append_nothing, append_assoc, passed_test}
-use Rattle.rules.specs.paper.Refusals.{Refusal}
-use Rattle.rules.specs.paper.Refusals as Refusals
-use Rattle.rules.specs.paper.Kinds.{Kind, kind_of, operand_fits, kind_number, Sort, is_of, child_sorts}
+use Rattle.rules.specs.declared.refusals.Refusal.{Refusal}
+use Rattle.rules.specs.declared.refusals.Refusal.TheVariants as Refusals
+use Rattle.rules.specs.paper.Kinds.{kind_of, operand_fits, kind_number, is_of, child_sorts}
+use Rattle.rules.specs.declared.kinds.Kind.{Kind}
+use Rattle.rules.specs.declared.kinds.Sort.{Sort}
 use Rattle.rules.specs.paper.Reader.{Node, Got, refused, got, Read, then, ◌>>=◌, give, refuse, Header, or_refuse, node, read_many}
 use Rattle.reader.specs.Pack.{node_words, all_words}
 use Rattle.reader.specs.Scan.{accepting, scan_list, scan}

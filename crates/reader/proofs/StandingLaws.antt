@@ -4,7 +4,12 @@ use Rattle.std.specs.Prelude.{ℕ, suc, ◌+◌, ◌*◌, ◌/◌, ◌%◌, ◌<
 use Rattle.std.proofs.Common.{arith}
 use Rattle.rules.specs.paper.Limits.{names, most_nodes}
 use Rattle.rules.specs.paper.Kinds.{operator_number}
-use Rattle.rules.specs.paper.Tree.{Operator, arithmetic, Eq, order, logic, Sum, Sub, Mul, Div, Lt, Le, Gt, Ge, And, Or, Expression, Formal, Command, Block, Declaration, Bound, Root, absent}
+use Rattle.rules.specs.paper.Tree.{Expression, Formal, Command, Block, Declaration, Bound, Root, absent}
+use Rattle.rules.specs.declared.kinds.Operator.{Operator}
+use Rattle.rules.specs.declared.kinds.Operator.TheVariants.{Arithmetic as arithmetic, Eq, Order as order, Logic as logic}
+use Rattle.rules.specs.declared.kinds.Arithmetic.TheVariants.{Sum, Sub, Mul, Div}
+use Rattle.rules.specs.declared.kinds.Order.TheVariants.{Lt, Le, Gt, Ge}
+use Rattle.rules.specs.declared.kinds.Logic.TheVariants.{And, Or}
 use Rattle.reader.specs.KindNumbers.{id_number, not_number}
 use Rattle.reader.specs.Pack.{kinds_room, packed_kind, packed_end}
 use Rattle.reader.specs.Stored.{HasWord, StoredExpression, num, boo, id, deref, valref, binary, negation, StoredActuals, no_actuals, one_actual, StoredFormals, no_formals, one_formal, StoredCommand, assign, loop, cseq, block_of, call, conditional, StoredBlock, blk, StoredDeclaration, bind, dseq, StoredBound, plain_of, ref, abs, StoredRoot, root_expression, root_command, root_absent, RootAt}

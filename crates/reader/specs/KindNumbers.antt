@@ -1,6 +1,10 @@
 -- The numbers of the kinds by name, but for the operators' (operator-number of the rules).
 use Rattle.std.specs.Prelude.{ℕ}
-use Rattle.rules.specs.paper.Kinds.{kind_number, num, boo, id, deref, valref, negation, assign, loop, cseq, blk, call, conditional, bind, dseq, expression_kind, command_kind, declaration_kind, ref, abs, formal}
+use Rattle.rules.specs.paper.Kinds.{kind_number}
+use Rattle.rules.specs.declared.kinds.ExpressionKind.TheVariants.{Num as num, Boo as boo, Id as id, DeRef as deref, ValRef as valref, Not as negation}
+use Rattle.rules.specs.declared.kinds.CommandKind.TheVariants.{Assign as assign, Loop as loop, CSeq as cseq, Blk as blk, Call as call, Cond as conditional}
+use Rattle.rules.specs.declared.kinds.DeclarationKind.TheVariants.{Bind as bind, DSeq as dseq}
+use Rattle.rules.specs.declared.kinds.Kind.TheVariants.{Expression as expression_kind, Command as command_kind, Declaration as declaration_kind, Ref as ref, Abs as abs, Formal as formal}
 
 abbrev pub num_number : ℕ
 num_number = kind_number (expression_kind num)

@@ -1,240 +1,214 @@
-// The table of kinds: one row a kind, packed in a word, and what a row says of a node. A row, from its lowest bit on:
-//   7 bits   the sorts that the kind is of, bit s for the sort with number s
-//   2 bits   how many children it has beside those that its operand counts
-//   12 bits  the sorts of its last four children, from the last one on; the fourth is also that of all children before it
-//   6 bits   how far an operand is shifted to give the children that it counts; a word's bits, which leaves 0, for none
-//   37 bits  the number that its operands are below
-ghost use Rattle.std.specs.Prelude.{◌≡◌, ℕ, ◌<◌, ◌≤◌, length};
+// The table of kinds (rules, paper/Kinds.antt): the kind of each number, the sorts that a kind is of, what its operand is below, and how many
+// children it has and of which sorts.
+ghost use Rattle.std.specs.Prelude.{◌≡◌, ◌+◌, ◌<◌, ◌≤◌, ◌∷◌, length, drop};
 ghost use Rattle.rules.specs.paper.Limits.{words};
-ghost use Rattle.rules.specs.paper.Kinds.{Kind, child_sorts};
-ghost use Rattle.reader.specs.Tables.{sort_numbers, row_word, row_at, fault_of, SortedAt};
+ghost use Rattle.rules.specs.paper.Kinds.{is_of, operand_bound, child_sorts};
+ghost use Rattle.rules.specs.declared.kinds.ExpressionKind.TheVariants.{Binary as binary};
+ghost use Rattle.rules.specs.declared.kinds.Kind.TheVariants.{Expression as expression_kind};
+ghost use Rattle.reader.specs.Scan.{kind_at, passing};
+ghost use Rattle.reader.specs.Children.{runs, sorts_of_children};
 
-use crate::{kinds, refusals};
-
-// The numbers of the sorts.
-const EXPRESSION: u64 = 0;
-
-const COMMAND: u64 = 1;
-
-const DECLARATION: u64 = 2;
-
-const BOUND: u64 = 3;
-
-const FORMAL: u64 = 4;
-
-const BLOCK: u64 = 5;
-
-pub(crate) const ROOT: u64 = 6;
-
-// Where the parts of a row begin, and the room that they have.
-const FIXED_AT: usize = 7;
-
-const FIXED_ROOM: u64 = 4;
-
-const SORTS_AT: usize = 9;
-
-const SORT_BITS: usize = 3;
-
-const SORT_ROOM: u64 = 8;
-
-const SHIFT_AT: usize = 21;
-
-const SHIFT_ROOM: u64 = 64;
-
-const OPERANDS_AT: usize = 27;
-
-// Where the sorts of the last four children begin.
-const LAST_CHILDREN: usize = 4;
-
-const LAST: usize = SORTS_AT;
-
-const SECOND_LAST: usize = LAST + SORT_BITS;
-
-const THIRD_LAST: usize = SECOND_LAST + SORT_BITS;
-
-const FOURTH_LAST: usize = THIRD_LAST + SORT_BITS;
-
-// The sorts that a kind is of.
-const IS_EXPRESSION: u64 = 1 << EXPRESSION | 1 << BOUND | 1 << ROOT;
-
-const IS_COMMAND: u64 = 1 << COMMAND | 1 << ROOT;
-
-const IS_BLOCK: u64 = 1 << COMMAND | 1 << BLOCK | 1 << ROOT;
-
-const IS_DECLARATION: u64 = 1 << DECLARATION;
-
-const IS_BOUND: u64 = 1 << BOUND;
-
-const IS_FORMAL: u64 = 1 << FORMAL;
+use rules::kinds::{
+    Arithmetic, CommandKind, DeclarationKind, ExpressionKind, Kind, Logic, Operator, Order, Sort,
+};
+use rules::refusals::{Refusal, Refused};
 
 // The limits on operands (rules, paper/Limits.antt): words, names, type codes, parameters.
-const WORD_BITS: u64 = 32;
+const WORDS: u64 = 1 << 32;
 
-pub(crate) const NAME_BITS: u64 = 6;
-
-const NAMES: u64 = 1 << NAME_BITS;
+pub(crate) const NAMES: u64 = 64;
 
 const CODES: u64 = 8;
 
 const MOST_PARAMETERS: u64 = 8;
 
-// How many children: none, one, two or three; as many as the operand's upper part says; or as many as the operand says, and one more.
-const NO_CHILD: u64 = 0 << FIXED_AT | WORD_BITS << SHIFT_AT;
+// The kind with this number, if there is one.
+#[inline(always)]
+#[tactic(auto, unfolding(crate::specs::Scan::kind_at, rules::specs::paper::Kinds::kind_of))]
+pub(crate) fn kind_of(number: u64) -> Option<Kind>
+    ensures { result ≡ kind_at number }
+{
+    match number {
+        1 => Some(Kind::Expression(ExpressionKind::Num)),
+        2 => Some(Kind::Expression(ExpressionKind::Boo)),
+        3 => Some(Kind::Expression(ExpressionKind::Id)),
+        4 => Some(binary(Operator::Arithmetic(Arithmetic::Sum))),
+        5 => Some(binary(Operator::Arithmetic(Arithmetic::Sub))),
+        6 => Some(binary(Operator::Arithmetic(Arithmetic::Mul))),
+        7 => Some(binary(Operator::Arithmetic(Arithmetic::Div))),
+        8 => Some(binary(Operator::Eq)),
+        9 => Some(binary(Operator::Order(Order::Lt))),
+        10 => Some(binary(Operator::Order(Order::Le))),
+        11 => Some(binary(Operator::Order(Order::Gt))),
+        12 => Some(binary(Operator::Order(Order::Ge))),
+        13 => Some(binary(Operator::Logic(Logic::And))),
+        14 => Some(binary(Operator::Logic(Logic::Or))),
+        15 => Some(Kind::Expression(ExpressionKind::Not)),
+        16 => Some(Kind::Expression(ExpressionKind::DeRef)),
+        17 => Some(Kind::Expression(ExpressionKind::ValRef)),
+        20 => Some(Kind::Command(CommandKind::Assign)),
+        21 => Some(Kind::Command(CommandKind::Loop)),
+        22 => Some(Kind::Command(CommandKind::CSeq)),
+        23 => Some(Kind::Command(CommandKind::Blk)),
+        24 => Some(Kind::Command(CommandKind::Call)),
+        25 => Some(Kind::Command(CommandKind::Cond)),
+        30 => Some(Kind::Declaration(DeclarationKind::Bind)),
+        31 => Some(Kind::Declaration(DeclarationKind::DSeq)),
+        40 => Some(Kind::Ref),
+        41 => Some(Kind::Abs),
+        42 => Some(Kind::Formal),
+        _ => None,
+    }
+}
 
-const ONE_CHILD: u64 = 1 << FIXED_AT | WORD_BITS << SHIFT_AT;
+fn binary(operator: Operator) -> Kind
+    ensures { result ≡ expression_kind (binary operator) }
+{
+    Kind::Expression(ExpressionKind::Binary(operator))
+}
 
-const TWO_CHILDREN: u64 = 2 << FIXED_AT | WORD_BITS << SHIFT_AT;
-
-const THREE_CHILDREN: u64 = 3 << FIXED_AT | WORD_BITS << SHIFT_AT;
-
-const COUNTED: u64 = 0 << FIXED_AT | NAME_BITS << SHIFT_AT;
-
-const COUNTED_AND_ONE: u64 = 1 << FIXED_AT | 0 << SHIFT_AT;
-
-// Children that are all of one sort, and all but the last.
-const EACH: u64 = 1 << FOURTH_LAST | 1 << THIRD_LAST | 1 << SECOND_LAST | 1 << LAST;
-
-const EACH_BEFORE: u64 = 1 << FOURTH_LAST | 1 << THIRD_LAST | 1 << SECOND_LAST;
-
-// What an operand may be.
-const ANY_WORD: u64 = 1 << WORD_BITS << OPERANDS_AT;
-
-const A_TRUTH: u64 = 2 << OPERANDS_AT;
-
-const A_NAME: u64 = NAMES << OPERANDS_AT;
-
-const ZERO: u64 = 1 << OPERANDS_AT;
-
-const A_COUNT: u64 = (MOST_PARAMETERS + 1) << OPERANDS_AT;
-
-const NAME_AND_COUNT: u64 = NAMES * (MOST_PARAMETERS + 1) << OPERANDS_AT;
-
-const NAME_AND_CODE: u64 = NAMES * CODES << OPERANDS_AT;
-
-// The rows.
-const NO_KIND: u64 = 0;
-
-const NUM_ROW: u64 = IS_EXPRESSION | NO_CHILD | ANY_WORD;
-
-const BOO_ROW: u64 = IS_EXPRESSION | NO_CHILD | A_TRUTH;
-
-const NAME_ROW: u64 = IS_EXPRESSION | NO_CHILD | A_NAME;
-
-const BINARY_ROW: u64 = IS_EXPRESSION
-    | TWO_CHILDREN
-    | EXPRESSION << SECOND_LAST
-    | EXPRESSION << LAST
-    | ZERO;
-
-const NOT_ROW: u64 = IS_EXPRESSION | ONE_CHILD | EXPRESSION << LAST | ZERO;
-
-const ASSIGN_ROW: u64 = IS_COMMAND | ONE_CHILD | EXPRESSION << LAST | A_NAME;
-
-const LOOP_ROW: u64 = IS_COMMAND
-    | TWO_CHILDREN
-    | EXPRESSION << SECOND_LAST
-    | COMMAND << LAST
-    | ZERO;
-
-const CSEQ_ROW: u64 = IS_COMMAND | TWO_CHILDREN | COMMAND << SECOND_LAST | COMMAND << LAST | ZERO;
-
-const BLK_ROW: u64 = IS_BLOCK | TWO_CHILDREN | DECLARATION << SECOND_LAST | COMMAND << LAST | ZERO;
-
-const CALL_ROW: u64 = IS_COMMAND | COUNTED | EXPRESSION * EACH | NAME_AND_COUNT;
-
-const COND_ROW: u64 = IS_COMMAND
-    | THREE_CHILDREN
-    | EXPRESSION << THIRD_LAST
-    | COMMAND << SECOND_LAST
-    | COMMAND << LAST
-    | ZERO;
-
-const BIND_ROW: u64 = IS_DECLARATION | ONE_CHILD | BOUND << LAST | A_NAME;
-
-const DSEQ_ROW: u64 = IS_DECLARATION
-    | TWO_CHILDREN
-    | DECLARATION << SECOND_LAST
-    | DECLARATION << LAST
-    | ZERO;
-
-const REF_ROW: u64 = IS_BOUND | ONE_CHILD | EXPRESSION << LAST | ZERO;
-
-const ABS_ROW: u64 = IS_BOUND | COUNTED_AND_ONE | FORMAL * EACH_BEFORE | BLOCK << LAST | A_COUNT;
-
-const FORMAL_ROW: u64 = IS_FORMAL | NO_CHILD | NAME_AND_CODE;
-
-// The row of the kind with this number; 0 where none has it.
-pub(crate) fn row(kind: usize) -> u64
-    ensures { result ≡ row_at kind }
+// Whether a kind is of this sort.
+fn is_of(sort: Sort, kind: Kind) -> bool
+    ensures { result ≡ is_of sort kind }
 {
     match kind {
-        kinds::NUM => NUM_ROW,
-        kinds::BOO => BOO_ROW,
-        kinds::ID => NAME_ROW,
-        kinds::SUM => BINARY_ROW,
-        kinds::SUB => BINARY_ROW,
-        kinds::MUL => BINARY_ROW,
-        kinds::DIV => BINARY_ROW,
-        kinds::EQ => BINARY_ROW,
-        kinds::LT => BINARY_ROW,
-        kinds::LE => BINARY_ROW,
-        kinds::GT => BINARY_ROW,
-        kinds::GE => BINARY_ROW,
-        kinds::AND => BINARY_ROW,
-        kinds::OR => BINARY_ROW,
-        kinds::NOT => NOT_ROW,
-        kinds::DEREF => NAME_ROW,
-        kinds::VALREF => NAME_ROW,
-        kinds::ASSIGN => ASSIGN_ROW,
-        kinds::LOOP => LOOP_ROW,
-        kinds::CSEQ => CSEQ_ROW,
-        kinds::BLK => BLK_ROW,
-        kinds::CALL => CALL_ROW,
-        kinds::COND => COND_ROW,
-        kinds::BIND => BIND_ROW,
-        kinds::DSEQ => DSEQ_ROW,
-        kinds::REF => REF_ROW,
-        kinds::ABS => ABS_ROW,
-        kinds::FORMAL => FORMAL_ROW,
-        _ => NO_KIND,
+        Kind::Expression(_) => matches!(sort, Sort::Expression | Sort::Bound | Sort::Root),
+        Kind::Command(CommandKind::Blk) => {
+            matches!(sort, Sort::Command | Sort::Block | Sort::Root)
+        }
+        Kind::Command(_) => matches!(sort, Sort::Command | Sort::Root),
+        Kind::Declaration(_) => matches!(sort, Sort::Declaration),
+        Kind::Ref | Kind::Abs => matches!(sort, Sort::Bound),
+        Kind::Formal => matches!(sort, Sort::Formal),
     }
 }
 
-// The checks of a node but its depth, by its kind's row: kind, wrong sort, operand; 0 where it passes them.
-pub(crate) fn node_fault(row: u64, operand: u64, sort: u64) -> u64
-    requires { sort < sort_numbers }
-    ensures { (kind : ℕ) → row ≡ row_at kind → result ≡ fault_of sort kind operand }
+// The operands of a kind are the numbers below this one.
+#[tactic(auto, unfolding(rules::specs::paper::Kinds::operand_bound))]
+fn operand_bound(kind: Kind) -> u64
+    ensures { result ≡ operand_bound kind }
 {
-    if row == NO_KIND {
-        return refusals::KIND;
+    match kind {
+        Kind::Expression(ExpressionKind::Num) => WORDS,
+        Kind::Expression(ExpressionKind::Boo) => 2,
+        Kind::Expression(ExpressionKind::Id | ExpressionKind::DeRef | ExpressionKind::ValRef)
+        | Kind::Command(CommandKind::Assign)
+        | Kind::Declaration(DeclarationKind::Bind) => NAMES,
+        Kind::Expression(ExpressionKind::Binary(_) | ExpressionKind::Not)
+        | Kind::Command(
+            CommandKind::Loop | CommandKind::CSeq | CommandKind::Blk | CommandKind::Cond,
+        )
+        | Kind::Declaration(DeclarationKind::DSeq)
+        | Kind::Ref => 1,
+        Kind::Command(CommandKind::Call) => NAMES * (MOST_PARAMETERS + 1),
+        Kind::Abs => MOST_PARAMETERS + 1,
+        Kind::Formal => NAMES * CODES,
     }
-    if (row >> sort) % 2 == 0 {
-        return refusals::TREE;
-    }
-    if row >> OPERANDS_AT <= operand {
-        return refusals::OPERAND;
-    }
-    0
 }
 
-// How many children a node has, by its kind's row.
-pub(crate) fn child_count(row: u64, operand: u64) -> usize
+// The checks of a node by its own words, but for its depth: its kind, a wrong sort, its operand. The kind of one that passes them.
+pub(crate) fn passing(number: u64, operand: u64, sort: Sort, place: usize) -> Result<Kind, Refused>
+    ensures { result ≡ passing sort number operand place }
+{
+    let Some(kind) = kind_of(number) else {
+        return Err(Refused {
+            refusal: Refusal::Kind,
+            place,
+        });
+    };
+    if !is_of(sort, kind) {
+        return Err(Refused {
+            refusal: Refusal::Tree,
+            place,
+        });
+    }
+    if operand_bound(kind) <= operand {
+        return Err(Refused {
+            refusal: Refusal::Operand,
+            place,
+        });
+    }
+    Ok(kind)
+}
+
+// The children of a node: so many of one sort, and behind them so many of another.
+#[derive(Clone, Copy, Debug, PartialEq, Eq)]
+pub(crate) struct Children {
+    firsts: u64,
+    first: Sort,
+    others: u64,
+    other: Sort,
+}
+
+impl Children {
+    fn each(count: u64, sort: Sort) -> Children
+        ensures { result ≡ runs count sort 0 sort }
+    {
+        Children {
+            firsts: count,
+            first: sort,
+            others: 0,
+            other: sort,
+        }
+    }
+
+    fn then(self, count: u64, sort: Sort) -> Children
+        ensures { result ≡ runs self.firsts self.first count sort }
+    {
+        Children {
+            others: count,
+            other: sort,
+            ..self
+        }
+    }
+
+    // How many there are.
+    pub(crate) fn count(self) -> u64
+        requires { self.firsts + self.others ≤ words }
+        ensures { result ≡ length (sorts_of_children self) }
+    {
+        self.firsts + self.others
+    }
+
+    // The sort of the one that has this many before it.
+    pub(crate) fn sort(self, index: u64) -> Sort
+        requires { index < length (sorts_of_children self) }
+        ensures { drop index (sorts_of_children self) ≡ result ∷ drop (index + 1) (sorts_of_children self) }
+    {
+        if index < self.firsts {
+            self.first
+        } else {
+            self.other
+        }
+    }
+}
+
+// The children of a node of this kind with this operand.
+pub(crate) fn children_of(kind: Kind, operand: u64) -> Children
     requires { operand < words }
-    ensures { (k : Kind) → row ≡ row_word k → result ≡ length (child_sorts k operand) }
+    ensures sorts { sorts_of_children result ≡ child_sorts kind operand }
+    ensures few { result.firsts + result.others ≤ words }
 {
-    let fixed = (row >> FIXED_AT) % FIXED_ROOM;
-    let shift = (row >> SHIFT_AT) % SHIFT_ROOM;
-    (fixed + (operand >> shift)) as usize
-}
-
-// The sort of the child that has this many with it to come, by its parent's kind's row.
-pub(crate) fn child_sort(row: u64, left: usize) -> u64
-    requires { 0 < left }
-    ensures { (k : Kind) (w : ℕ) → row ≡ row_word k → left ≤ length (child_sorts k w) → SortedAt (child_sorts k w) left result }
-{
-    if LAST_CHILDREN < left {
-        (row >> FOURTH_LAST) % SORT_ROOM
-    } else {
-        (row >> (SORTS_AT + SORT_BITS * (left - 1))) % SORT_ROOM
+    match kind {
+        Kind::Expression(ExpressionKind::Binary(_)) => Children::each(2, Sort::Expression),
+        Kind::Expression(ExpressionKind::Not) => Children::each(1, Sort::Expression),
+        Kind::Expression(_) => Children::each(0, Sort::Expression),
+        Kind::Command(CommandKind::Assign) => Children::each(1, Sort::Expression),
+        Kind::Command(CommandKind::Loop) => {
+            Children::each(1, Sort::Expression).then(1, Sort::Command)
+        }
+        Kind::Command(CommandKind::CSeq) => Children::each(2, Sort::Command),
+        Kind::Command(CommandKind::Blk) => {
+            Children::each(1, Sort::Declaration).then(1, Sort::Command)
+        }
+        Kind::Command(CommandKind::Call) => Children::each(operand / NAMES, Sort::Expression),
+        Kind::Command(CommandKind::Cond) => {
+            Children::each(1, Sort::Expression).then(2, Sort::Command)
+        }
+        Kind::Declaration(DeclarationKind::Bind) => Children::each(1, Sort::Bound),
+        Kind::Declaration(DeclarationKind::DSeq) => Children::each(2, Sort::Declaration),
+        Kind::Ref => Children::each(1, Sort::Expression),
+        Kind::Abs => Children::each(operand, Sort::Formal).then(1, Sort::Block),
+        Kind::Formal => Children::each(0, Sort::Formal),
     }
 }

@@ -1,14 +1,11 @@
 -- What a transfer of bytes comes to by the answers of the system: a call that a signal interrupts is taken up again, one that moves bytes
 -- is followed by one for the rest, one that moves nothing ends the transfer, and any other failure is the transfer's.
-use Rattle.std.specs.Prelude.{ℕ, zero, suc, ◌-◌, ◌<◌, ◌≤◌, ◌≡◌, Bool, true, false, Result, Ok, Err}
+use Rattle.std.specs.Prelude.{ℕ, zero, suc, ◌-◌, ◌<◌, ◌≤◌, ◌≡◌, Bool, true, false, Option, None, Some, Result, Ok, Err}
 use Rattle.std.specs.IoError.{error_kind}
 use Rattle.std.specs.declared.io.Error.{Error}
 use Rattle.std.specs.declared.io.ErrorKind.{ErrorKind}
 use Rattle.std.specs.declared.io.ErrorKind.TheVariants.{Interrupted}
-use Rattle.streams.specs.declared.Ended.{Ended}
-use Rattle.streams.specs.declared.Ended.TheVariants as End
-use Rattle.streams.specs.declared.Next.{Next}
-use Rattle.streams.specs.declared.Next.TheVariants.{On, Nothing, Failed}
+use Rattle.streams.specs.declared.Left.{Left}
 
 -- What a call for so many bytes may answer: an error, or how many bytes it moved, at most so many.
 abbrev pub Moved : ℕ → Result ℕ Error → Type 0
@@ -28,32 +25,41 @@ is_interruption_kind _ = false
 abbrev pub is_interruption : Error → Bool
 is_interruption error = is_interruption_kind (error_kind error)
 
+-- What is left of a transfer of so many bytes before its first call.
+abbrev pub at_first : (bytes : ℕ) → Left
+at_first n = record { bytes = n; interruptions = most_interruptions }
+
+-- What a call leaves: what there still is to move, nothing where it moved none, or its failure.
+abbrev pub Next : Type 0
+Next = Result (Option Left) Error
+
 -- A call was interrupted, with so many interruptions left to be borne.
-abbrev pub after_interruption : (error : Error) → (left interruptions : ℕ) → Next
-after_interruption error left zero = Failed error
-after_interruption error left (suc i) = On left i
+abbrev pub after_interruption : (error : Error) → (bytes interruptions : ℕ) → Next
+after_interruption error n zero = Err error
+after_interruption error n (suc i) = Ok (Some (record { bytes = n; interruptions = i }))
 
 -- A call failed, by an interruption or otherwise.
-abbrev pub after_failure : (interrupted : Bool) → (error : Error) → (left interruptions : ℕ) → Next
-after_failure true error left i = after_interruption error left i
-after_failure false error left i = Failed error
+abbrev pub after_failure : (interrupted : Bool) → (error : Error) → Left → Next
+after_failure true error left = after_interruption error left.bytes left.interruptions
+after_failure false error left = Err error
 
--- What comes after a call for so many bytes.
-abbrev pub after_call : (left interruptions : ℕ) → (answer : Result ℕ Error) → Next
-after_call left i (Ok zero) = Nothing
-after_call left i (Ok (suc k)) = On (left - suc k) i
-after_call left i (Err error) = after_failure (is_interruption error) error left i
+-- What comes after a call for the bytes that are left.
+abbrev pub after_call : Left → (answer : Result ℕ Error) → Next
+after_call left (Ok zero) = Ok None
+after_call left (Ok (suc k)) = Ok (Some (record { bytes = left.bytes - suc k; interruptions = left.interruptions }))
+after_call left (Err error) = after_failure (is_interruption error) error left
 
--- This comes after a call for so many bytes, by some answer that its contract allows.
-pub record Answered (left interruptions : ℕ) (next : Next) : Type 0 where
+-- This comes after a call for the bytes that are left, by some answer that its contract allows.
+pub record Answered (left : Left) (next : Next) : Type 0 where
   pub answer : Result ℕ Error
-  pub moved : Moved left answer
-  pub is : next ≡ after_call left interruptions answer
+  pub moved : Moved left.bytes answer
+  pub is : next ≡ after_call left answer
 
--- How a transfer of so many bytes can end. The answers are any that the calls' contracts allow, since a contract cannot name those that the
--- system gave; so what this fixes by itself is where an end may lie (`stops_within`), and `after_call` what is made of each answer.
-pub data Transfers : (left interruptions : ℕ) → Ended → Type 0 where
-  all : {i : ℕ} → Transfers zero i End.Full
-  on : {left i left' i' : ℕ} {r : Ended} → 0 < left → Answered left i (On left' i') → Transfers left' i' r → Transfers left i r
-  nothing : {left i : ℕ} → 0 < left → Answered left i Nothing → Transfers left i (End.Nothing left)
-  failed : {left i : ℕ} {error : Error} → 0 < left → Answered left i (Failed error) → Transfers left i (End.Failed error)
+-- How a transfer of so many bytes can end, from where this is left of it: all are moved, or those before a call that moved nothing, or a call
+-- failed. The answers are any that the calls' contracts allow, since a contract cannot name those that the system gave; so what this fixes by
+-- itself is where an end may lie (`stops_within`), and `after_call` what is made of each answer.
+pub data Transfers (all_bytes : ℕ) : Left → Result ℕ Error → Type 0 where
+  all : {left : Left} → left.bytes ≤ 0 → Transfers all_bytes left (Ok all_bytes)
+  on : {left rest : Left} {r : Result ℕ Error} → 0 < left.bytes → Answered left (Ok (Some rest)) → Transfers all_bytes rest r → Transfers all_bytes left r
+  nothing : {left : Left} → 0 < left.bytes → Answered left (Ok None) → Transfers all_bytes left (Ok (all_bytes - left.bytes))
+  failed : {left : Left} {error : Error} → 0 < left.bytes → Answered left (Err error) → Transfers all_bytes left (Err error)

@@ -8,7 +8,7 @@
 
 ghost use Rattle.std.specs.Prelude.{◌≡◌, ◌-◌, ◌<◌, ◌≤◌, length, take};
 ghost use Rattle.std.specs.Io.KnownBytes.{Consumes, Appends};
-ghost use Rattle.streams.specs.Transfers.{Moved, most_interruptions, is_interruption, after_failure, after_call, Answered, Transfers};
+ghost use Rattle.streams.specs.Transfers.{Moved, at_first, is_interruption, after_failure, after_call, Answered, Transfers};
 ghost use Rattle.streams.specs.MovedBytes.{part_moved, EndsAfter, Receives, ReceivesAll, Sends};
 
 use std::io;
@@ -17,113 +17,108 @@ use std::io::{ErrorKind, Read, Write};
 // The interruptions of one transfer that are borne: the next one counts as a failure, so that every transfer ends.
 pub const MOST_INTERRUPTIONS: u64 = 1000000;
 
-// How a transfer ended.
-#[derive(Drop)]
-pub enum Ended {
-    // Every byte of the buffer was moved.
-    Full,
-    // A call moved nothing, with so many bytes left: the end of the input, or an output that takes no more.
-    Nothing(usize),
-    // A call failed, for this reason.
-    Failed(io::Error),
+// What is left of a transfer: so many bytes to move, and so many interruptions that are still borne.
+#[derive(Clone, Copy, Debug, PartialEq, Eq)]
+pub(crate) struct Left {
+    bytes: usize,
+    interruptions: u64,
 }
 
-// What comes after one call: how many bytes and how many interruptions are left, or the end of the transfer.
-#[derive(Drop)]
-pub(crate) enum Next {
-    On(usize, u64),
-    Nothing,
-    Failed(io::Error),
+impl Left {
+    // All of a buffer with so many bytes.
+    fn all(bytes: usize) -> Left
+        ensures { result ≡ at_first bytes }
+    {
+        Left {
+            bytes,
+            interruptions: MOST_INTERRUPTIONS,
+        }
+    }
 }
 
-// What comes after a call for so many bytes, by its answer.
-fn after(left: usize, interruptions: u64, answer: io::Result<usize>) -> Next
-    requires { Moved left answer }
-    ensures { result ≡ after_call left interruptions answer }
+// What is left after a call for the bytes that were left, by its answer; nothing where the call moved none.
+fn after(left: Left, answer: io::Result<usize>) -> io::Result<Option<Left>>
+    requires { Moved left.bytes answer }
+    ensures { result ≡ after_call left answer }
 {
     match answer {
-        Ok(0) => Next::Nothing,
-        Ok(moved) => Next::On(left - moved, interruptions),
-        Err(error) => after_failure(left, interruptions, error),
+        Ok(0) => Ok(None),
+        Ok(moved) => Ok(Some(Left {
+            bytes: left.bytes - moved,
+            interruptions: left.interruptions,
+        })),
+        Err(error) => after_failure(left, error),
     }
 }
 
-// What comes after a call that failed, by its error.
-fn after_failure(left: usize, interruptions: u64, error: io::Error) -> Next
-    ensures { result ≡ after_failure (is_interruption error) error left interruptions }
+// What is left after a call that failed, by its error.
+fn after_failure(left: Left, error: io::Error) -> io::Result<Option<Left>>
+    ensures { result ≡ after_failure (is_interruption error) error left }
 {
-    if error.kind() != ErrorKind::Interrupted {
-        return Next::Failed(error);
+    if error.kind() != ErrorKind::Interrupted || left.interruptions == 0 {
+        return Err(error);
     }
-    if interruptions == 0 {
-        return Next::Failed(error);
-    }
-    Next::On(left, interruptions - 1)
+    Ok(Some(Left {
+        bytes: left.bytes,
+        interruptions: left.interruptions - 1,
+    }))
 }
 
 // One read into the last bytes of the buffer.
-fn receive_some<R: Read>(reader: &mut R, input: &mut [u8], left: usize, interruptions: u64) -> Next
-    requires { left ≤ length input.old }
-    ensures answered { Answered left interruptions result }
-    ensures bytes { Consumes (R.remaining reader.old) (R.remaining reader.new) (part_moved left result input.new) }
-    ensures front { let from = length input.old - left in take from input.new ≡ take from input.old }
-    ensures end { 0 < left → EndsAfter (R.remaining reader.new) result }
+fn receive_some<R: Read>(reader: &mut R, input: &mut [u8], left: Left) -> io::Result<Option<Left>>
+    requires { left.bytes ≤ length input.old }
+    ensures answered { Answered left result }
+    ensures bytes { Consumes (R.remaining reader.old) (R.remaining reader.new) (part_moved left.bytes result input.new) }
+    ensures front { let from = length input.old - left.bytes in take from input.new ≡ take from input.old }
+    ensures end { 0 < left.bytes → EndsAfter (R.remaining reader.new) result }
 {
-    let from = input.len() - left;
+    let from = input.len() - left.bytes;
     let answer = reader.read(&mut input[from..]);
-    after(left, interruptions, answer)
+    after(left, answer)
 }
 
 // One write of the last bytes of the buffer.
-fn send_some<W: Write>(writer: &mut W, output: &[u8], left: usize, interruptions: u64) -> Next
-    requires { left ≤ length output.now }
-    ensures answered { Answered left interruptions result }
-    ensures bytes { Appends (W.contents writer.old) (W.contents writer.new) (part_moved left result output.now) }
+fn send_some<W: Write>(writer: &mut W, output: &[u8], left: Left) -> io::Result<Option<Left>>
+    requires { left.bytes ≤ length output.now }
+    ensures answered { Answered left result }
+    ensures bytes { Appends (W.contents writer.old) (W.contents writer.new) (part_moved left.bytes result output.now) }
 {
-    let from = output.len() - left;
+    let from = output.len() - left.bytes;
     let answer = writer.write(&output[from..]);
-    after(left, interruptions, answer)
+    after(left, answer)
 }
 
-// Reads into the buffer, until it is full or the input ends.
-pub fn receive<R: Read>(reader: &mut R, input: &mut [u8]) -> Ended
-    ensures transfers { Transfers (length input.old) most_interruptions result }
+// Reads into the buffer, until it is full or a call moves nothing, at the end of the input: how many bytes were moved.
+pub fn receive<R: Read>(reader: &mut R, input: &mut [u8]) -> io::Result<usize>
+    ensures transfers { Transfers (length input.old) (at_first (length input.old)) result }
     ensures bytes { Receives (R.remaining reader.old) (R.remaining reader.new) input.new result }
-    ensures end { ReceivesAll (R.remaining reader.new) result }
+    ensures end { ReceivesAll (length input.old) (R.remaining reader.new) result }
 {
-    let mut left = input.len();
-    let mut interruptions = MOST_INTERRUPTIONS;
-    while left > 0 {
-        match receive_some(reader, input, left, interruptions) {
-            Next::On(bytes, borne) => {
-                left = bytes;
-                interruptions = borne;
-            }
-            Next::Nothing => return Ended::Nothing(left),
-            Next::Failed(error) => return Ended::Failed(error),
+    let mut left = Left::all(input.len());
+    while left.bytes > 0 {
+        match receive_some(reader, input, left)? {
+            Some(rest) => left = rest,
+            None => return Ok(input.len() - left.bytes),
         }
     }
-    Ended::Full
+    Ok(input.len())
 }
 
-// Writes the buffer.
-pub fn send<W: Write>(writer: &mut W, output: &[u8]) -> Ended
-    ensures transfers { Transfers (length output.now) most_interruptions result }
+// Writes the buffer, until all of it is written or a call moves nothing, where the output takes no more: how many bytes were moved.
+// It goes round as `receive` does. One loop for both would take a closure, but a proof knows nothing of what a closure has borrowed and changed;
+// or a trait with two structs of references, which is longer than the loop.
+pub fn send<W: Write>(writer: &mut W, output: &[u8]) -> io::Result<usize>
+    ensures transfers { Transfers (length output.now) (at_first (length output.now)) result }
     ensures bytes { Sends (W.contents writer.old) (W.contents writer.new) output.now result }
 {
-    let mut left = output.len();
-    let mut interruptions = MOST_INTERRUPTIONS;
-    while left > 0 {
-        match send_some(writer, output, left, interruptions) {
-            Next::On(bytes, borne) => {
-                left = bytes;
-                interruptions = borne;
-            }
-            Next::Nothing => return Ended::Nothing(left),
-            Next::Failed(error) => return Ended::Failed(error),
+    let mut left = Left::all(output.len());
+    while left.bytes > 0 {
+        match send_some(writer, output, left)? {
+            Some(rest) => left = rest,
+            None => return Ok(output.len() - left.bytes),
         }
     }
-    Ended::Full
+    Ok(output.len())
 }
 
 #[cfg(test)]

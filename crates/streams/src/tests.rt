@@ -1,7 +1,7 @@
 // Each transfer over memory, and with calls that move parts, are interrupted or fail.
 ghost use Rattle.std.specs.Prelude.{◌≤◌, IfOk, length};
 
-use super::{Ended, receive, send};
+use super::{receive, send};
 use std::io;
 use std::io::{Read, Write};
 
@@ -61,19 +61,22 @@ enum Summary {
     Failed(Option<i32>),
 }
 
-fn summed_up(ended: Ended) -> Summary {
-    match ended {
-        Ended::Full => Summary::Full,
-        Ended::Nothing(left) => Summary::Left(left),
-        Ended::Failed(error) => Summary::Failed(error.raw_os_error()),
+fn summed_up(moved: io::Result<usize>, bytes: usize) -> Summary {
+    match moved {
+        Ok(count) if count == bytes => Summary::Full,
+        Ok(count) => Summary::Left(bytes.saturating_sub(count)),
+        Err(error) => Summary::Failed(error.raw_os_error()),
     }
 }
 
 // How a transfer of 10 bytes ends either way, by calls that answer so.
 fn both(answers: &[Answer]) -> (Summary, Summary) {
     let mut input = [0u8; 10];
-    let received = summed_up(receive(&mut Scripted(answers), &mut input));
-    (received, summed_up(send(&mut Scripted(answers), &input)))
+    let received = summed_up(receive(&mut Scripted(answers), &mut input), 10);
+    (
+        received,
+        summed_up(send(&mut Scripted(answers), &input), 10),
+    )
 }
 
 #[test]
@@ -81,12 +84,12 @@ fn memory_is_moved(rt: HostRuntime) {
     let mut input = [0u8; 4];
     let mut source: &[u8] = b"abc";
     assert_eq!(rt;
-        summed_up(receive(&mut source, &mut input)),
+        summed_up(receive(&mut source, &mut input), 4),
         Summary::Left(1)
     );
     assert_eq!(rt; &input[..], &b"abc\0"[..]);
     let mut written = Vec::new(rt.alloc());
-    assert_eq!(rt; summed_up(send(&mut written, &input)), Summary::Full);
+    assert_eq!(rt; summed_up(send(&mut written, &input), 4), Summary::Full);
     assert_eq!(rt; written.as_slice(), &b"abc\0"[..]);
 }
 

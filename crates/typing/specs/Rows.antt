@@ -1,6 +1,6 @@
 -- The scope as the work words hold it: a row for each node that binds a name, from word `rows_from` on, with a link to the row before it.
 -- A row is found by a pointer, one more than its node; pointer 0 stands for the registers.
-use Rattle.std.specs.Prelude.{ℕ, suc, ◌+◌, ◌-◌, ◌*◌, ◌<◌, ◌≤◌, ◌≡◌, Bool, List, [], ◌∷◌, ◌++◌, length, get_or}
+use Rattle.std.specs.Prelude.{ℕ, suc, ◌+◌, ◌-◌, ◌*◌, ◌<◌, ◌≤◌, ◌≡◌, Bool, List, [], ◌∷◌, ◌++◌, length, get_or, Option, Some, None}
 use Rattle.std.proofs.Math.Option.{none, some}
 use Rattle.rules.specs.paper.Limits.{most_nodes, names, codes}
 use Rattle.rules.specs.paper.Tree.{Formal}
@@ -59,13 +59,13 @@ pub record ScopeAt (words : List ℕ) (registers pointer : ℕ) (Γ : Scope) : T
   pub rows : Rows words pointer 0 own
   pub whole : Γ ≡ own ++ register_scope registers
 
--- What looking for a name among rows finds: the pointer of its newest row, or where the rows end.
-pub data RowFound (words : List ℕ) (to name : ℕ) (Δ : Scope) : ℕ → Type 0 where
-  absent : meaning_of name Δ ≡ none → RowFound words to name Δ to
-  present : {k l : ℕ} {m : Meaning} → meaning_of name Δ ≡ some m → HasRow words k name (meaning_number m) l → MeaningAt words k m → to ≤ k → RowFound words to name Δ (suc k)
+-- What looking for a name among rows finds: the pointer of its newest row.
+pub data RowFound (words : List ℕ) (to name : ℕ) (Δ : Scope) : Option ℕ → Type 0 where
+  absent : meaning_of name Δ ≡ none → RowFound words to name Δ None
+  present : {k l : ℕ} {m : Meaning} → meaning_of name Δ ≡ some m → HasRow words k name (meaning_number m) l → MeaningAt words k m → to ≤ k → RowFound words to name Δ (Some (suc k))
 
 -- A name's newest row, whatever names the rows hold.
-abbrev pub RowFoundAt : List ℕ → (from to name : ℕ) → ℕ → Type 0
+abbrev pub RowFoundAt : List ℕ → (from to name : ℕ) → Option ℕ → Type 0
 RowFoundAt words from to name r = (Δ : Scope) → Rows words from to Δ → RowFound words to name Δ r
 
 -- Whether some name from the second pointer to the third stands from the first to the second too.

@@ -3,5 +3,4 @@
 
 pub mod codes;
 pub mod expressions;
-pub mod refusals;
 pub mod scope;

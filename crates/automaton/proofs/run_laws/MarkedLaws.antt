@@ -4,7 +4,7 @@ use mathlib.Core.Path.{◌≡◌, refl, sym, ap, ◌∙◌, subst}
 use mathlib.Core.Bool.{false}
 use mathlib.Core.List.{List, [], ◌∷◌}
 use native.Mathlib.Omega.{arith}
-use Rattle.rules.specs.paper.Refusals.{Reason}
+use Rattle.rules.specs.declared.refusals.Reason.{Reason}
 use Rattle.rules.specs.paper.States.{State, state}
 use Rattle.rules.specs.paper.Rules.{Rule, Effect, Applies}
 use Rattle.rules.specs.paper.Run.{made, withheld, judge}
@@ -13,8 +13,7 @@ use Rattle.rules.specs.paper.HighMarks.{size, high_marks}
 use Rattle.rules.proofs.running.HighMarkLaws.{here_counted, marks_spent, marks_at_end, marks_withheld, marks_made}
 use Rattle.machine.specs.Steps.{Holds}
 use Rattle.machine.specs.declared.Machine.{Machine}
-use Rattle.machine.specs.declared.Stepped.{Stepped}
-use Rattle.machine.specs.declared.Stepped.TheVariants.{Made}
+use Rattle.std.specs.Prelude.{Result, Ok}
 use Rattle.machine.proofs.state_laws.ModelLaws as model_laws
 use Rattle.automaton.specs.Runs.{marks_of}
 use Rattle.automaton.specs.Meter.{first_marks, all_raised, after_step, Covers}
@@ -65,7 +64,7 @@ module _ (budget : ℕ) (first : State) (σ : State) (words : List ℕ) (m : Mac
 
   -- A step is made.
   pub marked_on : (left : ℕ) → Marked budget first (suc left) σ m h → (r : Rule) (e : Effect) (τ : State) → Applies r σ e → judge false e ≡ made τ → (after : List ℕ) (next : Machine) → Holds after next τ →
-      (answer : Stepped) → answer ≡ Made next → Marked budget first left τ next (after_step h answer)
+      (answer : Result Machine Reason) → answer ≡ Ok next → Marked budget first left τ next (after_step h answer)
   marked_on left marked r e τ line q after next held_next answer is =
       subst (λ a. Marked budget first left τ next (after_step h a)) (sym is)
       (record {

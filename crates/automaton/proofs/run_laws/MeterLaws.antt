@@ -19,8 +19,8 @@ use Rattle.machine.specs.Regions.{regions}
 use Rattle.machine.specs.Represents.{Mode, ControlAs, operator_on, not_on, assign_on, loop_on, conditional_on, ref_on, bind_on, dseq_extend_on, dseq_join_on, extend_on, leave_on, call_on}
 use Rattle.machine.specs.Steps.{Holds, StepAnswer}
 use Rattle.machine.specs.declared.Machine.{Machine}
-use Rattle.machine.specs.declared.Stepped.{Stepped}
-use Rattle.machine.specs.declared.Stepped.TheVariants.{Made}
+use Rattle.std.specs.Prelude.{Result, Ok}
+use Rattle.rules.specs.declared.refusals.Reason.{Reason}
 use Rattle.machine.proofs.state_laws.ModelLaws.{Sizes, sizes}
 use Rattle.automaton.specs.Runs.{EnabledAt, Enabled, StepsFrom}
 use Rattle.automaton.specs.Meter.{first_that_raises, stacks_raised, all_raised, after_step, marks_by_word, Covers}
@@ -32,8 +32,8 @@ use Rattle.automaton.proofs.step_laws.MarkRuleLaws.{leave_kind, call_kind}
 
 is_node : {words : List ℕ} {w : ℕ} {i : Item} → ItemSort words w i → w < mark_base → IsNode i
 is_node (expression_sort l k) h = tt
-is_node (command_sort l a b) h = tt
-is_node (declaration_sort l a b) h = tt
+is_node (command_sort l n) h = tt
+is_node (declaration_sort l n) h = tt
 is_node (reference_sort l q) h = tt
 is_node (abstraction_sort l q) h = tt
 is_node (mark_sort l) h = absurd (omega (arith, l, h))
@@ -54,7 +54,7 @@ raises_nothing (call_on {w = w} {x = x} {k = k} q a b h) l = absurd (omega (arit
 
 -- ---- The tests of the code.
 
-module _ (h : HighMarks) (w : ℕ) (answer : Stepped) (next : Machine) (q : answer ≡ Made next) where
+module _ (h : HighMarks) (w : ℕ) (answer : Result Machine Reason) (next : Machine) (q : answer ≡ Ok next) where
   pub node_marks : w < mark_base → stacks_raised h next ≡ marks_by_word h w answer
   node_marks l =
       subst (λ a. stacks_raised h next ≡ marks_by_word h w a) (sym q)
@@ -84,7 +84,7 @@ same_marks p q r s = λ i. record { cells = p i; bindings = q i; values = r i; c
 module _ (words : List ℕ) (m : Machine) (h : HighMarks) (covers : Covers h m) (after : List ℕ) where
   by_item : (next : Machine) (w : ℕ) → w ≡ get_or words (top_control + m.control) 0 → {i : Item} {C : List Item} {X : List Entry} {E : Environment} {S : Store} {L : List ℕ} {n : ℕ} {r : Rule} →
       (C' : List Item) (X' : List Entry) (E' : Environment) (S' : Store) (L' : List ℕ) (n' : ℕ) → EnabledAt words m i C X E S L n r (goes (state C' X' E' S' L' n')) →
-      Holds after next (state C' X' E' S' L' n') → marks_by_word h w (Made next) ≡ all_raised h next
+      Holds after next (state C' X' E' S' L' n') → marks_by_word h w (Ok next) ≡ all_raised h next
   by_item next w top {i} {C} {X} {E} {S} {L} {n} {r} C' X' E' S' L' n' enabled held = by (ltb w mark_base) refl (ltb (w % mark_numbers) first_that_raises) refl
     where
       before : Sizes m (i ∷ C) X S n
@@ -111,8 +111,8 @@ module _ (words : List ℕ) (m : Machine) (h : HighMarks) (covers : Covers h m) 
       quiet : {j : Item} → ItemSort words w j → mark_base ≤ w → w % mark_numbers < first_that_raises → {nodes : List ℕ} {mode : Mode} {ws : List ℕ} → ControlAs nodes mode (w ∷ ws) (j ∷ C) →
           Table C E S L n r j X (goes (state C' X' E' S' L' n')) → NoneAbove (length C) (length X) (length S) n (goes (state C' X' E' S' L' n'))
       quiet (expression_sort l k) high low c line = absurd (omega (arith, l, high))
-      quiet (command_sort l a b) high low c line = absurd (omega (arith, l, high))
-      quiet (declaration_sort l a b) high low c line = absurd (omega (arith, l, high))
+      quiet (command_sort l n) high low c line = absurd (omega (arith, l, high))
+      quiet (declaration_sort l n) high low c line = absurd (omega (arith, l, high))
       quiet (reference_sort l q) high low c line = absurd (omega (arith, l, high))
       quiet (abstraction_sort l q) high low c line = absurd (omega (arith, l, high))
       quiet (mark_sort l) high low c line = mark_raises_nothing C E S L n line (raises_nothing c low)
@@ -130,7 +130,7 @@ module _ (words : List ℕ) (m : Machine) (h : HighMarks) (covers : Covers h m) 
 
   -- ---- The marks after a step, whatever it answers.
 
-  pub marks_right : (w : ℕ) → w ≡ get_or words (top_control + m.control) 0 → Enabled words m → (answer : Stepped) → StepsFrom words m answer after → marks_by_word h w answer ≡ after_step h answer
+  pub marks_right : (w : ℕ) → w ≡ get_or words (top_control + m.control) 0 → Enabled words m → (answer : Result Machine Reason) → StepsFrom words m answer after → marks_by_word h w answer ≡ after_step h answer
   marks_right w top en answer steps =
       by (judge false en.effect) refl (steps en.item en.control en.values en.environment en.store en.locations en.bindings en.rule en.effect en.enabled)
     where

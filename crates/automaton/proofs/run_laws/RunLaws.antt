@@ -1,11 +1,13 @@
 -- The run's loop: what holds each time round, and how it ends.
-use Prim.Native.Nat.{ℕ, zero, suc, ◌-◌, ◌≤◌}
+use Prim.Native.Nat.{ℕ, zero, suc, ◌+◌}
 use mathlib.Core.Path.{◌≡◌, refl, sym, ap, ◌∙◌, subst}
 use mathlib.Core.Bool.{false}
 use mathlib.Core.List.{List, [], ◌∷◌}
 use native.Mathlib.Omega.{arith}
-use Rattle.rules.specs.paper.Refusals.{Reason, Steps, reason_number}
-use Rattle.rules.specs.paper.Checker.{Scope, Passed}
+use Rattle.rules.specs.declared.refusals.Reason.{Reason}
+use Rattle.rules.specs.declared.refusals.Reason.TheVariants.{Steps}
+use Rattle.rules.specs.paper.Checker.{Scope}
+use Rattle.rules.specs.declared.kinds.Passed.{Passed}
 use Rattle.rules.specs.paper.States.{Environment, Store, Entry, environment, locations, Item, mark, extend_mark, State, state}
 use Rattle.rules.specs.paper.Rules.{Rule, Effect, Applies}
 use Rattle.rules.specs.paper.Fire.{fire, fires}
@@ -19,15 +21,11 @@ use Rattle.rules.proofs.running.World.{World}
 use Rattle.rules.proofs.running.Progress.{Next}
 use Rattle.rules.proofs.running.WholeRun.{progress}
 use Rattle.machine.specs.Steps.{Holds, Untouched, StepAnswer, AtExtendMark}
-use Rattle.automaton.specs.Runs.{EnabledAt, Enabled, StepsFrom, RunAnswer}
+use Rattle.automaton.specs.Runs.{EnabledAt, Enabled, StepsFrom, ending_of, RunAnswer}
 use Rattle.machine.specs.declared.Machine.{Machine}
-use Rattle.machine.specs.declared.Stepped.{Stepped}
-use Rattle.machine.specs.declared.Stepped.TheVariants.{Made, Withheld}
+use Rattle.std.specs.Prelude.{Result, Ok, Err}
 use Rattle.automaton.specs.Meter.{first_marks, after_step}
 use Rattle.automaton.specs.declared.meter.HighMarks.{HighMarks}
-use Rattle.automaton.specs.declared.meter.Record.{Record}
-use Rattle.automaton.specs.declared.Ending as Endings
-use Rattle.automaton.specs.declared.Ending.TheVariants.{Ended, Stopped}
 use Rattle.automaton.proofs.run_laws.MarkedLaws.{Marked, marked_at_start, marked_on, marked_at_end, marked_spent, marked_withheld}
 use Rattle.machine.proofs.state_laws.ModelLaws.{sizes}
 
@@ -125,39 +123,33 @@ spent_end words m (suc left) k σ held d q = absurd (omega (arith, q))
 
 -- ---- Each time round.
 
--- The machine holds a state of the run, from which the run goes on with what is left of the budget.
-pub record Reached (budget : ℕ) (first : State) (a : Passed) (r : ℕ) (before words : List ℕ) (m : Machine) (marks : HighMarks) (left : ℕ) : Type 0 where
+-- After so many steps the machine holds a state of the run, from which the run goes on with what is left of the budget.
+pub record Reached (budget : ℕ) (first : State) (a : Passed) (r : ℕ) (before words : List ℕ) (m : Machine) (marks : HighMarks) (steps left : ℕ) : Type 0 where
   pub now_in : State
   pub history : History
   pub held : Holds words m now_in
   pub invariant : Invariant a r now_in history
-  pub goes_on : run budget 0 first ≡ run left (budget - left) now_in
+  pub goes_on : run budget 0 first ≡ run left steps now_in
   pub marked : Marked budget first left now_in m marks
   pub untouched : Untouched before words
 
-pub at_start : (budget : ℕ) (σ : State) (a : Passed) (r : ℕ) (h : History) (words : List ℕ) (m : Machine) (marks : HighMarks) → marks ≡ first_marks m → Holds words m σ → Invariant a r σ h →
-    Reached budget σ a r words words m marks budget
-at_start budget σ a r h words m marks same held inv =
+pub at_start : (budget : ℕ) (σ : State) (a : Passed) (r : ℕ) (h : History) (words : List ℕ) (m : Machine) (marks : HighMarks) (left : ℕ) → left ≡ budget → marks ≡ first_marks m → Holds words m σ → Invariant a r σ h →
+    Reached budget σ a r words words m marks 0 left
+at_start budget σ a r h words m marks left whole same held inv =
     record {
       now_in = σ;
       history = h;
       held = held;
       invariant = inv;
-      goes_on = ap (λ k. run budget k σ) (none budget);
-      marked = subst (Marked budget σ budget σ m) (sym same) (marked_at_start budget σ words m held);
+      goes_on = ap (λ l. run l 0 σ) (sym whole);
+      marked = subst (λ l. Marked budget σ l σ m marks) (sym whole) (subst (Marked budget σ budget σ m) (sym same) (marked_at_start budget σ words m held));
       untouched = record { same_nodes = refl; same_beyond = refl; same_length = refl };
     }
-  where
-    none : (b : ℕ) → 0 ≡ b - b
-    none b = omega arith
 
-module _ (budget : ℕ) (first : State) (a : Passed) (r : ℕ) (before words : List ℕ) (m : Machine) (marks : HighMarks) (left : ℕ) (here : Reached budget first a r before words m marks left) where
+module _ (budget : ℕ) (first : State) (a : Passed) (r : ℕ) (before words : List ℕ) (m : Machine) (marks : HighMarks) (steps left : ℕ) (here : Reached budget first a r before words m marks steps left) where
   -- What `run` answers with the run's record as it is now.
-  abbrev Answers : Endings.Ending → (after : List ℕ) → Type 0
-  Answers ending after = RunAnswer (high_marks budget first) (run budget 0 first) ending before after
-
-  abbrev reached : Record
-  reached = record { machine = m; marks = marks }
+  abbrev Answers : Result (Unit {0}) Reason → (steps_made : ℕ) → (after : List ℕ) → Type 0
+  Answers outcome k after = RunAnswer (high_marks budget first) (run budget 0 first) (ending_of outcome k m marks) before after
 
   pub enabled_here : (m.control ≡ 0 → ⊥) → Enabled words m
   enabled_here d =
@@ -175,48 +167,44 @@ module _ (budget : ℕ) (first : State) (a : Passed) (r : ℕ) (before words : L
         enabled = μ.enabled;
       }
 
-  pub ends_here : m.control ≡ 0 → Answers (Ended (budget - left) reached) words
-  ends_here q =
-      subst (λ e. RunAnswer (high_marks budget first) e (Ended (budget - left) reached) before words) (sym (here.goes_on ∙ empty_end words m left (budget - left) here.now_in here.held q))
+  pub ends_here : m.control ≡ 0 → (k : ℕ) → k ≡ steps → Answers (Ok tt) k words
+  ends_here q k so_many =
+      subst (λ e. RunAnswer (high_marks budget first) e (ending_of (Ok tt) k m marks) before words) (sym (here.goes_on ∙ empty_end words m left steps here.now_in here.held q))
       (record {
         machine = m;
-        answer_is = ap (λ h. Ended (budget - left) (record { machine = m; marks = h })) (marked_at_end budget first here.now_in words m marks here.held left here.marked q);
+        answer_is = ap (λ n. ending_of (Ok tt) n m marks) so_many ∙ ap (ending_of (Ok tt) steps m) (marked_at_end budget first here.now_in words m marks here.held left here.marked q);
         holds = here.held;
         untouched = here.untouched;
       })
 
-  pub spent_here : (m.control ≡ 0 → ⊥) → left ≡ 0 → Answers (Stopped 30 (budget - left) reached) words
-  unfolding reason_number
-  spent_here d q =
-      subst (λ e. RunAnswer (high_marks budget first) e (Stopped 30 (budget - left) reached) before words) (sym (here.goes_on ∙ spent_end words m left (budget - left) here.now_in here.held d q))
+  pub spent_here : (m.control ≡ 0 → ⊥) → left ≡ 0 → (k : ℕ) → k ≡ steps → Answers (Err Steps) k words
+  spent_here d q k so_many =
+      subst (λ e. RunAnswer (high_marks budget first) e (ending_of (Err Steps) k m marks) before words) (sym (here.goes_on ∙ spent_end words m left steps here.now_in here.held d q))
       (record {
         machine = m;
-        answer_is = ap (λ h. Stopped 30 (budget - left) (record { machine = m; marks = h })) (marked_spent budget first here.now_in words m marks here.held left here.marked q);
+        answer_is = ap (λ n. ending_of (Err Steps) n m marks) so_many ∙ ap (ending_of (Err Steps) steps m) (marked_spent budget first here.now_in words m marks here.held left here.marked q);
         holds = here.held;
         untouched = here.untouched;
       })
 
-  module _ (d : m.control ≡ 0 → ⊥) (some_left : left ≡ 0 → ⊥) (answer : Stepped) (after : List ℕ) (steps : StepsFrom words m answer after) where
+  module _ (d : m.control ≡ 0 → ⊥) (rest : ℕ) (some_left : left ≡ suc rest) (answer : Result Machine Reason) (after : List ℕ) (made_is : StepsFrom words m answer after) where
     abbrev move : Moves words m a r here.now_in here.history
     move = moves words m a r here.now_in here.history here.held here.invariant d
 
     answered : StepAnswer (judge false move.effect) answer words after
     answered =
-        steps move.item move.control move.values move.environment_then move.store move.locations_then move.bindings move.rule move.effect move.enabled
+        made_is move.item move.control move.values move.environment_then move.store move.locations_then move.bindings move.rule move.effect move.enabled
 
-    one_less : (l : ℕ) → (l ≡ 0 → ⊥) → l ≡ suc (l - 1)
-    one_less l e = omega (arith, e)
+    marked_before : Marked budget first (suc rest) here.now_in m marks
+    marked_before = subst (λ l. Marked budget first l here.now_in m marks) some_left here.marked
 
-    marked_before : Marked budget first (suc (left - 1)) here.now_in m marks
-    marked_before = subst (λ l. Marked budget first l here.now_in m marks) (one_less left some_left) here.marked
-
-    same_machine : (s t : Machine) → answer ≡ Made s → answer ≡ Made t → s ≡ t
+    same_machine : (s t : Machine) → answer ≡ Ok s → answer ≡ Ok t → s ≡ t
     same_machine s t p q = cc
 
-    not_both : (s : Machine) (x : ℕ) → answer ≡ Made s → answer ≡ Withheld x → ⊥
-    not_both s x p q = let z : ◌≡◌ {A = ℕ} 0 1 = cc in omega arith
+    not_both : (s : Machine) (x : Reason) → answer ≡ Ok s → answer ≡ Err x → ⊥
+    not_both s x p q = cc
 
-    same_reason : (x y : ℕ) → answer ≡ Withheld x → answer ≡ Withheld y → x ≡ y
+    same_reason : (x y : Reason) → answer ≡ Err x → answer ≡ Err y → x ≡ y
     same_reason x y p q = cc
 
     untouched_then : Untouched words after → Untouched before after
@@ -227,10 +215,13 @@ module _ (budget : ℕ) (first : State) (a : Passed) (r : ℕ) (before words : L
           same_length = u.same_length ∙ here.untouched.same_length;
         }
 
-    pub goes_round : (next : Machine) → answer ≡ Made next → left ≤ budget → (raised : HighMarks) → raised ≡ after_step marks answer → Reached budget first a r before after next raised (left - 1)
-    goes_round next q low raised same = by (judge false move.effect) refl answered
+    pub goes_round : (next : Machine) → answer ≡ Ok next → (raised : HighMarks) → raised ≡ after_step marks answer → Reached budget first a r before after next raised (steps + 1) rest
+    goes_round next q raised same = by (judge false move.effect) refl answered
       where
-        by : (v : Verdict) → judge false move.effect ≡ v → StepAnswer v answer words after → Reached budget first a r before after next raised (left - 1)
+        one_more : (k : ℕ) → suc k ≡ k + 1
+        one_more k = omega arith
+
+        by : (v : Verdict) → judge false move.effect ≡ v → StepAnswer v answer words after → Reached budget first a r before after next raised (steps + 1) rest
         by (made τ) e t =
             record {
               now_in = τ;
@@ -239,34 +230,30 @@ module _ (budget : ℕ) (first : State) (a : Passed) (r : ℕ) (before words : L
               invariant = (subst (Next a r here.now_in here.history) (made_goes move.effect τ e) move.next).invariant;
               goes_on =
                   here.goes_on
-                  ∙ ap (λ l. run l (budget - left) here.now_in) (one_less left some_left)
-                  ∙ turn_made words m a r (left - 1) (budget - left) here.now_in here.history move τ e
-                  ∙ ap (λ k. run (left - 1) k τ) (one_more low some_left);
+                  ∙ ap (λ l. run l steps here.now_in) some_left
+                  ∙ turn_made words m a r rest steps here.now_in here.history move τ e
+                  ∙ ap (λ k. run rest k τ) (one_more steps);
               marked =
-                  subst (Marked budget first (left - 1) τ next) (sym same)
-                  (marked_on budget first here.now_in words m marks here.held (left - 1) marked_before move.rule move.effect τ move.applies e after next
+                  subst (Marked budget first rest τ next) (sym same)
+                  (marked_on budget first here.now_in words m marks here.held rest marked_before move.rule move.effect τ move.applies e after next
                   (subst (λ s. Holds after s τ) (same_machine t.machine next t.answer q) t.holds) answer q);
               untouched = untouched_then t.untouched;
             }
-          where
-            one_more : left ≤ budget → (left ≡ 0 → ⊥) → suc (budget - left) ≡ budget - (left - 1)
-            one_more l g = omega (arith, l, g)
-        by (withheld x) e t = absurd (not_both next (reason_number x) q t.answer)
+        by (withheld x) e t = absurd (not_both next x q t.answer)
 
-    pub stops_here : (x : ℕ) → answer ≡ Withheld x → Answers (Stopped x (budget - left) reached) after
+    pub stops_here : (x : Reason) → answer ≡ Err x → Answers (Err x) steps after
     stops_here x q = by (judge false move.effect) refl answered
       where
-        by : (v : Verdict) → judge false move.effect ≡ v → StepAnswer v answer words after → Answers (Stopped x (budget - left) reached) after
+        by : (v : Verdict) → judge false move.effect ≡ v → StepAnswer v answer words after → Answers (Err x) steps after
         by (made τ) e t = absurd (not_both t.machine x t.answer q)
         by (withheld y) e t =
-            subst (λ f. RunAnswer (high_marks budget first) f (Stopped x (budget - left) reached) before after)
-            (sym (here.goes_on ∙ ap (λ l. run l (budget - left) here.now_in) (one_less left some_left) ∙ turn_withheld words m a r (left - 1) (budget - left) here.now_in here.history move y e))
+            subst (λ f. RunAnswer (high_marks budget first) f (ending_of (Err x) steps m marks) before after)
+            (sym (here.goes_on ∙ ap (λ l. run l steps here.now_in) some_left ∙ turn_withheld words m a r rest steps here.now_in here.history move y e))
             (record {
               machine = m;
               answer_is =
-                  ap (λ n. Stopped n (budget - left) reached) (same_reason x (reason_number y) q t.answer)
-                  ∙ ap (λ h. Stopped (reason_number y) (budget - left) (record { machine = m; marks = h }))
-                  (marked_withheld budget first here.now_in words m marks here.held (left - 1) marked_before move.rule move.effect y move.applies e);
+                  ap (λ z. ending_of (Err z) steps m marks) (same_reason x y q t.answer)
+                  ∙ ap (ending_of (Err y) steps m) (marked_withheld budget first here.now_in words m marks here.held rest marked_before move.rule move.effect y move.applies e);
               holds = subst (λ ws. Holds ws m here.now_in) (sym t.unchanged) here.held;
               untouched = subst (Untouched before) (sym t.unchanged) here.untouched;
             })

@@ -110,6 +110,9 @@ module _ (before registers words named after : List ℕ) (m r s : Machine) (i : 
         same_size = ap (λ κ. κ.size) all ∙ so_far.same_size;
       }
 
+pub all_set : {before registers words : List ℕ} {m : Machine} {i : ℕ} → RegistersSet before registers words m i → i ≤ length registers → length registers ≤ i → RegistersSet before registers words m (length registers)
+all_set {before} {registers} {words} {m} so_far p q = subst (RegistersSet before registers words m) (omega arith) so_far
+
 -- ---- The root on control; with no node control is empty.
 
 abbrev pub ready : ℕ → Machine
@@ -125,7 +128,10 @@ root_on nodes (expression e) some (root_expression h) = expression_on h nothing_
 root_on nodes (command c) some (root_command h) = command_on h nothing_left
 root_on nodes absent some root_absent = absurd (some refl)
 
-module _ (before registers words : List ℕ) (m : Machine) (i : ℕ) (so_far : RegistersSet before registers words m i) (AllSet : i ≡ length registers) where
+module _ (before registers words : List ℕ) (m : Machine) (so_far : RegistersSet before registers words m (length registers)) where
+  abbrev i : ℕ
+  i = length registers
+
   -- The regions at the start, with these entries on control.
   start_regions : (entries : List ℕ) → Regions
   start_regions entries =
@@ -163,7 +169,7 @@ module _ (before registers words : List ℕ) (m : Machine) (i : ℕ) (so_far : R
     kept = record { same_nodes = ap (λ κ. κ.nodes) whole; same_beyond = ap (λ κ. κ.beyond) whole; same_length = ap (λ κ. κ.size) whole }
 
     starts : StartsAt t registers r before after
-    starts = record { holds = subst (λ k. Holds after r (start k t (integers_of registers))) AllSet holds; untouched = kept }
+    starts = record { holds = holds; untouched = kept }
 
   pub absent_started : (nodes : ℕ) → nodes ≡ 0 → (t : Root) → RootAt before nodes t → StartsAt t registers (ready i) before words
   absent_started nodes none t stands =

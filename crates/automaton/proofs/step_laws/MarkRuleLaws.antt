@@ -7,14 +7,19 @@ use native.Mathlib.Omega.{arith}
 use borrow.Author.Tests.{ne_eqb}
 use lib.Dec.{eqb}
 use Rattle.rules.specs.paper.Kinds.{operator_number}
-use Rattle.rules.specs.paper.Tree.{Sum, Sub, Mul, Div, Lt, Le, Gt, Ge, And, Or, Operator, arithmetic, Eq, order, logic}
+use Rattle.rules.specs.declared.kinds.Arithmetic.TheVariants.{Sum, Sub, Mul, Div}
+use Rattle.rules.specs.declared.kinds.Order.TheVariants.{Lt, Le, Gt, Ge}
+use Rattle.rules.specs.declared.kinds.Logic.TheVariants.{And, Or}
+use Rattle.rules.specs.declared.kinds.Operator.{Operator}
+use Rattle.rules.specs.declared.kinds.Operator.TheVariants.{Arithmetic as arithmetic, Eq, Order as order, Logic as logic}
 use Rattle.rules.specs.paper.Limits.{names}
 use Rattle.rules.specs.paper.States.{Item, mark, Mark, operator_mark, not_mark, assign_mark, loop_mark, conditional_mark, ref_mark, bind_mark, dseq_extend_mark, dseq_join_mark, extend_mark, leave_mark, call_mark}
 use Rattle.machine.specs.Layout.{mark_base, leave_word, call_word}
 use Rattle.machine.specs.Represents.{Mode, ControlAs, operator_on, not_on, assign_on, loop_on, conditional_on, ref_on, bind_on, dseq_extend_on, dseq_join_on, extend_on, leave_on, call_on}
 use Rattle.machine.specs.Steps.{Applicable, Steps}
 use Rattle.machine.specs.declared.Machine.{Machine}
-use Rattle.machine.specs.declared.Stepped.{Stepped}
+use Rattle.std.specs.Prelude.{Result}
+use Rattle.rules.specs.declared.refusals.Reason.{Reason}
 
 -- The rules of marks.
 pub data Arm : Type 0 where
@@ -133,7 +138,7 @@ module _ (words : List ℕ) (m : Machine) (w : ℕ) (s : (k : Mark) × Applicabl
 
 -- ---- What it answers.
 
-module _ (before : List ℕ) (m : Machine) (w : ℕ) (answer : Stepped) (after : List ℕ) where
+module _ (before : List ℕ) (m : Machine) (w : ℕ) (answer : Result Machine Reason) (after : List ℕ) where
   abbrev At : Mark → Type 0
   At k = Steps before m w (mark k) answer after
 

@@ -1,29 +1,28 @@
 -- The item on top of control: where its word stands, and of which sort it is by its word.
 use Prim.Native.Nat.{ℕ, suc, ◌+◌, ◌-◌, ◌<◌, ◌≤◌}
-use mathlib.Core.Path.{◌≡◌, ap, ◌∙◌, subst}
+use mathlib.Core.Path.{◌≡◌, sym, ap, ◌∙◌, subst}
 use mathlib.Core.List.{List, ◌∷◌}
 use native.Mathlib.Omega.{arith}
-use lib.Dec.{lit<}
 use lib.ListN.{get_or}
+use lib.Seq.{get_or-take}
+use Rattle.rules.specs.paper.Kinds.{kind_number}
+use Rattle.rules.specs.declared.kinds.Kind.TheVariants.{Expression as expression_kind, Command as command_kind, Declaration as declaration_kind, Ref as ref, Abs as abs}
 use Rattle.rules.specs.paper.Tree.{Expression, Formal, Command, Block, Declaration}
 use Rattle.rules.specs.paper.States.{Environment, Store, Entry, Item, Mark, expression, command, declaration, reference, abstraction, mark}
 use Rattle.rules.specs.paper.Rules.{Rule, Effect}
 use Rattle.rules.specs.paper.Limits.{most_nodes}
 use Rattle.machine.specs.Layout.{top_control, mark_base}
-use Rattle.reader.specs.Pack.{kinds_room, packed_kind}
-use Rattle.reader.specs.Stored.{HasWord}
-use Rattle.reader.proofs.StoredFields.{kind_is}
+use Rattle.reader.specs.Pack.{packed_kind}
 use Rattle.reader.specs.Stored as Stored
+use Rattle.reader.specs.NodeKinds.{expression_kind_of, command_kind_of, declaration_kind_of}
 use Rattle.reader.proofs.StandingLaws.{expression_root, command_root, declaration_root, root_low}
-use Rattle.reader.proofs.KindTrees.{expression_of, expression_kinds, command_of, command_kinds, declaration_of, declaration_kinds}
+use Rattle.reader.proofs.NodeKindLaws.{expression_number, command_number, declaration_number, bound_number}
 use Rattle.machine.specs.Regions.{stack, regions, with_control}
 use Rattle.machine.specs.Represents.{Mode, ControlAs, expression_on, command_on, declaration_on, reference_on, abstraction_on, operator_on, not_on, assign_on, loop_on, conditional_on, ref_on, bind_on, dseq_extend_on, dseq_join_on, extend_on, leave_on, call_on, Models}
 use Rattle.machine.specs.Steps.{Ready}
 use Rattle.automaton.specs.Runs.{EnabledAt}
 use Rattle.machine.specs.declared.Machine.{Machine}
 use Rattle.machine.proofs.state_laws.ModelLaws.{sizes}
-use Rattle.machine.proofs.state_laws.NodeLaws.{node_word}
-use Rattle.machine.proofs.state_laws.ItemLaws.{node_kind}
 
 -- The machine without the top of control.
 abbrev pub lowered : Machine → Machine
@@ -62,34 +61,28 @@ taken_off words m h = rw (stack_top top_control m.control words (m.control - 1) 
     one_less : (k : ℕ) → 1 ≤ k → k ≡ suc (k - 1)
     one_less k l = omega arith
 
--- ---- The item's sort.
+-- ---- The item's sort, with the kind of its node.
 
 pub data ItemSort (words : List ℕ) (w : ℕ) : Item → Type 0 where
-  expression_sort : {e : Expression} → w < most_nodes → packed_kind (get_or words w 0) < 20 → ItemSort words w (expression e)
-  command_sort : {c : Command} → w < most_nodes → 20 ≤ packed_kind (get_or words w 0) → packed_kind (get_or words w 0) < 30 → ItemSort words w (command c)
-  declaration_sort : {d : Declaration} → w < most_nodes → 30 ≤ packed_kind (get_or words w 0) → packed_kind (get_or words w 0) < 40 → ItemSort words w (declaration d)
-  reference_sort : {p : ℕ} {e : Expression} → w < most_nodes → packed_kind (get_or words w 0) ≡ 40 → ItemSort words w (reference p e)
-  abstraction_sort : {p : ℕ} {fs : List Formal} {b : Block} → w < most_nodes → packed_kind (get_or words w 0) ≡ 41 → ItemSort words w (abstraction p fs b)
+  expression_sort : {e : Expression} → w < most_nodes → packed_kind (get_or words w 0) ≡ kind_number (expression_kind (expression_kind_of e)) → ItemSort words w (expression e)
+  command_sort : {c : Command} → w < most_nodes → packed_kind (get_or words w 0) ≡ kind_number (command_kind (command_kind_of c)) → ItemSort words w (command c)
+  declaration_sort : {d : Declaration} → w < most_nodes → packed_kind (get_or words w 0) ≡ kind_number (declaration_kind (declaration_kind_of d)) → ItemSort words w (declaration d)
+  reference_sort : {p : ℕ} {e : Expression} → w < most_nodes → packed_kind (get_or words w 0) ≡ kind_number ref → ItemSort words w (reference p e)
+  abstraction_sort : {p : ℕ} {fs : List Formal} {b : Block} → w < most_nodes → packed_kind (get_or words w 0) ≡ kind_number abs → ItemSort words w (abstraction p fs b)
   mark_sort : {k : Mark} → mark_base ≤ w → ItemSort words w (mark k)
 
 module _ (words : List ℕ) (m : Machine) where
-  kind_of_node : {i k w e : ℕ} → HasWord (regions words m).nodes i k w e → k < kinds_room → packed_kind (get_or words i 0) ≡ k
-  kind_of_node h low = kind_is (node_word words m h) low
+  -- The tree's word is the work word.
+  same_kind : (i k : ℕ) → i < most_nodes → packed_kind (get_or (regions words m).nodes i 0) ≡ k → packed_kind (get_or words i 0) ≡ k
+  unfolding regions
+  same_kind i k low q = ap packed_kind (sym (get_or-take most_nodes words i 0 low)) ∙ q
 
   item_sort : {mode : Mode} {w : ℕ} {ws : List ℕ} {i : Item} {C : List Item} → ControlAs (regions words m).nodes mode (w ∷ ws) (i ∷ C) → ItemSort words w i
-  item_sort (expression_on s h) = let r = expression_root s in expression_sort (root_low r) (omega (arith, node_kind words m r, expression_kinds (expression_of s)))
-  item_sort (command_on s h) =
-      let r = command_root s in
-      let q = node_kind words m r in
-      let k = command_kinds (command_of s) in
-      command_sort (root_low r) (omega (arith, q, k.0)) (omega (arith, q, k.1))
-  item_sort (declaration_on s h) =
-      let r = declaration_root s in
-      let q = node_kind words m r in
-      let k = declaration_kinds (declaration_of s) in
-      declaration_sort (root_low r) (omega (arith, q, k.0)) (omega (arith, q, k.1))
-  item_sort (reference_on (Stored.ref k s) h) = reference_sort k.place_low (kind_of_node k (lit< tt))
-  item_sort (abstraction_on (Stored.abs l k f s) h) = abstraction_sort k.place_low (kind_of_node k (lit< tt))
+  item_sort (expression_on s h) = let low = root_low (expression_root s) in expression_sort low (same_kind _ _ low (expression_number s))
+  item_sort (command_on s h) = let low = root_low (command_root s) in command_sort low (same_kind _ _ low (command_number s))
+  item_sort (declaration_on s h) = let low = root_low (declaration_root s) in declaration_sort low (same_kind _ _ low (declaration_number s))
+  item_sort (reference_on (Stored.ref k s) h) = reference_sort k.place_low (same_kind _ _ k.place_low (bound_number (Stored.ref k s)))
+  item_sort (abstraction_on (Stored.abs l k f s) h) = abstraction_sort k.place_low (same_kind _ _ k.place_low (bound_number (Stored.abs l k f s)))
   item_sort (operator_on q h) = mark_sort (omega (arith, q))
   item_sort (not_on q h) = mark_sort (omega (arith, q))
   item_sort (assign_on q h) = mark_sort (omega (arith, q))

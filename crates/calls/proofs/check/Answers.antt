@@ -1,27 +1,22 @@
--- 22 first; then the image, and the work words cleared.
-use Rattle.calls.proofs.CheckLaws.{little_room, code_answered, command_answered, refusal_answered}
+-- The work words first; then the image, and the work words cleared.
+use Rattle.std.proofs.Common.{rules}
+use Rattle.calls.proofs.CheckLaws.{little_room, passed_answered, refusal_answered}
 use Rattle.calls.proofs.check.Goals as goal
 
-pub returns-then-work-lt-WORK_WORDS : goal.returns-then-work-lt-WORK_WORDS
-returns-then-work-lt-WORK_WORDS c = let both = little_room _ _ c.if-work-lt-WORK_WORDS.true in record {
+pub returns-in_err-enough_words : goal.returns-in_err-enough_words
+returns-in_err-enough_words c = let both = little_room _ _ _ c.in_err-enough_words.ensures _ (search rules) in record {
   value = both.0;
   work_after = both.1;
 }
 
-pub returns-then-number-eq-COMMAND : goal.returns-then-number-eq-COMMAND
-returns-then-number-eq-COMMAND c = let both = command_answered _ _ _ _ _ c.if-work-lt-WORK_WORDS.false c.load-loaded.ensures c.clear.ensures _ _ _ c.in-Passed.is c.if-number-eq-COMMAND.true in record {
+pub returns : goal.returns
+returns c = let both = passed_answered _ _ _ _ _ c.in_ok-enough_words.ensures c.load-loaded.ensures c.clear.ensures _ c.in_ok-loaded.was in record {
   value = both.0;
   work_after = both.1;
 }
 
-pub returns-else-number-eq-COMMAND : goal.returns-else-number-eq-COMMAND
-returns-else-number-eq-COMMAND c = let both = code_answered _ _ _ _ _ c.if-work-lt-WORK_WORDS.false c.load-loaded.ensures c.clear.ensures _ _ _ c.in-Passed.is c.if-number-eq-COMMAND.false in record {
-  value = both.0;
-  work_after = both.1;
-}
-
-pub returns-in-Refused : goal.returns-in-Refused
-returns-in-Refused c = let both = refusal_answered _ _ _ _ _ c.if-work-lt-WORK_WORDS.false c.load-loaded.ensures c.clear.ensures _ _ c.in-Refused.is in record {
+pub returns-in_err-loaded : goal.returns-in_err-loaded
+returns-in_err-loaded c = let both = refusal_answered _ _ _ _ _ c.in_ok-enough_words.ensures c.load-loaded.ensures c.clear.ensures _ c.in_err-loaded.was _ (search rules) in record {
   value = both.0;
   work_after = both.1;
 }

@@ -16,7 +16,7 @@ use Rattle.machine.specs.Represents.{ValueAs, SegmentAs, Since, ValuesAs, Models
 use Rattle.machine.specs.Lookup.{RowOf}
 use Rattle.machine.specs.Steps.{StepAnswer, Applicable, Steps}
 use Rattle.machine.specs.declared.Machine.{Machine}
-use Rattle.machine.specs.declared.Stepped.TheVariants.{Made}
+use Rattle.std.specs.Prelude.{Ok}
 use Rattle.machine.proofs.memory_laws.RegionLaws.{slots_length}
 use Rattle.machine.proofs.state_laws.ModelLaws.{store_size, sizes, step_made, fits_still}
 use Rattle.machine.proofs.state_laws.TopLaws.{at_height, two_on_top, bindable_top, name_top}
@@ -40,7 +40,8 @@ module _ (words : List ℕ) (m : Machine) where
       RowOf nodes (regions words m).rows name_word b row (get_or words (row_labels + row) 0) (get_or words (row_payloads + row) 0)
 
   -- The value, and the name with its location, on top of the value stack.
-  record Assigning {C : List Item} {X : List Entry} {E : Environment} {S : Store} {L : List ℕ} {n : ℕ} (μ : Models (regions words m) C X E S L n) (e : Effect) : Type 0 where
+  record Assigning {C : List Item} {X : List Entry} {E : Environment} {S : Store} {L : List ℕ} {n : ℕ} (μ : Models (regions words m) C X E S L n)
+      (e : Effect) : Type 0 where
     pub at : ℕ
     pub new : Value
     pub rest : List Entry
@@ -50,7 +51,8 @@ module _ (words : List ℕ) (m : Machine) where
     pub low : at < m.cells
     pub value_words : ValueAs label_word payload_word new
     pub popped : regions words (at_height (m.values - 2) m) ≡ with_values under (regions words m)
-    pub below : ValuesAs (regions words m).nodes (regions words m).rows (regions words m).base (regions words m).declared (regions words m).environment E μ.mode under rest
+    pub below : ValuesAs (regions words m).nodes (regions words m).rows (regions words m).base (regions words m).declared
+        (regions words m).environment E μ.mode under rest
     pub effect : e ≡ goes (state C rest E (store_at at new S) L n)
 
   assigning : {C : List Item} {X : List Entry} {E : Environment} {S : Store} {L : List ℕ} {n : ℕ} {r : Rule} {e : Effect} →
@@ -68,13 +70,15 @@ module _ (words : List ℕ) (m : Machine) where
         some_values = two.some_values;
         looked = ap (λ y. lookup y E) (two.second_payload_word ∙ next.payload_is) ∙ looked;
         low = omega (arith, find_low l w μ.store_as found, store_size μ.store_as, z.cells_height);
-        value_words = subst (λ t. ValueAs t payload_word v) (sym two.label_word) (subst (λ p. ValueAs top.top.label p v) (sym two.payload_word) (value_of top.as_bindable));
+        value_words = subst (λ t. ValueAs t payload_word v) (sym two.label_word)
+            (subst (λ p. ValueAs top.top.label p v) (sym two.payload_word) (value_of top.as_bindable));
         popped = two.popped;
         below = next.below;
         effect = refl;
       }
 
-  chain : {C : List Item} {X : List Entry} {E : Environment} {S : Store} {L : List ℕ} {n : ℕ} → Models (regions words m) C X E S L n → SegmentAs (regions words m).nodes (regions words m).rows m.environment 0 E
+  chain : {C : List Item} {X : List Entry} {E : Environment} {S : Store} {L : List ℕ} {n : ℕ} → Models (regions words m) C X E S L n →
+      SegmentAs (regions words m).nodes (regions words m).rows m.environment 0 E
   unfolding regions
   chain μ = μ.environment_as
 
@@ -94,10 +98,12 @@ module _ (words : List ℕ) (m : Machine) where
     pub two_there : 2 ≤ m.values
     two_there = assigned.some_values
 
-    pub name_bound : (nodes : List ℕ) × (E : Environment) × (b : Bindable) × SegmentAs nodes (regions words m).rows m.environment 0 E × (lookup name_word E ≡ some b)
+    pub name_bound : (nodes : List ℕ) × (E : Environment) × (b : Bindable) × SegmentAs nodes (regions words m).rows m.environment 0 E
+        × (lookup name_word E ≡ some b)
     name_bound = ((regions words m).nodes, a.environment, value (location assigned.at), chain state_there, assigned.looked)
 
-    row_there : {row : ℕ} → Looked row → RowOf (regions words m).nodes (regions words m).rows name_word (value (location assigned.at)) row (get_or words (row_labels + row) 0) (get_or words (row_payloads + row) 0)
+    row_there : {row : ℕ} → Looked row → RowOf (regions words m).nodes (regions words m).rows name_word (value (location assigned.at)) row
+        (get_or words (row_labels + row) 0) (get_or words (row_payloads + row) 0)
     row_there h = h (regions words m).nodes a.environment (value (location assigned.at)) (chain state_there) assigned.looked
 
     pub row_low : {row : ℕ} → Looked row → row < most_bindings
@@ -110,11 +116,14 @@ module _ (words : List ℕ) (m : Machine) where
 
 pub assign_made : (before after : List ℕ) (m : Machine) (w row : ℕ) → Fits before m → Looked before m row →
     regions after (at_height (m.values - 2) m) ≡
-    with_cells (set_slot (get_or before (row_payloads + row) 0) (slot (label_word before m) (payload_word before m)) (regions before (at_height (m.values - 2) m)).cells) (regions before (at_height (m.values - 2) m)) →
-    Steps before m w (mark assign_mark) (Made (at_height (m.values - 2) m)) after
-assign_made before after m w row f looked written C X E S L n r e ready = by (assign_taken ready.models) (assigning before m ready.applies (assign_taken ready.models))
+    with_cells (set_slot (get_or before (row_payloads + row) 0) (slot (label_word before m) (payload_word before m))
+    (regions before (at_height (m.values - 2) m)).cells) (regions before (at_height (m.values - 2) m)) →
+    Steps before m w (mark assign_mark) (Ok (at_height (m.values - 2) m)) after
+assign_made before after m w row f looked written C X E S L n r e ready = by (assign_taken ready.models)
+    (assigning before m ready.applies (assign_taken ready.models))
   where
-    by : (μ : Models (regions before m) C X E S L n) → Assigning before m μ e → StepAnswer (judge false e) (Made (at_height (m.values - 2) m)) before after
+    by : (μ : Models (regions before m) C X E S L n) → Assigning before m μ e → StepAnswer (judge false e) (Ok (at_height (m.values - 2) m))
+        before after
     by μ h =
         let found = looked (regions before m).nodes E (value (location h.at)) (chain before m μ) h.looked in
         let place = location_word (value_of found.bound_to) in
@@ -122,9 +131,10 @@ assign_made before after m w row f looked written C X E S L n r e ready = by (as
         let all =
         written ∙ ap (λ κ. with_cells (set_slot (get_or before (row_payloads + row) 0) new_slot κ.cells) κ) h.popped
         ∙ ap (λ l. with_cells (set_slot l new_slot (regions before m).cells) (with_values h.under (regions before m))) place in
-        subst (λ k. StepAnswer (judge false k) (Made (at_height (m.values - 2) m)) before after) (sym h.effect)
+        subst (λ k. StepAnswer (judge false k) (Ok (at_height (m.values - 2) m)) before after) (sym h.effect)
         (step_made before after m (at_height (m.values - 2) m) _ C h.rest E (store_at h.at h.new S) L n refl
-        (fits_still before after m (at_height (m.values - 2) m) f (ap (λ κ. κ.size) all) f.few_control (omega (arith, f.few_values)) f.few_bindings f.few_cells)
+        (fits_still before after m (at_height (m.values - 2) m) f (ap (λ κ. κ.size) all) f.few_control (omega (arith, f.few_values))
+        f.few_bindings f.few_cells)
         (subst (λ κ. Models κ C h.rest E (store_at h.at h.new S) L n) (sym all)
         (record {
           mode = μ.mode;

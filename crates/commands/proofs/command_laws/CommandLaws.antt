@@ -19,10 +19,11 @@ use Rattle.machine.specs.Regions.{regions}
 use Rattle.machine.specs.Represents.{running, ControlAs, expression_on, command_on, assign_on, loop_on, conditional_on, name_on, node_on}
 use Rattle.machine.specs.Steps.{StepAnswer, Applicable, Steps, Puts, Enters}
 use Rattle.machine.specs.declared.Machine.{Machine}
-use Rattle.machine.specs.declared.Stepped.{Stepped}
+use Rattle.std.specs.Prelude.{Result}
 use Rattle.machine.proofs.state_laws.NodeLaws.{node_word}
 use Rattle.reader.proofs.StandingLaws.{after_node, command_root}
 use Rattle.machine.proofs.state_laws.ItemLaws.{node_end, command_top}
+use Rattle.rules.specs.declared.refusals.Reason.{Reason}
 
 -- The place of a command on top of control is a node's.
 pub command_low : (words : List ℕ) (m : Machine) (w : ℕ) (c : Command) → Applicable words m w (command c) → w < most_nodes
@@ -45,7 +46,8 @@ assign_effect : {C : List Item} {E : Environment} {S : Store} {L : List ℕ} {n 
     Table C E S L n r (command (Assign p x e)) X f → goes (state (expression e ∷ mark assign_mark ∷ C) (name x ∷ X) E S L n) ≡ f
 assign_effect Rules.assign = refl
 
-pub assign_steps : (words : List ℕ) (m : Machine) (i : ℕ) (r : Stepped) (after : List ℕ) (x' : ℕ) → x' ≡ packed_operand (get_or words i 0) → Enters words m x' ((i + 1) ∷ mark_word assign_mark ∷ []) r after →
+pub assign_steps : (words : List ℕ) (m : Machine) (i : ℕ) (r : Result Machine Reason) (after : List ℕ) (x' : ℕ) →
+    x' ≡ packed_operand (get_or words i 0) → Enters words m x' ((i + 1) ∷ mark_word assign_mark ∷ []) r after →
     (x : ℕ) (e : Expression) → Steps words m i (command (Assign i x e)) r after
 assign_steps words m i r after x' q enters x e C X E S L n rule f ready =
     let t = command_top (regions words m) i (Assign i x e) ready.models in
@@ -83,7 +85,7 @@ loop_effect C E S L n r X f Rules.loop = refl
 conditional_effect : {p : ℕ} {e : Expression} {c₁ c₂ : Command} → Tests conditional_mark (Cond p e c₁ c₂) e
 conditional_effect C E S L n r X f Rules.conditional = refl
 
-module _ (words : List ℕ) (m : Machine) (i : ℕ) (r : Stepped) (after : List ℕ) where
+module _ (words : List ℕ) (m : Machine) (i : ℕ) (r : Result Machine Reason) (after : List ℕ) where
   test_steps : (k : Mark) → Enters words m i ((i + 1) ∷ mark_word k ∷ []) r after → (c : Command) (e : Expression) →
       ((nodes : List ℕ) (d j : ℕ) → StoredCommand nodes d i j c → TestAt nodes i e) → Tests k c e →
       ((nodes ms ws : List ℕ) (C : List Item) → ControlAs nodes (running ms) ws C → ControlAs nodes (running ms) (mark_word k ∷ ws) (mark k ∷ C)) →
@@ -95,11 +97,14 @@ module _ (words : List ℕ) (m : Machine) (i : ℕ) (r : Stepped) (after : List 
       (enters (expression e ∷ mark k ∷ C) X E S L n (node c) (running t.blocks) u (expression_on (test _ _ _ t.stored).test (on _ _ _ C t.control_as))
       (λ label. node_on t.stored u.values_as))
 
-  pub loop_steps : Enters words m i ((i + 1) ∷ mark_word loop_mark ∷ []) r after → (e : Expression) (c : Command) → Steps words m i (command (Loop i e c)) r after
+  pub loop_steps : Enters words m i ((i + 1) ∷ mark_word loop_mark ∷ []) r after → (e : Expression) (c : Command) →
+      Steps words m i (command (Loop i e c)) r after
   loop_steps enters e c = test_steps loop_mark enters (Loop i e c) e (λ nodes d j. loop_test) loop_effect (λ nodes ms ws C. loop_on refl)
 
-  pub conditional_steps : Enters words m i ((i + 1) ∷ mark_word conditional_mark ∷ []) r after → (e : Expression) (c₁ c₂ : Command) → Steps words m i (command (Cond i e c₁ c₂)) r after
-  conditional_steps enters e c₁ c₂ = test_steps conditional_mark enters (Cond i e c₁ c₂) e (λ nodes d j. conditional_test) conditional_effect (λ nodes ms ws C. conditional_on refl)
+  pub conditional_steps : Enters words m i ((i + 1) ∷ mark_word conditional_mark ∷ []) r after → (e : Expression) (c₁ c₂ : Command) →
+      Steps words m i (command (Cond i e c₁ c₂)) r after
+  conditional_steps enters e c₁ c₂ = test_steps conditional_mark enters (Cond i e c₁ c₂) e (λ nodes d j. conditional_test) conditional_effect
+      (λ nodes ms ws C. conditional_on refl)
 
 -- ---- CSeq.
 
@@ -120,9 +125,11 @@ sequence_effect Rules.cseq = refl
 
 -- The first command's place is a node's.
 pub sequence_low : (words : List ℕ) (m : Machine) (i : ℕ) (c₁ c₂ : Command) → Applicable words m i (command (CSeq i c₁ c₂)) → i + 1 < most_nodes
-sequence_low words m i c₁ c₂ a = (command_root (sequence_at (command_top (regions words m) i (CSeq i c₁ c₂) a.ready.models).stored).first).word.place_low
+sequence_low words m i c₁ c₂ a = (command_root
+    (sequence_at (command_top (regions words m) i (CSeq i c₁ c₂) a.ready.models).stored).first).word.place_low
 
-pub sequence_steps : (words : List ℕ) (m : Machine) (i : ℕ) (r : Stepped) (after : List ℕ) (second : ℕ) → second ≡ packed_end (get_or words (i + 1) 0) → Puts words m ((i + 1) ∷ second ∷ []) r after →
+pub sequence_steps : (words : List ℕ) (m : Machine) (i : ℕ) (r : Result Machine Reason) (after : List ℕ) (second : ℕ) →
+    second ≡ packed_end (get_or words (i + 1) 0) → Puts words m ((i + 1) ∷ second ∷ []) r after →
     (c₁ c₂ : Command) → Steps words m i (command (CSeq i c₁ c₂)) r after
 sequence_steps words m i r after second q puts c₁ c₂ C X E S L n rule f ready =
     let t = command_top (regions words m) i (CSeq i c₁ c₂) ready.models in

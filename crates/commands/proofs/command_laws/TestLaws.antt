@@ -16,10 +16,11 @@ use Rattle.machine.specs.Regions.{Slot, Regions, regions, with_values}
 use Rattle.machine.specs.Represents.{ControlAs, ValuesAs, Models}
 use Rattle.machine.specs.Steps.{StepAnswer, Puts}
 use Rattle.machine.specs.declared.Machine.{Machine}
-use Rattle.machine.specs.declared.Stepped.{Stepped}
+use Rattle.std.specs.Prelude.{Result}
 use Rattle.machine.proofs.state_laws.ModelLaws.{beside}
 use Rattle.machine.proofs.state_laws.TopLaws.{at_height, two_on_top, bindable_top, node_top}
 use Rattle.machine.proofs.state_laws.MarkTopLaws.{truth_word_of, value_of}
+use Rattle.rules.specs.declared.refusals.Reason.{Reason}
 
 module _ (words : List ℕ) (m : Machine) where
   abbrev pub truth_there : ℕ
@@ -28,7 +29,8 @@ module _ (words : List ℕ) (m : Machine) where
   abbrev pub node_there : ℕ
   node_there = get_or words (second_payload + m.values) 0
 
-  pub record Tested {C : List Item} {X : List Entry} {E : Environment} {S : Store} {L : List ℕ} {n : ℕ} (μ : Models (regions words m) C X E S L n) (t : Bool) (c : Command) (rest : List Entry) : Type 0 where
+  pub record Tested {C : List Item} {X : List Entry} {E : Environment} {S : Store} {L : List ℕ} {n : ℕ} (μ : Models (regions words m) C X E S L n)
+      (t : Bool) (c : Command) (rest : List Entry) : Type 0 where
     pub under : List Slot
     pub depth : ℕ
     pub next : ℕ
@@ -36,7 +38,8 @@ module _ (words : List ℕ) (m : Machine) where
     pub truth_is : truth_there ≡ truth_word t
     pub stored : StoredCommand (regions words m).nodes depth node_there next c
     pub popped : regions words (at_height (m.values - 2) m) ≡ with_values under (regions words m)
-    pub below : ValuesAs (regions words m).nodes (regions words m).rows (regions words m).base (regions words m).declared (regions words m).environment E μ.mode under rest
+    pub below : ValuesAs (regions words m).nodes (regions words m).rows (regions words m).base (regions words m).declared
+        (regions words m).environment E μ.mode under rest
 
   module _ {C : List Item} {E : Environment} {S : Store} {L : List ℕ} {n : ℕ} {t : Bool} {c : Command} {rest : List Entry} where
     pub tested : (μ : Models (regions words m) C (val (truth t) ∷ node c ∷ rest) E S L n) → Tested μ t c rest
@@ -55,12 +58,22 @@ module _ (words : List ℕ) (m : Machine) where
           below = lower.below;
         }
 
-    abbrev pub popped_state : {X : List Entry} (μ : Models (regions words m) C X E S L n) (h : Tested μ t c rest) → Models (with_values h.under (regions words m)) C rest E S L n
+    abbrev pub popped_state : {X : List Entry} (μ : Models (regions words m) C X E S L n) (h : Tested μ t c rest) →
+        Models (with_values h.under (regions words m)) C rest E S L n
     popped_state μ h =
-        record { mode = μ.mode; control_as = μ.control_as; values_as = h.below; environment_as = μ.environment_as; store_as = μ.store_as; locations_as = μ.locations_as; bindings_as = μ.bindings_as }
+        record {
+          mode = μ.mode;
+          control_as = μ.control_as;
+          values_as = h.below;
+          environment_as = μ.environment_as;
+          store_as = μ.store_as;
+          locations_as = μ.locations_as;
+          bindings_as = μ.bindings_as;
+        }
 
     -- Entries in the mark's place on control, once the two are off the value stack.
-    pub put_instead : {X : List Entry} (μ : Models (regions words m) C X E S L n) (h : Tested μ t c rest) (new : List ℕ) (D : List Item) (answer : Stepped) (after : List ℕ) →
+    pub put_instead : {X : List Entry} (μ : Models (regions words m) C X E S L n) (h : Tested μ t c rest) (new : List ℕ) (D : List Item)
+        (answer : Result Machine Reason) (after : List ℕ) →
         ControlAs (regions words m).nodes μ.mode (new ++ (regions words m).control) D → Puts words (at_height (m.values - 2) m) new answer after →
         StepAnswer (judge false (goes (state D rest E S L n))) answer words after
     put_instead μ h new D answer after control puts = puts D rest E S L n put_on.0.mode (beside put_on.0) put_on.1

@@ -1,42 +1,48 @@
 -- Which expression stands at a node, by its kind: the rule's function that the kind chooses is the expression's.
-use Prim.Native.Nat.{ℕ}
-use mathlib.Core.Path.{◌≡◌, refl, sym, ◌∙◌, subst}
+use Prim.Native.Nat.{ℕ, ◌≤◌}
+use mathlib.Core.Path.{◌≡◌, refl, sym, ap, ◌∙◌, subst}
 use mathlib.Core.Bool.{Bool}
+use mathlib.Core.Logic.{◌⊎◌, ⊎_elim}
 use mathlib.Core.List.{List}
+use native.Mathlib.Omega.{arith}
 use lib.ListN.{get_or}
-use Rattle.rules.specs.paper.Kinds.{operator_number}
-use Rattle.rules.specs.paper.Tree.{Operator, Expression, Num, Boo, Id, DeRef, ValRef, Binary, Not}
+use Rattle.rules.specs.paper.Kinds.{operator_number, kind_number}
+use Rattle.rules.specs.declared.kinds.ExpressionKind.{ExpressionKind}
+use Rattle.rules.specs.declared.kinds.ExpressionKind.TheVariants.{Num as number, Boo as truth}
+use Rattle.rules.specs.declared.kinds.Kind.TheVariants.{Expression as expression_kind}
+use Rattle.rules.specs.paper.Tree.{Expression, Num, Boo, Id, DeRef, ValRef, Binary, Not}
+use Rattle.rules.specs.declared.kinds.Operator.{Operator}
 use Rattle.rules.specs.paper.States.{expression}
 use Rattle.reader.specs.Pack.{packed_kind}
 use Rattle.reader.specs.Stored.{StoredExpression}
-use Rattle.reader.proofs.StandingLaws.{expression_root}
-use Rattle.reader.proofs.KindTrees.{ExpressionOf, is_number, is_truth, is_id, is_binary, is_negation, is_deref, is_valref, expression_of, number_kind, truth_kind, id_kind, negation_kind, deref_kind, valref_kind}
+use Rattle.reader.proofs.StandingLaws.{operator_above, operator_below, expression_root}
+use Rattle.reader.proofs.KindTrees.{ExpressionOf, is_number, is_truth, is_id, is_binary, is_negation, is_deref, is_valref, expression_of, id_kind, negation_kind, deref_kind, valref_kind}
 use Rattle.machine.specs.Regions.{regions}
 use Rattle.machine.specs.Steps.{Applicable, Steps}
 use Rattle.machine.specs.declared.Machine.{Machine}
-use Rattle.machine.specs.declared.Stepped.{Stepped}
+use Rattle.std.specs.Prelude.{Result}
 use Rattle.machine.proofs.state_laws.NodeLaws.{expression_top}
 use Rattle.machine.proofs.state_laws.ItemLaws.{node_kind}
+use Rattle.rules.specs.declared.refusals.Reason.{Reason}
 
--- What the last arm knows: a kind that is none of the others, which is an operator's.
-abbrev pub Others : ℕ → Type 0
-Others n = (((((Unit {0} × (n ≡ 1 → ⊥)) × (n ≡ 2 → ⊥)) × (n ≡ 3 → ⊥)) × (n ≡ 15 → ⊥)) × (n ≡ 16 → ⊥)) × (n ≡ 17 → ⊥)
+pub literal_low : {k : ExpressionKind} → (k ≡ number) ⊎ (k ≡ truth) → kind_number (expression_kind k) ≤ 2
+literal_low = ⊎_elim (λ q. omega (arith, ap (λ k. kind_number (expression_kind k)) q))
+    (λ q. omega (arith, ap (λ k. kind_number (expression_kind k)) q))
 
-record IsBinary (place which : ℕ) (e : Expression) : Type 0 where
+record IsBinary (place : ℕ) (e : Expression) : Type 0 where
   pub operator : Operator
   pub first : Expression
   pub second : Expression
-  pub number : which ≡ operator_number operator
   pub is : e ≡ Binary place operator first second
 
-binary_kind : {place n : ℕ} {e : Expression} → ExpressionOf place n e → Others n → IsBinary place n e
-binary_kind is_number others = absurd (others.0.0.0.0.0.1 refl)
-binary_kind is_truth others = absurd (others.0.0.0.0.1 refl)
-binary_kind is_id others = absurd (others.0.0.0.1 refl)
-binary_kind (is_binary {o = o} {e₁ = e₁} {e₂ = e₂}) others = record { operator = o; first = e₁; second = e₂; number = refl; is = refl }
-binary_kind is_negation others = absurd (others.0.0.1 refl)
-binary_kind is_deref others = absurd (others.0.1 refl)
-binary_kind is_valref others = absurd (others.1 refl)
+binary_kind : {place n : ℕ} {e : Expression} → ExpressionOf place n e → (o : Operator) → n ≡ operator_number o → IsBinary place e
+binary_kind is_number o q = absurd (omega (arith, q, operator_above o))
+binary_kind is_truth o q = absurd (omega (arith, q, operator_above o))
+binary_kind is_id o q = absurd (omega (arith, q, operator_above o))
+binary_kind (is_binary {o = o} {e₁ = e₁} {e₂ = e₂}) _ q = record { operator = o; first = e₁; second = e₂; is = refl }
+binary_kind is_negation o q = absurd (omega (arith, q, operator_below o))
+binary_kind is_deref o q = absurd (omega (arith, q, operator_below o))
+binary_kind is_valref o q = absurd (omega (arith, q, operator_below o))
 
 module _ (words : List ℕ) (m : Machine) (w which : ℕ) (known : which ≡ packed_kind (get_or words w 0)) where
   stored_kind : {d j : ℕ} {e : Expression} → StoredExpression (regions words m).nodes d w j e → ExpressionOf w which e
@@ -53,12 +59,6 @@ module _ (words : List ℕ) (m : Machine) (w which : ℕ) (known : which ≡ pac
 
   -- ---- The expression of the kind is one at which a rule applies.
 
-  pub some_number : which ≡ 1 → Some → (k : ℕ) × Applicable words m w (expression (Num w k))
-  some_number q s = let k = number_kind (applicable_kind s.0 s.1) q in (k.0, moved s.0 (Num w k.0) k.1 s.1)
-
-  pub some_truth : which ≡ 2 → Some → (b : Bool) × Applicable words m w (expression (Boo w b))
-  some_truth q s = let k = truth_kind (applicable_kind s.0 s.1) q in (k.0, moved s.0 (Boo w k.0) k.1 s.1)
-
   pub some_id : which ≡ 3 → Some → (x : ℕ) × Applicable words m w (expression (Id w x))
   some_id q s = let k = id_kind (applicable_kind s.0 s.1) q in (k.0, moved s.0 (Id w k.0) k.1 s.1)
 
@@ -71,15 +71,14 @@ module _ (words : List ℕ) (m : Machine) (w which : ℕ) (known : which ≡ pac
   pub some_valref : which ≡ 17 → Some → (x : ℕ) × Applicable words m w (expression (ValRef w x))
   some_valref q s = let k = valref_kind (applicable_kind s.0 s.1) q in (k.0, moved s.0 (ValRef w k.0) k.1 s.1)
 
-  pub some_binary : Others which → Some →
-      (o : Operator) × (e₁ : Expression) × (e₂ : Expression) × (which ≡ operator_number o) × Applicable words m w (expression (Binary w o e₁ e₂))
-  some_binary q s =
-      let k = binary_kind (applicable_kind s.0 s.1) q in
-      (k.operator, k.first, k.second, k.number, moved s.0 (Binary w k.operator k.first k.second) k.is s.1)
+  pub some_binary : (o : Operator) → which ≡ operator_number o → Some → (o : Operator) × (e₁ : Expression) × (e₂ : Expression) × Applicable words m w
+      (expression (Binary w o e₁ e₂))
+  some_binary o q s =
+      let k = binary_kind (applicable_kind s.0 s.1) o q in (k.operator, k.first, k.second, moved s.0 (Binary w k.operator k.first k.second) k.is s.1)
 
   -- ---- The steps of the expression of the kind are those of every expression that can stand there.
 
-  module _ (answer : Stepped) (after : List ℕ) where
+  module _ (answer : Result Machine Reason) (after : List ℕ) where
     abbrev All : Type 0
     All = (e : Expression) → Steps words m w (expression e) answer after
 
@@ -90,11 +89,18 @@ module _ (words : List ℕ) (m : Machine) (w which : ℕ) (known : which ≡ pac
     moved_steps : (e f : Expression) → e ≡ f → Steps words m w (expression f) answer after → Steps words m w (expression e) answer after
     moved_steps e f q steps = subst (λ g. Steps words m w (expression g) answer after) (sym q) steps
 
-    pub all_number : which ≡ 1 → ((k : ℕ) → Steps words m w (expression (Num w k)) answer after) → All
-    all_number q steps = by_kind (λ e h. let k = number_kind h q in moved_steps e (Num w k.0) k.1 (steps k.0))
-
-    pub all_truth : which ≡ 2 → ((b : Bool) → Steps words m w (expression (Boo w b)) answer after) → All
-    all_truth q steps = by_kind (λ e h. let k = truth_kind h q in moved_steps e (Boo w k.0) k.1 (steps k.0))
+    pub all_literal : which ≤ 2 → ((k : ℕ) → Steps words m w (expression (Num w k)) answer after) →
+        ((b : Bool) → Steps words m w (expression (Boo w b)) answer after) → All
+    all_literal low numbers truths = by_kind (λ e h. by h low)
+      where
+        by : {n : ℕ} {e : Expression} → ExpressionOf w n e → n ≤ 2 → Steps words m w (expression e) answer after
+        by is_number l = numbers _
+        by is_truth l = truths _
+        by is_id l = absurd (omega (arith, l))
+        by (is_binary {o = o}) l = absurd (omega (arith, l, operator_above o))
+        by is_negation l = absurd (omega (arith, l))
+        by is_deref l = absurd (omega (arith, l))
+        by is_valref l = absurd (omega (arith, l))
 
     pub all_id : which ≡ 3 → ((x : ℕ) → Steps words m w (expression (Id w x)) answer after) → All
     all_id q steps = by_kind (λ e h. let k = id_kind h q in moved_steps e (Id w k.0) k.1 (steps k.0))
@@ -108,6 +114,7 @@ module _ (words : List ℕ) (m : Machine) (w which : ℕ) (known : which ≡ pac
     pub all_valref : which ≡ 17 → ((x : ℕ) → Steps words m w (expression (ValRef w x)) answer after) → All
     all_valref q steps = by_kind (λ e h. let k = valref_kind h q in moved_steps e (ValRef w k.0) k.1 (steps k.0))
 
-    pub all_binary : Others which → ((o : Operator) (e₁ e₂ : Expression) → which ≡ operator_number o → Steps words m w (expression (Binary w o e₁ e₂)) answer after) → All
-    all_binary q steps =
-        by_kind (λ e h. let k = binary_kind h q in moved_steps e (Binary w k.operator k.first k.second) k.is (steps k.operator k.first k.second k.number))
+    pub all_binary : (o : Operator) → which ≡ operator_number o →
+        ((o : Operator) (e₁ e₂ : Expression) → Steps words m w (expression (Binary w o e₁ e₂)) answer after) → All
+    all_binary o q steps = by_kind (λ e h. let k = binary_kind h o q in moved_steps e (Binary w k.operator k.first k.second) k.is
+        (steps k.operator k.first k.second))

@@ -7,27 +7,29 @@ use native.Mathlib.Omega.{arith}
 use lib.IntN.{pos}
 use lib.ListN.{length, get_or}
 use Rattle.rules.specs.paper.Kinds.{operator_number}
-use Rattle.rules.specs.paper.Tree.{Operator, Expression, Num, Boo, Binary, Not}
+use Rattle.rules.specs.paper.Tree.{Expression, Num, Boo, Binary, Not}
+use Rattle.rules.specs.declared.kinds.Operator.{Operator}
 use Rattle.rules.specs.claims.Listing.{truth_word}
 use Rattle.rules.specs.paper.States.{integer, truth, value, operator_mark, not_mark, expression, mark}
 use Rattle.rules.specs.paper.Rules.{Rule, Effect, Table, num, boo, binary, negation}
 use Rattle.rules.specs.paper.Run.{judge}
 use Rattle.rules.specs.paper.Limits.{most_nodes}
 use Rattle.machine.specs.Layout.{mark_base, mark_word}
-use Rattle.reader.specs.Pack.{packed_end, packed_operand}
+use Rattle.reader.specs.Pack.{packed_kind, packed_end, packed_operand}
 use Rattle.reader.specs.Stored.{HasWord, StoredExpression}
-use Rattle.reader.proofs.StoredFields.{operand_is, end_is}
+use Rattle.reader.proofs.StoredFields.{kind_is, operand_is}
 use Rattle.reader.specs.Stored as Stored
-use Rattle.reader.proofs.StandingLaws.{expression_low, expression_root}
+use Rattle.reader.proofs.StandingLaws.{operator_low, expression_low, expression_root}
 use Rattle.integers.specs.WordLaws.{integer_low}
 use Rattle.machine.specs.Regions.{regions}
 use Rattle.machine.specs.Represents.{integer_as, truth_as, value_as, ControlAs, expression_on, operator_on, not_on}
 use Rattle.machine.specs.Steps.{StepAnswer, Applicable, Steps, Puts, Pushes}
 use Rattle.machine.specs.declared.Machine.{Machine}
-use Rattle.machine.specs.declared.Stepped.{Stepped}
+use Rattle.std.specs.Prelude.{Result}
 use Rattle.machine.proofs.state_laws.NodeLaws.{node_word, ExpressionTop, expression_top}
 use Rattle.machine.proofs.state_laws.ModelLaws.{beside}
 use Rattle.machine.proofs.state_laws.ItemLaws.{node_end}
+use Rattle.rules.specs.declared.refusals.Reason.{Reason}
 
 -- ---- The node of an expression, by its constructor.
 
@@ -44,8 +46,13 @@ record Operands (nodes : List ℕ) (i : ℕ) (e₁ e₂ : Expression) : Type 0 w
   pub first : StoredExpression nodes depth (suc i) middle e₁
   pub second : StoredExpression nodes depth middle next e₂
 
-operands : {nodes : List ℕ} {d i j p : ℕ} {o : Operator} {e₁ e₂ : Expression} → StoredExpression nodes d i j (Binary p o e₁ e₂) → Operands nodes i e₁ e₂
+operands : {nodes : List ℕ} {d i j p : ℕ} {o : Operator} {e₁ e₂ : Expression} → StoredExpression nodes d i j (Binary p o e₁ e₂) →
+    Operands nodes i e₁ e₂
 operands (Stored.binary {d = d} {j = j} {k = k} h a b) = record { depth = d; middle = j; next = k; first = a; second = b }
+
+operator_word : {nodes : List ℕ} {d i j p : ℕ} {o : Operator} {e₁ e₂ : Expression} → StoredExpression nodes d i j (Binary p o e₁ e₂) →
+    HasWord nodes i (operator_number o) 0 j
+operator_word (Stored.binary h a b) = h
 
 record Operand (nodes : List ℕ) (i : ℕ) (e : Expression) : Type 0 where
   pub depth : ℕ
@@ -74,7 +81,7 @@ module _ (words : List ℕ) (m : Machine) (w : ℕ) where
 
   -- ---- The steps.
 
-  module _ (answer : Stepped) (after : List ℕ) where
+  module _ (answer : Result Machine Reason) (after : List ℕ) where
     pub number_steps : (payload : ℕ) → payload ≡ packed_operand (get_or words w 0) → Pushes words m 0 payload answer after →
         (k : ℕ) → Steps words m w (expression (Num w k)) answer after
     number_steps payload q pushes k C X E S L n r e ready = by ready.applies
@@ -109,15 +116,19 @@ module _ (words : List ℕ) (m : Machine) (w : ℕ) where
         by : {r : Rule} {e : Effect} → Table C E S L n r (expression (Boo w b)) X e → StepAnswer (judge false e) answer words after
         by boo = pushes C X E S L n (value (truth b)) top.lowered (value_as (truth_as is_truth))
 
-    pub binary_steps : (which second : ℕ) → second ≡ packed_end (get_or words (w + 1) 0) → Puts words m ((w + 1) ∷ second ∷ (mark_base + which) ∷ []) answer after →
-        (o : Operator) (e₁ e₂ : Expression) → which ≡ operator_number o → Steps words m w (expression (Binary w o e₁ e₂)) answer after
-    binary_steps which second q puts o e₁ e₂ h C X E S L n r e ready = by ready.applies
+    pub binary_steps : (which second : ℕ) → which ≡ packed_kind (get_or words w 0) → second ≡ packed_end (get_or words (w + 1) 0) →
+        Puts words m ((w + 1) ∷ second ∷ (mark_base + which) ∷ []) answer after →
+        (o : Operator) (e₁ e₂ : Expression) → Steps words m w (expression (Binary w o e₁ e₂)) answer after
+    binary_steps which second k q puts o e₁ e₂ C X E S L n r e ready = by ready.applies
       where
         top : ExpressionTop (regions words m) w (Binary w o e₁ e₂) C X E S L n
         top = expression_top (regions words m) w (Binary w o e₁ e₂) ready.models
 
         both : Operands (regions words m).nodes w e₁ e₂
         both = operands top.stored
+
+        is_operator : which ≡ operator_number o
+        is_operator = k ∙ kind_is (node_word words m (operator_word top.stored)) (operator_low o)
 
         is_second : both.middle ≡ second
         is_second = sym (node_end words m (expression_root both.first)) ∙ ap (λ i. packed_end (get_or words i 0)) (next_place w) ∙ sym q
@@ -127,12 +138,13 @@ module _ (words : List ℕ) (m : Machine) (w : ℕ) where
         control =
             expression_on (subst (λ i. StoredExpression (regions words m).nodes both.depth i both.middle e₁) (next_place w) both.first)
             (expression_on (subst (λ i. StoredExpression (regions words m).nodes both.depth i both.next e₂) is_second both.second)
-            (operator_on (ap (λ k. mark_base + k) h) top.lowered.control_as))
+            (operator_on (ap (λ k. mark_base + k) is_operator) top.lowered.control_as))
 
         by : {r : Rule} {e : Effect} → Table C E S L n r (expression (Binary w o e₁ e₂)) X e → StepAnswer (judge false e) answer words after
         by binary = puts (expression e₁ ∷ expression e₂ ∷ mark (operator_mark o) ∷ C) X E S L n top.lowered.mode (beside top.lowered) control
 
-    pub negation_steps : Puts words m ((w + 1) ∷ mark_word not_mark ∷ []) answer after → (e : Expression) → Steps words m w (expression (Not w e)) answer after
+    pub negation_steps : Puts words m ((w + 1) ∷ mark_word not_mark ∷ []) answer after → (e : Expression) →
+        Steps words m w (expression (Not w e)) answer after
     negation_steps puts inner C X E S L n r e ready = by ready.applies
       where
         top : ExpressionTop (regions words m) w (Not w inner) C X E S L n
@@ -141,7 +153,8 @@ module _ (words : List ℕ) (m : Machine) (w : ℕ) where
         one : Operand (regions words m).nodes w inner
         one = operand top.stored
 
-        control : ControlAs (regions words m).nodes top.lowered.mode ((w + 1) ∷ (mark_word not_mark) ∷ (regions words m).control) (expression inner ∷ mark not_mark ∷ C)
+        control : ControlAs (regions words m).nodes top.lowered.mode ((w + 1) ∷ (mark_word not_mark) ∷ (regions words m).control)
+            (expression inner ∷ mark not_mark ∷ C)
         control =
             expression_on (subst (λ i. StoredExpression (regions words m).nodes one.depth i one.next inner) (next_place w) one.inner)
             (not_on refl top.lowered.control_as)

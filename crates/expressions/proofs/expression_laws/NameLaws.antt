@@ -20,13 +20,15 @@ use Rattle.reader.proofs.StoredFields.{operand_is}
 use Rattle.reader.specs.Stored as Stored
 use Rattle.machine.specs.Regions.{Slot, slot_at, regions, Fits}
 use Rattle.machine.specs.Represents.{ValueAs, integer_as, truth_as, location_as, SegmentAs, BindableAs, value_as, StoreAs, no_cell, one_cell, Models}
+use Rattle.expressions.specs.Named.{Named, by_id, by_deref, by_valref}
 use Rattle.machine.specs.Lookup.{RowOf}
 use Rattle.machine.specs.Steps.{StepAnswer, Ready, Applicable, Steps, Pushes}
 use Rattle.machine.specs.declared.Machine.{Machine}
-use Rattle.machine.specs.declared.Stepped.{Stepped}
+use Rattle.std.specs.Prelude.{Result}
 use Rattle.machine.proofs.memory_laws.RegionLaws.{slots_length}
 use Rattle.machine.proofs.memory_laws.LookupLaws.{slot_words}
 use Rattle.machine.proofs.state_laws.NodeLaws.{node_word, ExpressionTop, expression_top}
+use Rattle.rules.specs.declared.refusals.Reason.{Reason}
 
 -- ---- Values by their labels.
 
@@ -61,7 +63,8 @@ cell_of l v no_cell q = missing q
 cell_of l v (one_cell {s = s} {cells = cells} {c = c} {S = S} e h older) q =
     choose (eqb (length cells) l) refl (subst (λ k. cond (eqb k l) (some c.contents) (find l S) ≡ some v) e q) (cell_of l v older)
   where
-    choose : (t : Bool) → eqb (length cells) l ≡ t → cond t (some c.contents) (find l S) ≡ some v → (find l S ≡ some v → CellOf cells l v) → CellOf (s ∷ cells) l v
+    choose : (t : Bool) → eqb (length cells) l ≡ t → cond t (some c.contents) (find l S) ≡ some v → (find l S ≡ some v → CellOf cells l v) →
+        CellOf (s ∷ cells) l v
     choose true u p rest = record { cell = s; at = rw u; holds = subst (ValueAs s.label s.payload) (some-injective c.contents v p) h }
     choose false u p rest = let o = rest p in record { cell = o.cell; at = rw u o.at; holds = o.holds }
 
@@ -70,30 +73,30 @@ pub record CellWords (words : List ℕ) (l : ℕ) (v : Value) : Type 0 where
   pub within : l < most_cells
   pub holds : ValueAs (get_or words (cell_labels + l) 0) (get_or words (cell_payloads + l) 0) v
 
-pub cell_words : (words : List ℕ) (m : Machine) {S : Store} (l : ℕ) (v : Value) → Fits words m → StoreAs (regions words m).cells S → find l S ≡ some v → CellWords words l v
+pub cell_words : (words : List ℕ) (m : Machine) {S : Store} (l : ℕ) (v : Value) → Fits words m → StoreAs (regions words m).cells S →
+    find l S ≡ some v → CellWords words l v
 unfolding regions
 cell_words words m l v f s q =
     let c = cell_of l v s q in
     let w = slot_words cell_labels cell_payloads m.cells words l c.cell c.at in
     record {
       within = omega (arith, w.within, f.few_cells);
-      holds = subst (λ t. ValueAs t (get_or words (cell_payloads + l) 0) v) w.label_word (subst (λ p. ValueAs c.cell.label p v) w.payload_word c.holds);
+      holds = subst (λ t. ValueAs t (get_or words (cell_payloads + l) 0) v) w.label_word
+          (subst (λ p. ValueAs c.cell.label p v) w.payload_word c.holds);
     }
 
 -- The words that the code reads are those of the cell at the location.
-cell_at : (words : List ℕ) (m : Machine) {S : Store} (read l : ℕ) (v : Value) → Fits words m → StoreAs (regions words m).cells S → read ≡ l → find l S ≡ some v →
+cell_at : (words : List ℕ) (m : Machine) {S : Store} (read l : ℕ) (v : Value) → Fits words m → StoreAs (regions words m).cells S → read ≡ l →
+    find l S ≡ some v →
     CellWords words read v
 cell_at words m {S} read l v f s e q = cell_words words m read v f s (subst (λ k. find k S ≡ some v) (sym e) q)
 
-read_value : {words : List ℕ} {read t p : ℕ} {v : Value} → t ≡ get_or words (cell_labels + read) 0 → p ≡ get_or words (cell_payloads + read) 0 → CellWords words read v → ValueAs t p v
-read_value {words} {read} {t} {p} {v} tq pq c = subst (λ u. ValueAs u p v) (sym tq) (subst (λ u. ValueAs (get_or words (cell_labels + read) 0) u v) (sym pq) c.holds)
+read_value : {words : List ℕ} {read t p : ℕ} {v : Value} → t ≡ get_or words (cell_labels + read) 0 → p ≡ get_or words (cell_payloads + read) 0 →
+    CellWords words read v → ValueAs t p v
+read_value {words} {read} {t} {p} {v} tq pq c = subst (λ u. ValueAs u p v) (sym tq)
+    (subst (λ u. ValueAs (get_or words (cell_labels + read) 0) u v) (sym pq) c.holds)
 
 -- ---- The expressions that look up a name.
-
-pub data Named (place : ℕ) : (name : ℕ) → Expression → Type 0 where
-  by_id : {x : ℕ} → Named place x (Id place x)
-  by_deref : {x : ℕ} → Named place x (DeRef place x)
-  by_valref : {x : ℕ} → Named place x (ValRef place x)
 
 operand_name : (words : List ℕ) (m : Machine) {d i j p x : ℕ} {e : Expression} → Named p x e →
     StoredExpression (regions words m).nodes d i j e → packed_operand (get_or words i 0) ≡ x
@@ -109,7 +112,8 @@ bound_name by_deref (deref {l = l} q) = (value (location l), q)
 bound_name by_valref (valref {l = l} q c d) = (value (location l), q)
 
 module _ (words : List ℕ) (m : Machine) (w name : ℕ) (operand : name ≡ packed_operand (get_or words w 0)) where
-  module _ {C : List Item} {X : List Entry} {E : Environment} {S : Store} {L : List ℕ} {n : ℕ} {r : Rule} {f : Effect} (x : ℕ) (e : Expression) (named : Named w x e)
+  module _ {C : List Item} {X : List Entry} {E : Environment} {S : Store} {L : List ℕ} {n : ℕ} {r : Rule} {f : Effect} (x : ℕ) (e : Expression)
+      (named : Named w x e)
       (ready : Ready words m w (expression e) C X E S L n r f) where
     top : ExpressionTop (regions words m) w e C X E S L n
     top = expression_top (regions words m) w e ready.models
@@ -129,7 +133,8 @@ module _ (words : List ℕ) (m : Machine) (w name : ℕ) (operand : name ≡ pac
       ((regions words m).nodes, a.environment, b.0, chain x e named a.ready, named_alike x e named a.ready b.0 b.1)
 
   -- What `row_of` gives.
-  module _ (row : ℕ) (found : (nodes : List ℕ) (E : Environment) (b : Bindable) → SegmentAs nodes (regions words m).rows m.environment 0 E → lookup name E ≡ some b →
+  module _ (row : ℕ) (found : (nodes : List ℕ) (E : Environment) (b : Bindable) → SegmentAs nodes (regions words m).rows m.environment 0 E →
+      lookup name E ≡ some b →
       RowOf nodes (regions words m).rows name b row (get_or words (row_labels + row) 0) (get_or words (row_payloads + row) 0)) where
     abbrev label : ℕ
     label = get_or words (row_labels + row) 0
@@ -140,7 +145,8 @@ module _ (words : List ℕ) (m : Machine) (w name : ℕ) (operand : name ≡ pac
     abbrev NameRow : Bindable → Type 0
     NameRow b = RowOf (regions words m).nodes (regions words m).rows name b row label bound
 
-    row_for : {C : List Item} {X : List Entry} {E : Environment} {S : Store} {L : List ℕ} {n : ℕ} {r : Rule} {f : Effect} (x : ℕ) (e : Expression) → Named w x e →
+    row_for : {C : List Item} {X : List Entry} {E : Environment} {S : Store} {L : List ℕ} {n : ℕ} {r : Rule} {f : Effect} (x : ℕ) (e : Expression) →
+        Named w x e →
         Ready words m w (expression e) C X E S L n r f → (b : Bindable) → lookup x E ≡ some b → NameRow b
     row_for {E = E} x e named ready b q = found (regions words m).nodes E b (chain x e named ready) (named_alike x e named ready b q)
 
@@ -190,10 +196,12 @@ module _ (words : List ℕ) (m : Machine) (w name : ℕ) (operand : name ≡ pac
     pub id_cell_low : (x : ℕ) → Applicable words m w (expression (Id w x)) → (label / 64 % 2 ≡ 0 → ⊥) → bound < most_cells
     id_cell_low x a marked = by a.ready.applies (row_for x (Id w x) by_id a.ready) (top x (Id w x) by_id a.ready).lowered
       where
-        by : {C : List Item} {X : List Entry} {E : Environment} {S : Store} {L : List ℕ} {n : ℕ} {r : Rule} {f : Effect} → Table C E S L n r (expression (Id w x)) X f →
+        by : {C : List Item} {X : List Entry} {E : Environment} {S : Store} {L : List ℕ} {n : ℕ} {r : Rule} {f : Effect} →
+            Table C E S L n r (expression (Id w x)) X f →
             ((b : Bindable) → lookup x E ≡ some b → NameRow b) → Models (regions words m) C X E S L n → bound < most_cells
         by (id_plain {v = v} plain q) rows μ = absurd (marked (plain_row v plain (rows (value v) q)).unmarked)
-        by (id_cell {l = l} {v = v} q c) rows μ = (cell_at words m bound l v a.ready.fits μ.store_as (location_row l (rows (value (location l)) q)).bound_is c).within
+        by (id_cell {l = l} {v = v} q c) rows μ =
+            (cell_at words m bound l v a.ready.fits μ.store_as (location_row l (rows (value (location l)) q)).bound_is c).within
 
     -- ---- ValRef: the cell that the name is bound to has the location of the cell that is read.
 
@@ -210,17 +218,19 @@ module _ (words : List ℕ) (m : Machine) (w name : ℕ) (operand : name ≡ pac
     some_shown : (x : ℕ) → Applicable words m w (expression (ValRef w x)) → (v : Value) × Shown v
     some_shown x a = by a.ready.applies (row_for x (ValRef w x) by_valref a.ready) (top x (ValRef w x) by_valref a.ready).lowered
       where
-        by : {C : List Item} {X : List Entry} {E : Environment} {S : Store} {L : List ℕ} {n : ℕ} {r : Rule} {f : Effect} → Table C E S L n r (expression (ValRef w x)) X f →
+        by : {C : List Item} {X : List Entry} {E : Environment} {S : Store} {L : List ℕ} {n : ℕ} {r : Rule} {f : Effect} →
+            Table C E S L n r (expression (ValRef w x)) X f →
             ((b : Bindable) → lookup x E ≡ some b → NameRow b) → Models (regions words m) C X E S L n → (v : Value) × Shown v
         by (valref {l = l} {k = k} {v = v} q c d) rows μ = (v, shown_cell l k v a.ready.fits μ.store_as (rows (value (location l)) q) c d)
 
     pub valref_outer_low : (x : ℕ) → Applicable words m w (expression (ValRef w x)) → bound < most_cells
     valref_outer_low x a = (some_shown x a).1.outer_low
 
-    pub valref_inner_low : (x shown : ℕ) → Applicable words m w (expression (ValRef w x)) → shown ≡ get_or words (cell_payloads + bound) 0 → shown < most_cells
+    pub valref_inner_low : (x shown : ℕ) → Applicable words m w (expression (ValRef w x)) → shown ≡ get_or words (cell_payloads + bound) 0 →
+        shown < most_cells
     valref_inner_low x shown a e = ((some_shown x a).1.inner shown e).within
 
-    module _ (answer : Stepped) (after : List ℕ) where
+    module _ (answer : Result Machine Reason) (after : List ℕ) where
       -- The name is bound to a value that is no location.
       pub id_plain_steps : label / 64 % 2 ≡ 0 → Pushes words m 0 bound answer after → (x : ℕ) → Steps words m w (expression (Id w x)) answer after
       id_plain_steps unmarked pushes x C X E S L n r f ready = by ready.applies
@@ -229,11 +239,13 @@ module _ (words : List ℕ) (m : Machine) (w name : ℕ) (operand : name ≡ pac
           rows = row_for x (Id w x) by_id ready
 
           by : {r : Rule} {f : Effect} → Table C E S L n r (expression (Id w x)) X f → StepAnswer (judge false f) answer words after
-          by (id_plain {v = v} plain q) = pushes C X E S L n (value v) (top x (Id w x) by_id ready).lowered (value_as (plain_row v plain (rows (value v) q)).bound_as)
+          by (id_plain {v = v} plain q) = pushes C X E S L n (value v) (top x (Id w x) by_id ready).lowered
+              (value_as (plain_row v plain (rows (value v) q)).bound_as)
           by (id_cell {l = l} q c) = absurd (omega (arith, unmarked, (location_row l (rows (value (location l)) q)).marked))
 
       -- The name is bound to a location.
-      pub id_cell_steps : (t p : ℕ) → (label / 64 % 2 ≡ 0 → ⊥) → t ≡ get_or words (cell_labels + bound) 0 → p ≡ get_or words (cell_payloads + bound) 0 → Pushes words m t p answer after →
+      pub id_cell_steps : (t p : ℕ) → (label / 64 % 2 ≡ 0 → ⊥) → t ≡ get_or words (cell_labels + bound) 0 →
+          p ≡ get_or words (cell_payloads + bound) 0 → Pushes words m t p answer after →
           (x : ℕ) → Steps words m w (expression (Id w x)) answer after
       id_cell_steps t p marked tq pq pushes x C X E S L n r f ready = by ready.applies
         where
@@ -247,7 +259,8 @@ module _ (words : List ℕ) (m : Machine) (w name : ℕ) (operand : name ≡ pac
           by (id_plain {v = v} plain q) = absurd (marked (plain_row v plain (rows (value v) q)).unmarked)
           by (id_cell {l = l} {v = v} q c) =
               pushes C X E S L n (value v) lowered
-              (value_as (read_value tq pq (cell_at words m bound l v ready.fits lowered.store_as (location_row l (rows (value (location l)) q)).bound_is c)))
+              (value_as (read_value tq pq (cell_at words m bound l v ready.fits lowered.store_as
+              (location_row l (rows (value (location l)) q)).bound_is c)))
 
       -- ---- DeRef.
 
@@ -257,11 +270,13 @@ module _ (words : List ℕ) (m : Machine) (w name : ℕ) (operand : name ≡ pac
           by : {r : Rule} {f : Effect} → Table C E S L n r (expression (DeRef w x)) X f → StepAnswer (judge false f) answer words after
           by (deref {l = l} q) =
               pushes C X E S L n (value (location l)) (top x (DeRef w x) by_deref ready).lowered
-              (value_as (subst (λ p. ValueAs 1 p (location l)) (sym (location_row l (row_for x (DeRef w x) by_deref ready (value (location l)) q)).bound_is) location_as))
+              (value_as (subst (λ p. ValueAs 1 p (location l))
+              (sym (location_row l (row_for x (DeRef w x) by_deref ready (value (location l)) q)).bound_is) location_as))
 
       -- ---- ValRef.
 
-      pub valref_steps : (shown t p : ℕ) → shown ≡ get_or words (cell_payloads + bound) 0 → t ≡ get_or words (cell_labels + shown) 0 → p ≡ get_or words (cell_payloads + shown) 0 → Pushes words m t p answer after →
+      pub valref_steps : (shown t p : ℕ) → shown ≡ get_or words (cell_payloads + bound) 0 → t ≡ get_or words (cell_labels + shown) 0 →
+          p ≡ get_or words (cell_payloads + shown) 0 → Pushes words m t p answer after →
           (x : ℕ) → Steps words m w (expression (ValRef w x)) answer after
       valref_steps shown t p sq tq pq pushes x C X E S L n r f ready = by ready.applies
         where
@@ -271,4 +286,5 @@ module _ (words : List ℕ) (m : Machine) (w name : ℕ) (operand : name ≡ pac
           by : {r : Rule} {f : Effect} → Table C E S L n r (expression (ValRef w x)) X f → StepAnswer (judge false f) answer words after
           by (valref {l = l} {k = k} {v = v} q c d) =
               pushes C X E S L n (value v) lowered
-              (value_as (read_value tq pq ((shown_cell l k v ready.fits lowered.store_as (row_for x (ValRef w x) by_valref ready (value (location l)) q) c d).inner shown sq)))
+              (value_as (read_value tq pq ((shown_cell l k v ready.fits lowered.store_as
+              (row_for x (ValRef w x) by_valref ready (value (location l)) q) c d).inner shown sq)))

@@ -11,13 +11,14 @@ use Rattle.rules.specs.paper.States.{Bindable, closure, Environment, lookup, Sto
 use Rattle.rules.specs.paper.Rules.{Rule, Effect, goes, Table, call_at, Matched, match_formals}
 use Rattle.machine.specs.Layout.{row_labels, row_payloads, closure_unit, carried_unit, count_unit, call_word}
 use Rattle.reader.specs.Stored.{StoredFormals, StoredBlock, StoredBound, abs}
-use Rattle.machine.specs.Regions.{Slot, Regions, regions, Fits, with_control}
+use Rattle.machine.specs.Regions.{Slot, Regions, regions, with_control}
 use Rattle.machine.specs.Represents.{SegmentAs, BindableAs, closure_as, no_more, Mode, running, ControlAs, call_on, ValuesAs, Models}
 use Rattle.machine.specs.Lookup.{RowOf}
 use Rattle.machine.specs.Steps.{Ready, Steps}
 use Rattle.frames.specs.Formals.{Binding, CanBind}
 use Rattle.machine.specs.declared.Machine.{Machine}
-use Rattle.machine.specs.declared.Stepped.TheVariants.{Withheld}
+use Rattle.std.specs.Prelude.{Err, Some}
+use Rattle.rules.specs.declared.refusals.Reason.{Reason}
 use Rattle.machine.specs.Room.{reason_of_room}
 use Rattle.machine.proofs.state_laws.ModelLaws.{with_items, sizes, step_withheld_for_room}
 use Rattle.machine.proofs.state_laws.ItemLaws.{rest_of}
@@ -48,10 +49,22 @@ pub record ClosureAt (nodes : List ℕ) (rows : List Slot) (w : ℕ) (fs : List 
   pub block_stored : StoredBlock nodes depth block_place block_end b
   pub segment : SegmentAs nodes rows pointer 0 F
 
-pub closure_at : {nodes : List ℕ} {rows : List Slot} {t w : ℕ} {fs : List Formal} {b : Block} {F : Environment} → BindableAs nodes rows t w (closure fs b F) → ClosureAt nodes rows w fs b F
+pub closure_at : {nodes : List ℕ} {rows : List Slot} {t w : ℕ} {fs : List Formal} {b : Block} {F : Environment} →
+    BindableAs nodes rows t w (closure fs b F) → ClosureAt nodes rows w fs b F
 closure_at (closure_as {p = p} {j = j} {f = f} q l h s) =
     let at = abs_at h in
-    record { place = p; pointer = f; depth = at.depth; block_place = at.block_place; block_end = j; word_is = q; place_low = l; formals = at.formals; block_stored = at.block_stored; segment = s }
+    record {
+      place = p;
+      pointer = f;
+      depth = at.depth;
+      block_place = at.block_place;
+      block_end = j;
+      word_is = q;
+      place_low = l;
+      formals = at.formals;
+      block_stored = at.block_stored;
+      segment = s;
+    }
 
 module _ (words : List ℕ) (m : Machine) where
   abbrev κ : Regions
@@ -65,7 +78,8 @@ module _ (words : List ℕ) (m : Machine) where
     pub definition : Environment
     pub matched : Matched
     pub outer : List ℕ
-    pub effect_is : e ≡ goes (state (command (block body) ∷ mark (leave_mark p n) ∷ C) (environment E ∷ locations L ∷ matched.rest) matched.environment_with S [] (n + k))
+    pub effect_is : e ≡ goes (state (command (block body) ∷ mark (leave_mark p n) ∷ C) (environment E ∷ locations L ∷ matched.rest)
+        matched.environment_with S [] (n + k))
     pub looked : lookup x E ≡ some (closure formals body definition)
     pub matches : match_formals k formals X definition ≡ some matched
     pub word_is : w ≡ call_word (x + names * k)
@@ -97,7 +111,8 @@ module _ (words : List ℕ) (m : Machine) where
         models = with_items h (rest_of κ w (mark (call_mark p x k)) (running ms) μ v);
       }
 
-  pub call_top : (w p x k : ℕ) {C : List Item} {X : List Entry} {E : Environment} {S : Store} {L : List ℕ} {n : ℕ} {r : Rule} {e : Effect} → Ready words m w (mark (call_mark p x k)) C X E S L n r e → CallTop w p x k C X E S L n e
+  pub call_top : (w p x k : ℕ) {C : List Item} {X : List Entry} {E : Environment} {S : Store} {L : List ℕ} {n : ℕ} {r : Rule} {e : Effect} →
+      Ready words m w (mark (call_mark p x k)) C X E S L n r e → CallTop w p x k C X E S L n e
   call_top w p x k ready = call_by w p x k ready.models.mode ready.models ready.applies ready.models.control_as ready.models.values_as
 
   -- The numbers in the mark's word.
@@ -106,8 +121,13 @@ module _ (words : List ℕ) (m : Machine) where
     pub count_is : w / count_unit ≡ k
     pub few : k ≤ 8
 
-  pub call_numbers : (w p x k : ℕ) {C : List Item} {X : List Entry} {E : Environment} {S : Store} {L : List ℕ} {n : ℕ} {r : Rule} {e : Effect} → Ready words m w (mark (call_mark p x k)) C X E S L n r e → CallNumbers w x k
-  call_numbers w p x k ready = let top = call_top w p x k ready in record { name_is = name_in top.word_is top.name_low; count_is = count_in top.word_is top.name_low; few = top.count_low }
+  pub call_numbers : (w p x k : ℕ) {C : List Item} {X : List Entry} {E : Environment} {S : Store} {L : List ℕ} {n : ℕ} {r : Rule} {e : Effect} →
+      Ready words m w (mark (call_mark p x k)) C X E S L n r e → CallNumbers w x k
+  call_numbers w p x k ready = let top = call_top w p x k ready in record {
+    name_is = name_in top.word_is top.name_low;
+    count_is = count_in top.word_is top.name_low;
+    few = top.count_low;
+  }
     where
       name_in : w ≡ call_word (x + names * k) → x < names → w / carried_unit % 64 ≡ x
       name_in q l = omega arith
@@ -119,24 +139,27 @@ module _ (words : List ℕ) (m : Machine) where
 
   module _ (w : ℕ) where
     -- The actuals are on the value stack.
-    pub call_actuals : (p x k : ℕ) {C : List Item} {X : List Entry} {E : Environment} {S : Store} {L : List ℕ} {n : ℕ} {r : Rule} {e : Effect} → Ready words m w (mark (call_mark p x k)) C X E S L n r e → w / count_unit ≤ m.values
+    pub call_actuals : (p x k : ℕ) {C : List Item} {X : List Entry} {E : Environment} {S : Store} {L : List ℕ} {n : ℕ} {r : Rule} {e : Effect} →
+        Ready words m w (mark (call_mark p x k)) C X E S L n r e → w / count_unit ≤ m.values
     call_actuals p x k {X = X} ready =
         let top = call_top w p x k ready in
         let z = sizes words m top.models in
         let count = counted k top.formals X top.definition top.matched top.matches in
         omega (arith, z.values_height, count.entries_count, (call_numbers w p x k ready).count_is)
 
-    pub call_withheld : (reason : ℕ) → reason ≡ reason_of_room (m.bindings + w / count_unit) (m.values - w / count_unit + 2) (m.control + 2) → (reason ≡ 0 → ⊥) →
-        (p x k : ℕ) → Steps words m w (mark (call_mark p x k)) (Withheld reason) words
-    call_withheld reason is some_reason p x k C X E S L n r e ready =
+    pub call_withheld : (reason : Reason) → Some reason ≡ reason_of_room (m.bindings + w / count_unit) (m.values - w / count_unit + 2)
+        (m.control + 2) →
+        (p x k : ℕ) → Steps words m w (mark (call_mark p x k)) (Err reason) words
+    call_withheld reason is p x k C X E S L n r e ready =
         let top = call_top w p x k ready in
         let z = sizes words m top.models in
         let count = counted k top.formals X top.definition top.matched top.matches in
         let numbers = call_numbers w p x k ready in
-        answered (Withheld reason) words words top.effect_is
+        answered (Err reason) words words top.effect_is
         (step_withheld_for_room words _ _ _ _ _ _ (m.bindings + w / count_unit) (m.values - w / count_unit + 2) (m.control + 2) reason
-        (omega (arith, z.bindings_height, numbers.count_is)) (omega (arith, z.values_height, count.entries_count, numbers.count_is)) (omega (arith, z.control_height))
-        (omega (arith, z.cells_height, ready.fits.few_cells)) is some_reason)
+        (omega (arith, z.bindings_height, numbers.count_is)) (omega (arith, z.values_height, count.entries_count, numbers.count_is))
+        (omega (arith, z.control_height))
+        (omega (arith, z.cells_height, ready.fits.few_cells)) is)
 
   -- ---- The closure in its row, and its Formals.
 
@@ -152,14 +175,13 @@ module _ (words : List ℕ) (m : Machine) where
   abbrev pub called : ℕ → Machine
   called row = pointed (get_or words (row_payloads + row) 0 / closure_unit) m.declared m.cells m
 
-  pub called_fits : (row : ℕ) → Fits words m → Fits words (called row)
-  called_fits row f = record { room = f.room; few_control = f.few_control; few_values = f.few_values; few_bindings = f.few_bindings; few_cells = f.few_cells }
-
-  pub regions_called : (row : ℕ) → regions words (called row) ≡ with_pointers (get_or words (row_payloads + row) 0 / closure_unit) κ.declared m.cells κ
+  pub regions_called : (row : ℕ) → regions words (called row) ≡ with_pointers (get_or words (row_payloads + row) 0 / closure_unit)
+      κ.declared m.cells κ
   unfolding regions
   regions_called row = refl
 
-  module _ (w p x k : ℕ) {C : List Item} {X : List Entry} {E : Environment} {S : Store} {L : List ℕ} {n : ℕ} {r : Rule} {e : Effect} (ready : Ready words m w (mark (call_mark p x k)) C X E S L n r e) where
+  module _ (w p x k : ℕ) {C : List Item} {X : List Entry} {E : Environment} {S : Store} {L : List ℕ} {n : ℕ} {r : Rule} {e : Effect}
+      (ready : Ready words m w (mark (call_mark p x k)) C X E S L n r e) where
     abbrev top : CallTop w p x k C X E S L n e
     top = call_top w p x k ready
 
@@ -169,11 +191,13 @@ module _ (words : List ℕ) (m : Machine) where
     looked_up : lookup (w / carried_unit % 64) E ≡ some (closure top.formals top.body top.definition)
     looked_up = ap (λ y. lookup y E) (call_numbers w p x k ready).name_is ∙ top.looked
 
-    pub call_looked : (nodes : List ℕ) × (E : Environment) × (b : Bindable) × SegmentAs nodes κ.rows m.environment 0 E × (lookup (w / carried_unit % 64) E ≡ some b)
+    pub call_looked : (nodes : List ℕ) × (E : Environment) × (b : Bindable) × SegmentAs nodes κ.rows m.environment 0 E
+        × (lookup (w / carried_unit % 64) E ≡ some b)
     call_looked = (κ.nodes, E, closure top.formals top.body top.definition, in_environment, looked_up)
 
     module _ (row : ℕ) (found : RowFound w row) where
-      row_is : RowOf κ.nodes κ.rows (w / carried_unit % 64) (closure top.formals top.body top.definition) row (get_or words (row_labels + row) 0) (get_or words (row_payloads + row) 0)
+      row_is : RowOf κ.nodes κ.rows (w / carried_unit % 64) (closure top.formals top.body top.definition) row (get_or words (row_labels + row) 0)
+          (get_or words (row_payloads + row) 0)
       row_is = found κ.nodes E (closure top.formals top.body top.definition) in_environment looked_up
 
       pub row_low : row < m.bindings
@@ -197,14 +221,17 @@ module _ (words : List ℕ) (m : Machine) where
       -- The block stands behind its Formals.
       pub block_is : formal_first row + w / count_unit ≡ called_closure.block_place
       block_is =
-          behind _ _ _ _ _ (formals_end called_closure.formals) first_is (call_numbers w p x k ready).count_is (counted k top.formals X top.definition top.matched top.matches).formals_count
+          behind _ _ _ _ _ (formals_end called_closure.formals) first_is (call_numbers w p x k ready).count_is
+          (counted k top.formals X top.definition top.matched top.matches).formals_count
         where
           behind : (j q f c l : ℕ) → j ≡ suc q + l → f ≡ suc q → c ≡ k → k ≡ l → f + c ≡ j
           behind j q f c l a b g h = omega arith
 
-      pub call_binding : Binding (regions words (called row)) κ.base κ.declared κ.environment E (running top.outer) top.matched (regions words (called row)) (formal_first row) (formal_first row + w / count_unit)
+      pub call_binding : Binding (regions words (called row)) κ.base κ.declared κ.environment E (running top.outer) top.matched
+          (regions words (called row)) (formal_first row) (formal_first row + w / count_unit)
       call_binding =
-          subst (λ j. Binding j κ.base κ.declared κ.environment E (running top.outer) top.matched j (formal_first row) (formal_first row + w / count_unit)) (sym (regions_called row))
+          subst (λ j. Binding j κ.base κ.declared κ.environment E (running top.outer) top.matched j (formal_first row)
+          (formal_first row + w / count_unit)) (sym (regions_called row))
           (record {
             rows = κ.rows;
             values = κ.values;
@@ -214,7 +241,8 @@ module _ (words : List ℕ) (m : Machine) where
             made = top.definition;
             regions_are = refl;
             extends = no_more;
-            matches = subst (λ j. match_formals j top.formals X top.definition ≡ some top.matched) (counted k top.formals X top.definition top.matched top.matches).formals_count top.matches;
+            matches = subst (λ j. match_formals j top.formals X top.definition ≡ some top.matched)
+                (counted k top.formals X top.definition top.matched top.matches).formals_count top.matches;
             stored =
                 subst (λ i. StoredFormals κ.nodes i (formal_first row + w / count_unit) top.formals) (sym first_is)
                 (subst (λ j. StoredFormals κ.nodes (suc called_closure.place) j top.formals) (sym block_is) called_closure.formals);
@@ -223,4 +251,12 @@ module _ (words : List ℕ) (m : Machine) where
           })
 
       pub call_can_bind : CanBind words (called row) (formal_first row) (formal_first row + w / count_unit)
-      call_can_bind = record { base = κ.base; declared = κ.declared; pointer = κ.environment; environment = E; mode = running top.outer; matched = top.matched; start = call_binding }
+      call_can_bind = record {
+        base = κ.base;
+        declared = κ.declared;
+        pointer = κ.environment;
+        environment = E;
+        mode = running top.outer;
+        matched = top.matched;
+        start = call_binding;
+      }

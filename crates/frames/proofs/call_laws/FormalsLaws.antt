@@ -47,7 +47,8 @@ record FirstActual (f : Formal) (k : ℕ) (fs : List Formal) (X : List Entry) (F
   pub are : X ≡ bindable (value actual) ∷ rest
   pub matches : match_formals k fs rest (bound f.name (value actual) F) ≡ some M
 
-first_actual : (f : Formal) (k : ℕ) (fs : List Formal) (X : List Entry) (F : Environment) (M : Matched) → match_formals (suc k) (f ∷ fs) X F ≡ some M → FirstActual f k fs X F M
+first_actual : (f : Formal) (k : ℕ) (fs : List Formal) (X : List Entry) (F : Environment) (M : Matched) → match_formals (suc k) (f ∷ fs) X F
+    ≡ some M → FirstActual f k fs X F M
 unfolding match_formals
 first_actual f k fs [] F M q = missing q
 first_actual f k fs (bindable (value v) ∷ X) F M q = record { actual = v; rest = X; are = refl; matches = q }
@@ -64,7 +65,11 @@ pub record Counted (k : ℕ) (fs : List Formal) (X : List Entry) (M : Matched) :
 
 pub counted : (k : ℕ) (fs : List Formal) (X : List Entry) (F : Environment) (M : Matched) → match_formals k fs X F ≡ some M → Counted k fs X M
 unfolding match_formals
-counted zero [] X F M q = record { formals_count = refl; entries_count = same (ap (λ r. length r.rest) (some-injective (record { environment_with = F; rest = X }) M q)) }
+counted zero [] X F M q = record {
+  formals_count = refl;
+  entries_count = same
+      (ap (λ r. length r.rest) (some-injective (record { environment_with = F; rest = X }) M q));
+}
   where
     same : length X ≡ length M.rest → length X ≡ 0 + length M.rest
     same e = omega arith
@@ -148,7 +153,8 @@ module _ (κ : Regions) (base d p : ℕ) (E : Environment) (mode : Mode) (M : Ma
       on : BindableTop κ.nodes κ.rows base d p E mode σ.values first.rest (value first.actual)
       on = bindable_top (subst (λ X. ValuesAs κ.nodes κ.rows base d p E mode σ.values X) first.are σ.values_as)
 
-      any_rows : {nodes : List ℕ} {older rows : List Slot} {t w : ℕ} {v : Value} → BindableAs nodes older t w (value v) → BindableAs nodes rows t w (value v)
+      any_rows : {nodes : List ℕ} {older rows : List Slot} {t w : ℕ} {v : Value} → BindableAs nodes older t w (value v) →
+          BindableAs nodes rows t w (value v)
       any_rows (value_as h) = value_as h
 
   environment_of : (rows values : List Slot) (e : ℕ) → regions words m ≡ with_bound rows values e κ → m.environment ≡ e
@@ -162,11 +168,13 @@ module _ (κ : Regions) (base d p : ℕ) (E : Environment) (mode : Mode) (M : Ma
         some_values = on.some_values;
         label_low = subst (λ t. t < 2) (sym on.label_word) (value_label_low next.value_is);
         environment_low =
-            low (environment_of next.rows (next.top ∷ next.values) next.made_pointer next.regions_are) (pointer_low next.segment) (ap (λ k. length k.rows) next.regions_are) (rows_height words m);
+            low (environment_of next.rows (next.top ∷ next.values) next.made_pointer next.regions_are) (pointer_low next.segment)
+            (ap (λ k. length k.rows) next.regions_are) (rows_height words m);
         place_low = next.word.place_low;
       }
     where
-      low : m.environment ≡ next.made_pointer → next.made_pointer ≤ length next.rows → length (regions words m).rows ≡ length next.rows → length (regions words m).rows ≡ m.bindings →
+      low : m.environment ≡ next.made_pointer → next.made_pointer ≤ length next.rows → length (regions words m).rows ≡ length next.rows →
+          length (regions words m).rows ≡ m.bindings →
           m.environment ≤ m.bindings
       low a b c e = omega arith
 
@@ -186,12 +194,14 @@ module _ (κ : Regions) (base d p : ℕ) (E : Environment) (mode : Mode) (M : Ma
         regions_are =
             regions_environment after (at_height (m.values - 1) (raised_rows m)) (m.bindings + 1)
             ∙ ap (λ k. with_pointers (m.bindings + 1) k.declared k.base k)
-            ((one_on_top after (raised_rows m) next.top next.values (ap (λ k. k.values) (put ∙ ap (with_row row) next.regions_are))).popped ∙ ap (with_values next.values) (put ∙ ap (with_row row) next.regions_are));
+            ((one_on_top after (raised_rows m) next.top next.values (ap (λ k. k.values) (put ∙ ap (with_row row) next.regions_are))).popped
+            ∙ ap (with_values next.values) (put ∙ ap (with_row row) next.regions_are));
         extends = one_more next.extends;
         matches = next.matches;
         stored = subst (λ i. StoredFormals κ.nodes i block next.formals) (after_it formal) next.stored;
         segment =
-            segment_new (m.bindings + 1) (formal_link words m formal) newest label_is next.name_low (value_label_low next.value_is) (pointer_low next.segment)
+            segment_new (m.bindings + 1) (formal_link words m formal) newest label_is next.name_low (value_label_low next.value_is)
+            (pointer_low next.segment)
             (subst (λ w. BindableAs κ.nodes next.rows next.top.label w (value next.actual)) (sym on.payload_word) next.value_is) next.segment;
         values_as = next.values_as;
       }
@@ -209,12 +219,14 @@ module _ (κ : Regions) (base d p : ℕ) (E : Environment) (mode : Mode) (M : Ma
       newest = omega (arith, rows_height words m, ap (λ k. length k.rows) next.regions_are)
 
       word : HasWord words formal 42 (next.parameter.name + names * next.parameter.code) (suc formal)
-      word = node_word words m (subst (λ nodes. HasWord nodes formal 42 (next.parameter.name + names * next.parameter.code) (suc formal)) (sym (ap (λ k. k.nodes) next.regions_are)) next.word)
+      word = node_word words m (subst (λ nodes. HasWord nodes formal 42 (next.parameter.name + names * next.parameter.code) (suc formal))
+          (sym (ap (λ k. k.nodes) next.regions_are)) next.word)
 
       name_is : packed_operand (get_or words formal 0) % 64 ≡ next.parameter.name
       name_is = low_part (operand_is word (omega arith)) next.name_low
         where
-          low_part : packed_operand (get_or words formal 0) ≡ next.parameter.name + names * next.parameter.code → next.parameter.name < names → packed_operand (get_or words formal 0) % 64 ≡ next.parameter.name
+          low_part : packed_operand (get_or words formal 0) ≡ next.parameter.name + names * next.parameter.code → next.parameter.name < names →
+              packed_operand (get_or words formal 0) % 64 ≡ next.parameter.name
           low_part e l = omega arith
 
       label_is : formal_link words m formal ≡ link next.parameter.name next.top.label next.made_pointer

@@ -10,13 +10,14 @@ use Rattle.rules.specs.paper.States.{Bindable, Environment, Entry, environment}
 use Rattle.rules.specs.paper.Rules.{Effect}
 use Rattle.rules.specs.paper.Run.{judge}
 use Rattle.machine.specs.Layout.{row_labels, row_payloads, cell_payloads, cell_labels}
-use Rattle.machine.specs.Regions.{Slot, Regions, regions, Fits, with_values}
+use Rattle.machine.specs.Regions.{Slot, Regions, regions, with_values}
 use Rattle.machine.specs.Represents.{integer_as, truth_as, location_as, SegmentAs, BindableAs, value_as, closure_as, Stage, at_end, Mode, declaring, ValuesAs, declared_on}
 use Rattle.machine.specs.Steps.{StepAnswer}
 use Rattle.machine.specs.declared.Machine.{Machine}
-use Rattle.machine.specs.declared.Stepped.{Stepped}
+use Rattle.std.specs.Prelude.{Result}
 use Rattle.machine.proofs.memory_laws.RegionLaws.{slots_length}
 use Rattle.machine.proofs.state_laws.TopLaws.{at_height, one_on_top}
+use Rattle.rules.specs.declared.refusals.Reason.{Reason}
 
 -- ---- The machine with other pointers.
 
@@ -39,11 +40,13 @@ with_pointers e d b κ =
       size = κ.size;
     }
 
-pub regions_declared : (words : List ℕ) (m : Machine) (d : ℕ) → regions words (pointed m.environment d m.base m) ≡ with_pointers (regions words m).environment d (regions words m).base (regions words m)
+pub regions_declared : (words : List ℕ) (m : Machine) (d : ℕ) → regions words (pointed m.environment d m.base m) ≡ with_pointers
+    (regions words m).environment d (regions words m).base (regions words m)
 unfolding regions
 regions_declared words m d = refl
 
-pub regions_environment : (words : List ℕ) (m : Machine) (e : ℕ) → regions words (pointed e m.declared m.base m) ≡ with_pointers e (regions words m).declared (regions words m).base (regions words m)
+pub regions_environment : (words : List ℕ) (m : Machine) (e : ℕ) → regions words (pointed e m.declared m.base m) ≡ with_pointers e
+    (regions words m).declared (regions words m).base (regions words m)
 unfolding regions
 regions_environment words m e = refl
 
@@ -72,17 +75,16 @@ abbrev pub joined : Machine → Machine
 joined m = pointed m.declared m.declared m.base (at_height (m.values - 1) m)
 
 pub joined_regions : (words : List ℕ) (m : Machine) (s : Slot) (ws : List Slot) → (regions words m).values ≡ s ∷ ws →
-    regions words (joined m) ≡ with_pointers (regions words m).declared (regions words m).declared (regions words m).base (with_values ws (regions words m))
+    regions words (joined m) ≡ with_pointers (regions words m).declared (regions words m).declared (regions words m).base
+    (with_values ws (regions words m))
 joined_regions words m s ws q =
     regions_environment words (at_height (m.values - 1) m) m.declared
     ∙ ap (λ κ. with_pointers m.declared κ.declared κ.base κ) (one_on_top words m s ws q).popped
     ∙ ap (λ d. with_pointers d (regions words m).declared (regions words m).base (with_values ws (regions words m))) (sym (declared_is words m))
 
-pub joined_fits : {words : List ℕ} {m : Machine} → Fits words m → Fits words (joined m)
-joined_fits f = record { room = f.room; few_control = f.few_control; few_values = omega (arith, f.few_values); few_bindings = f.few_bindings; few_cells = f.few_cells }
-
 -- The answer to the effect that a mark was found to have.
-pub answered : {e f : Effect} (answer : Stepped) (before after : List ℕ) → e ≡ f → StepAnswer (judge false f) answer before after → StepAnswer (judge false e) answer before after
+pub answered : {e f : Effect} (answer : Result Machine Reason) (before after : List ℕ) → e ≡ f → StepAnswer (judge false f) answer before after →
+    StepAnswer (judge false e) answer before after
 answered answer before after q h = subst (λ g. StepAnswer (judge false g) answer before after) (sym q) h
 
 -- ---- On the value stack.
@@ -95,7 +97,8 @@ value_label_low (value_as location_as) = omega arith
 value_label_low (closure_as q l h e) = omega arith
 
 -- The names of a declaration that has ended, on the value stack: they are linked to the environment.
-pub record DeclaredTop (nodes : List ℕ) (rows : List Slot) (base d p : ℕ) (E : Environment) (mode : Mode) (all : List Slot) (D : Environment) (X : List Entry) : Type 0 where
+pub record DeclaredTop (nodes : List ℕ) (rows : List Slot) (base d p : ℕ) (E : Environment) (mode : Mode) (all : List Slot) (D : Environment)
+    (X : List Entry) : Type 0 where
   pub top : Slot
   pub rest : List Slot
   pub are : all ≡ top ∷ rest

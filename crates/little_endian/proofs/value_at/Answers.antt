@@ -1,7 +1,12 @@
--- The eight bytes as one number.
-use Rattle.little_endian.proofs.LoopLaws.{eight_bytes}
+-- The bytes at the place as one number.
+use Rattle.std.proofs.Common.{ap, ◌∙◌}
+use Rattle.little_endian.specs.Numbers.{little_endian}
+use Rattle.little_endian.proofs.LoopLaws.{value_read, taken_bytes, taken_length}
 use Rattle.little_endian.proofs.value_at.Goals as goal
 
 pub returns : goal.returns
 returns c =
-    eight_bytes c.args.bytes.now c.args.at _ _ c.requires c.word_at-low.ensures c.word_at-high.ensures
+    let chunk = rw c.unwrap.ensures at c.first_chunk.ensures.cases in
+    c.from_le_bytes.ensures
+    ∙ value_read c.unwrap.result.now (taken_length c.args.bytes.now _ c.args.at 8 c.requires chunk)
+    ∙ ap little_endian (taken_bytes c.args.bytes.now _ c.args.at 8 c.requires chunk)

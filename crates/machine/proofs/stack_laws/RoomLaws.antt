@@ -12,10 +12,6 @@ pub record Room (k : ℕ) (words : List ℕ) (m : Machine) : Type 0 where
   pub fits : Fits words m
   pub left : m.control + k ≤ most_control_entries
 
--- What `put_control` asks for.
-pub room_for : (k : ℕ) {words : List ℕ} {m : Machine} → Room (suc k) words m → Fits words m × (m.control < most_control_entries)
-room_for k room = (room.fits, omega (arith, room.left))
-
 pub room_after : (k : ℕ) {before after : List ℕ} {m r : Machine} {w : ℕ} → Room (suc k) before m → Put before m w after r → Room k after r
 room_after k {before} {after} {m} {r} {w} room put =
     record { fits = put_fits before m after r w room.fits put (omega (arith, room.left)); left = omega (arith, room.left, ap (λ o. o.control) put.machine_is) }

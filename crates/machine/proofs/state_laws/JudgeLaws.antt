@@ -1,23 +1,25 @@
--- Which steps are made and which are withheld: reasons 33 to 36 by the state after the step, in the order of the reasons.
+-- Which steps are made and which are withheld: the reasons of room by the state after the step, in the order of the reasons.
 use Prim.Native.Nat.{ℕ, ◌<◌, ◌≤◌}
 use mathlib.Core.Path.{◌≡◌, refl, sym, ap, ◌∙◌}
 use mathlib.Core.Bool.{Bool, true, false, cond}
 use mathlib.Core.List.{List}
 use mathlib.Core.Option.{Option, none, some}
-use native.Mathlib.Omega.{arith}
 use borrow.Author.Tests.{le-ltb, lt-ltb, ltb-false}
 use lib.Dec.{ltb}
 use lib.ListN.{length}
-use Rattle.rules.specs.paper.Refusals.{Reason, Steps, ZeroDivisor, OutOfRange, Cells, Bindings, ValueEntries, ControlEntries, reason_number}
+use Rattle.std.specs.Prelude.{Some, None}
+use Rattle.rules.specs.paper.Refusals.{reason_number}
+use Rattle.rules.specs.declared.refusals.Reason.{Reason}
+use Rattle.rules.specs.declared.refusals.Reason.TheVariants.{Steps, ZeroDivisor, OutOfRange, Cells, Bindings, ValueEntries, ControlEntries}
 use Rattle.rules.specs.paper.States.{Environment, Store, Entry, Item, State, state}
 use Rattle.rules.specs.paper.Rules.{goes, fails}
 use Rattle.rules.specs.paper.Run.{priority, holds, first_holding, made, withheld, settle, judge}
 use Rattle.rules.specs.paper.Limits.{most_cells, most_bindings, most_value_entries, most_control_entries}
 use Rattle.rules.proofs.running.Judging.{first_same}
-use Rattle.machine.specs.Room.{over_limit, number_or_zero, reason_of_room}
+use Rattle.machine.specs.Room.{over_limit, answered, reason_of_room}
 
 module _ (bindings values control : ℕ) where
-  -- ---- The first reason that so many bindings and entries are over the limit for, and its number.
+  -- ---- The first reason that so many bindings and entries are over the limit for.
 
   abbrev first_over : Option Reason
   first_over = first_holding (over_limit bindings values control) priority
@@ -38,32 +40,32 @@ module _ (bindings values control : ℕ) where
   unfolding priority first_holding
   none_over free short few = rw (le-ltb most_bindings bindings free, le-ltb most_control_entries control short, le-ltb most_value_entries values few)
 
-  pub over_bindings : most_bindings < bindings → 34 ≡ reason_of_room bindings values control
-  unfolding reason_of_room reason_number
-  over_bindings above = sym (ap number_or_zero (first_bindings above))
-
-  pub over_control : bindings ≤ most_bindings → most_control_entries < control → 36 ≡ reason_of_room bindings values control
-  unfolding reason_of_room reason_number
-  over_control free above = sym (ap number_or_zero (first_control free above))
-
-  pub over_values : bindings ≤ most_bindings → control ≤ most_control_entries → most_value_entries < values → 35 ≡ reason_of_room bindings values control
-  unfolding reason_of_room reason_number
-  over_values free short above = sym (ap number_or_zero (first_values free short above))
-
-  pub within_limits : bindings ≤ most_bindings → control ≤ most_control_entries → values ≤ most_value_entries → 0 ≡ reason_of_room bindings values control
+  pub over_bindings : most_bindings < bindings → Some Bindings ≡ reason_of_room bindings values control
   unfolding reason_of_room
-  within_limits free short few = sym (ap number_or_zero (none_over free short few))
+  over_bindings above = sym (ap answered (first_bindings above))
 
-  -- No number is 0, so there is room for all three.
-  pub room_left : reason_of_room bindings values control ≡ 0 → (bindings ≤ most_bindings) × (values ≤ most_value_entries) × (control ≤ most_control_entries)
-  unfolding reason_of_room priority first_holding reason_number
+  pub over_control : bindings ≤ most_bindings → most_control_entries < control → Some ControlEntries ≡ reason_of_room bindings values control
+  unfolding reason_of_room
+  over_control free above = sym (ap answered (first_control free above))
+
+  pub over_values : bindings ≤ most_bindings → control ≤ most_control_entries → most_value_entries < values → Some ValueEntries ≡ reason_of_room bindings values control
+  unfolding reason_of_room
+  over_values free short above = sym (ap answered (first_values free short above))
+
+  pub within_limits : bindings ≤ most_bindings → control ≤ most_control_entries → values ≤ most_value_entries → None ≡ reason_of_room bindings values control
+  unfolding reason_of_room
+  within_limits free short few = sym (ap answered (none_over free short few))
+
+  -- Where none is named there is room for all three.
+  pub room_left : None ≡ reason_of_room bindings values control → (bindings ≤ most_bindings) × (values ≤ most_value_entries) × (control ≤ most_control_entries)
+  unfolding reason_of_room priority first_holding
   room_left q = by (ltb most_bindings bindings) (ltb most_control_entries control) (ltb most_value_entries values) refl refl refl q
     where
       by : (b c v : Bool) → ltb most_bindings bindings ≡ b → ltb most_control_entries control ≡ c → ltb most_value_entries values ≡ v →
-          number_or_zero (cond b (some Bindings) (cond c (some ControlEntries) (cond v (some ValueEntries) none))) ≡ 0 → (bindings ≤ most_bindings) × (values ≤ most_value_entries) × (control ≤ most_control_entries)
-      by true _ _ p q r z = absurd (omega (arith, z))
-      by false true _ p q r z = absurd (omega (arith, z))
-      by false false true p q r z = absurd (omega (arith, z))
+          None ≡ answered (cond b (some Bindings) (cond c (some ControlEntries) (cond v (some ValueEntries) none))) → (bindings ≤ most_bindings) × (values ≤ most_value_entries) × (control ≤ most_control_entries)
+      by true _ _ p q r z = cc
+      by false true _ p q r z = cc
+      by false false true p q r z = cc
       by false false false p q r z = (ltb-false most_bindings bindings p, ltb-false most_value_entries values r, ltb-false most_control_entries control q)
 
 -- ---- The step to a state, by its sizes.
@@ -103,15 +105,14 @@ module _ (C : List Item) (X : List Entry) (E : Environment) (S : Store) (L : Lis
   pub judged_values : length S ≤ most_cells → n ≤ most_bindings → length C ≤ most_control_entries → most_value_entries < length X → judge false (goes after) ≡ withheld ValueEntries
   judged_values cells free short above = judged_by_sizes cells (first_values n (length X) (length C) free short above)
 
-  -- For the reason that the code has a number for.
-  pub judged_over : length S ≤ most_cells → (reason_of_room n (length X) (length C) ≡ 0 → ⊥) →
-      (x : Reason) × (judge false (goes after) ≡ withheld x) × (reason_of_room n (length X) (length C) ≡ reason_number x)
+  -- For the reason that the code names.
+  pub judged_over : length S ≤ most_cells → (x : Reason) → Some x ≡ reason_of_room n (length X) (length C) → judge false (goes after) ≡ withheld x
   unfolding reason_of_room
-  judged_over cells over = by (first_over n (length X) (length C)) refl over
+  judged_over cells x named = by (first_over n (length X) (length C)) refl named
     where
-      by : (o : Option Reason) → first_over n (length X) (length C) ≡ o → (number_or_zero o ≡ 0 → ⊥) → (x : Reason) × (judge false (goes after) ≡ withheld x) × (number_or_zero o ≡ reason_number x)
-      by none q z = absurd (z refl)
-      by (some x) q z = (x, judged_by_sizes cells q, refl)
+      by : (o : Option Reason) → first_over n (length X) (length C) ≡ o → Some x ≡ answered o → judge false (goes after) ≡ withheld x
+      by none q z = cc
+      by (some y) q z = judged_by_sizes cells q ∙ ap withheld (cc)
 
 -- An arithmetic fault is its own reason.
 pub judged_zero_divisor : judge false (fails ZeroDivisor) ≡ withheld ZeroDivisor

@@ -6,7 +6,7 @@ use mathlib.Core.List.{List, ◌∷◌}
 use native.Mathlib.Omega.{arith}
 use lib.IntN.{ℤ}
 use lib.ListN.{get_or}
-use Rattle.rules.specs.paper.Tree.{Operator}
+use Rattle.rules.specs.declared.kinds.Operator.{Operator}
 use Rattle.rules.specs.claims.Listing.{truth_word}
 use Rattle.rules.specs.paper.States.{Value, integer, truth, location, value, Environment, Store, Entry, val, Item, mark, operator_mark, not_mark, assign_mark, loop_mark, conditional_mark, ref_mark}
 use Rattle.machine.specs.Layout.{top_payload, second_payload, top_label, second_label}

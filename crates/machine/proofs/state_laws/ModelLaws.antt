@@ -5,7 +5,8 @@ use mathlib.Core.Bool.{false}
 use mathlib.Core.List.{List}
 use native.Mathlib.Omega.{arith}
 use lib.ListN.{length}
-use Rattle.rules.specs.paper.Refusals.{Reason, reason_number}
+use Rattle.std.specs.Prelude.{Result, Ok, Err, Some}
+use Rattle.rules.specs.declared.refusals.Reason.{Reason}
 use Rattle.rules.specs.paper.States.{Environment, Store, Entry, Item, state}
 use Rattle.rules.specs.paper.Rules.{goes}
 use Rattle.rules.specs.paper.Run.{Verdict, withheld, judge}
@@ -16,8 +17,6 @@ use Rattle.machine.specs.Regions.{Slot, Regions, regions, Fits}
 use Rattle.machine.specs.Represents.{StoreAs, no_cell, one_cell, Mode, ControlAs, nothing_left, expression_on, command_on, declaration_on, reference_on, abstraction_on, operator_on, not_on, assign_on, loop_on, conditional_on, ref_on, bind_on, dseq_extend_on, dseq_join_on, extend_on, leave_on, call_on, ValuesAs, nothing_on, bindable_on, name_on, node_on, declared_on, saved_on, opened_on, frame_on, Beside, Models}
 use Rattle.machine.specs.Steps.{Untouched, StepAnswer}
 use Rattle.machine.specs.declared.Machine.{Machine}
-use Rattle.machine.specs.declared.Stepped.{Stepped}
-use Rattle.machine.specs.declared.Stepped.TheVariants.{Made, Withheld}
 use Rattle.machine.proofs.memory_laws.RegionLaws.{stack_length, slots_length}
 use Rattle.machine.proofs.state_laws.JudgeLaws.{judged_made, judged_over}
 
@@ -109,8 +108,8 @@ unfolding regions
 untouched before after m m' a b c = record { same_nodes = a; same_beyond = b; same_length = c }
 
 -- The machine after the step has its words, is within the limits and holds the state after the step: the step is made.
-pub step_made : (before after : List ℕ) (m m' : Machine) (r : Stepped) (C : List Item) (X : List Entry) (E : Environment) (S : Store) (L : List ℕ) (n : ℕ) →
-    r ≡ Made m' → Fits after m' → Models (regions after m') C X E S L n →
+pub step_made : (before after : List ℕ) (m m' : Machine) (r : Result Machine Reason) (C : List Item) (X : List Entry) (E : Environment) (S : Store) (L : List ℕ) (n : ℕ) →
+    r ≡ Ok m' → Fits after m' → Models (regions after m') C X E S L n →
     (regions after m').nodes ≡ (regions before m).nodes → (regions after m').beyond ≡ (regions before m).beyond → (regions after m').size ≡ (regions before m).size →
     StepAnswer (judge false (goes (state C X E S L n))) r before after
 step_made before after m m' r C X E S L n q f μ a b c =
@@ -122,16 +121,15 @@ step_made before after m m' r C X E S L n q f μ a b c =
     z = sizes after m' μ
 
 -- The step is withheld for this reason, and nothing is written.
-pub step_withheld : (words : List ℕ) (x : Reason) (v : Verdict) (r : Stepped) → v ≡ withheld x → r ≡ Withheld (reason_number x) → StepAnswer v r words words
+pub step_withheld : (words : List ℕ) (x : Reason) (v : Verdict) (r : Result Machine Reason) → v ≡ withheld x → r ≡ Err x → StepAnswer v r words words
 step_withheld words x v r q a = subst (λ w. StepAnswer w r words words) (sym q) (record { answer = a; unchanged = refl })
 
--- The step leaves more bindings or entries than there is room for: it is withheld for the number that the code has for it.
-pub step_withheld_for_room : (words : List ℕ) (C : List Item) (X : List Entry) (E : Environment) (S : Store) (L : List ℕ) (n bindings values control reason : ℕ) →
-    bindings ≡ n → values ≡ length X → control ≡ length C → length S ≤ most_cells → reason ≡ reason_of_room bindings values control → (reason ≡ 0 → ⊥) →
-    StepAnswer (judge false (goes (state C X E S L n))) (Withheld reason) words words
-step_withheld_for_room words C X E S L n bindings values control reason b v c cells is some_reason =
-    let j = judged_over C X E S L n cells (λ z. some_reason (is ∙ sizes_are ∙ z)) in
-    step_withheld words j.0 _ _ j.1 (ap Withheld (is ∙ sizes_are ∙ j.2))
+-- The step leaves more bindings or entries than there is room for: it is withheld for the reason that the code names.
+pub step_withheld_for_room : (words : List ℕ) (C : List Item) (X : List Entry) (E : Environment) (S : Store) (L : List ℕ) (n bindings values control : ℕ) (reason : Reason) →
+    bindings ≡ n → values ≡ length X → control ≡ length C → length S ≤ most_cells → Some reason ≡ reason_of_room bindings values control →
+    StepAnswer (judge false (goes (state C X E S L n))) (Err reason) words words
+step_withheld_for_room words C X E S L n bindings values control reason b v c cells is =
+    step_withheld words reason _ _ (judged_over C X E S L n cells reason (is ∙ sizes_are)) refl
   where
     sizes_are : reason_of_room bindings values control ≡ reason_of_room n (length X) (length C)
     sizes_are = rw (b, v, c) refl

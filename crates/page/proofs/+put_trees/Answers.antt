@@ -7,9 +7,6 @@ use Rattle.page.proofs.+put_trees.Goals as goal
 pub loop-node-init : goal.loop-node-init
 loop-node-init t c = none_put _ _ _ _ _
 
-pub overflow_add-child : goal.overflow_add-child
-overflow_add-child t c = record { fits = omega (arith, node_low c.loop-node.invariant c.requires.some_trees c.loop-node-test.true) }
-
 pub end-after-requires : goal.end-after-requires
 end-after-requires t c =
     omega (arith, node_low c.loop-node.invariant c.requires.some_trees c.loop-node-test.true, c.requires.most_nodes_in_bounds)
@@ -43,9 +40,6 @@ loop-node-smaller t c =
 pub loop-node-preserved : goal.loop-node-preserved
 loop-node-preserved t c =
     one_more_put c.loop-node.invariant _ _ _ c.loop-node-test.true c.end-after.ensures c.put_line.ensures c.put_trees.ensures
-
-pub shape_of-page : goal.shape_of-page
-shape_of-page t c = so_far_length c.loop-node.invariant c.requires.some_trees
 
 pub returns : goal.returns
 returns t c = all_put c.loop-node.invariant c.loop-node-test.false

@@ -1,40 +1,27 @@
 -- The root by the kind of node 0.
-use Rattle.carrying.proofs.FrameLaws.{keeps_all}
-use Rattle.ranges.proofs.RootLaws.{absent_carried, expression_there, expression_carried, expression_unsafe, command_there, command_carried}
+use Rattle.std.proofs.lemmas.Result.{err_from_is_err_and}
+use Rattle.ranges.proofs.RootLaws.{absent_carried, known_there, expression_there, expression_carried, expression_unsafe, command_there, command_carried}
 use Rattle.ranges.proofs.root.Goals as goal
 
-pub returns-then-nodes-eq0 : goal.returns-then-nodes-eq0
-returns-then-nodes-eq0 c = record {
-  root_carried = absent_carried _ _ _ c.if-nodes-eq0.true;
-  keeps = keeps_all _ _ _;
-}
+pub returns-then-nodes-eq0-clause-root_carried : goal.returns-then-nodes-eq0-clause-root_carried
+returns-then-nodes-eq0-clause-root_carried c = absent_carried _ _ _ c.if-nodes-eq0.true
 
-pub expression-given-requires : goal.expression-given-requires
-expression-given-requires c = record {
-  regions_end_in_bounds = c.requires.regions_end_in_bounds;
-  some_expression = expression_there _ _ _ c.if-nodes-eq0.false _ c.kind-which.ensures c.if-which-lt-ASSIGN.true c.requires.some_root;
-}
+pub node_kind-requires-clause-known : goal.node_kind-requires-clause-known
+node_kind-requires-clause-known c = known_there _ _ _ c.if-nodes-eq0.false c.requires.some_root
 
-pub returns-in-Is : goal.returns-in-Is
-returns-in-Is c = record {
-  root_carried = expression_carried _ _ _ c.if-nodes-eq0.false _ c.kind-which.ensures c.if-which-lt-ASSIGN.true _ c.expression-given.ensures _ c.in-Is.is;
-  keeps = keeps_all _ _ _;
-}
+pub expression-requires-clause-some_expression : goal.expression-requires-clause-some_expression
+expression-requires-clause-some_expression c = expression_there _ _ _ c.if-nodes-eq0.false _ c.node_kind.ensures _ c.in-Expression.is c.requires.some_root
 
-pub returns-in-Unsafe : goal.returns-in-Unsafe
-returns-in-Unsafe c = record {
-  root_carried = expression_unsafe _ _ _ c.if-nodes-eq0.false _ c.kind-which.ensures c.if-which-lt-ASSIGN.true _ c.expression-given.ensures _ c.in-Unsafe.is;
-  keeps = keeps_all _ _ _;
-}
+pub returns-in_err-expression-in-Expression-clause-root_carried : goal.returns-in_err-expression-in-Expression-clause-root_carried
+returns-in_err-expression-in-Expression-clause-root_carried c =
+    let p = err_from_is_err_and c.from_residual.result c.from_residual.ensures.1 in
+    rw (p.1, p.2) (expression_unsafe _ _ _ c.if-nodes-eq0.false _ c.node_kind.ensures _ c.in-Expression.is _ c.in_err-expression-in-Expression.ensures)
 
-pub command-requires : goal.command-requires
-command-requires c = record {
-  regions_end_in_bounds = c.requires.regions_end_in_bounds;
-  some_command = command_there _ _ _ c.if-nodes-eq0.false _ c.kind-which.ensures c.if-which-lt-ASSIGN.false c.requires.some_root;
-}
+pub returns-in_ok-expression-in-Expression-clause-root_carried : goal.returns-in_ok-expression-in-Expression-clause-root_carried
+returns-in_ok-expression-in-Expression-clause-root_carried c = expression_carried _ _ _ c.if-nodes-eq0.false _ c.node_kind.ensures _ c.in-Expression.is _ c.in_ok-expression-in-Expression.ensures
 
-pub returns : goal.returns
-returns c = record {
-  root_carried = command_carried _ _ _ c.if-nodes-eq0.false _ c.kind-which.ensures c.if-which-lt-ASSIGN.false _ _ c.command.ensures.command_carried;
-  keeps = c.command.ensures.keeps;
-}
+pub command-requires-clause-some_command : goal.command-requires-clause-some_command
+command-requires-clause-some_command c = command_there _ _ _ c.if-nodes-eq0.false _ c.node_kind.ensures c.in_default.not-Expression c.requires.some_root
+
+pub returns-in_default-clause-root_carried : goal.returns-in_default-clause-root_carried
+returns-in_default-clause-root_carried c = command_carried _ _ _ c.if-nodes-eq0.false _ c.node_kind.ensures c.in_default.not-Expression _ _ c.command.ensures.command_carried

@@ -1,15 +1,12 @@
 -- The proof of `read_node`: it answers what the reader of Scan.antt reads. The measure is the levels that are left. The loop over the
--- children keeps what was read so far (SiblingLaws.antt), and its measure is how many are left.
+-- children keeps what was read so far (SiblingLaws.antt).
 use Prim.Native.Nat.{◌-◌}
-use Rattle.reader.proofs.ReadLaws.{node_sorts}
+use Rattle.reader.specs.Children.{sorts_of_children}
 use Rattle.reader.proofs.SiblingLaws.{ReadSoFar}
 use Rattle.reader.proofs.+read_node.Given as goal
 
-abbrev pub invariant-loop-left : goal.invariant-loop-left
-invariant-loop-left l = ReadSoFar l.image l.n l.initial.end (node_sorts l.kind l.operand) (l.levels - 1) l.initial.work l.work l.left l.end
-
-abbrev pub decreases-loop-left : goal.decreases-loop-left
-decreases-loop-left l = l.left
+abbrev pub invariant-loop-index : goal.invariant-loop-index
+invariant-loop-index l = ReadSoFar l.image l.n l.initial.end (sorts_of_children l.children) (l.levels - 1) l.initial.work l.work l.index l.end
 
 abbrev pub decreases-read_node : goal.decreases-read_node
 decreases-read_node l = l.levels

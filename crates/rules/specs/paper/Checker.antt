@@ -6,6 +6,9 @@ use Rattle.std.proofs.Math.Option.{Option, none, some}
 use Rattle.rules.specs.paper.Tree.{Operator, arithmetic, Eq, order, logic, Expression, Num, Boo, Id, DeRef, ValRef, Binary, Not, Formal, Command, Assign, Loop, CSeq, block, Call, Cond, Block, Blk, Declaration, Bind, DSeq, Bound, plain, Ref, Abs, Root, expression, command, absent}
 use Rattle.rules.specs.paper.Limits.{plain_codes}
 use Rattle.rules.specs.paper.Refusals.{Refusal, Unbound, Mistyped, Repeated, NotAssignable, BadCall}
+-- What the checker answers of an image that passes, the root's code or "command", is the code's own type, of src/kinds.rt.
+pub use Rattle.rules.specs.declared.kinds.Passed.{Passed}
+pub use Rattle.rules.specs.declared.kinds.Passed.TheVariants.{Expression as expression_of_code, Command as a_command}
 
 -- What a name means: a value of a type code, or a function with its Formals.
 pub data Meaning : Type 0 where
@@ -219,11 +222,6 @@ unfoldable mutual
 unfoldable pub register_scope : ℕ → Scope
 register_scope zero = []
 register_scope (suc r) = record { name = r; meaning = code 2 } ∷ register_scope r
-
--- What the checker answers of an image that passes: the root's code, or "command".
-pub data Passed : Type 0 where
-  expression_of_code : ℕ → Passed
-  a_command : Passed
 
 unfoldable pub root_is : Scope → Root → Judged Passed
 root_is Γ (expression e) = expression_code Γ e >>= λ c. fine (expression_of_code c)

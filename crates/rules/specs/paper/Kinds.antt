@@ -4,29 +4,19 @@ use Rattle.std.specs.Prelude.{ℕ, ◌*◌, ◌/◌, suc, Bool, true, false, con
 use Rattle.std.proofs.Math.Option.{Option, none, some}
 use Rattle.rules.specs.paper.Tree.{Operator, arithmetic, Eq, order, logic, Sum, Sub, Mul, Div, Lt, Le, Gt, Ge, And, Or}
 use Rattle.rules.specs.paper.Limits.{words, names, codes, most_parameters}
-
-pub data ExpressionKind : Type 0 where
-  num boo id deref valref : ExpressionKind
-  binary : Operator → ExpressionKind
-  negation : ExpressionKind
-
-pub data CommandKind : Type 0 where
-  assign loop cseq blk call conditional : CommandKind
-
-pub data DeclarationKind : Type 0 where
-  bind dseq : DeclarationKind
-
--- A kind with its sort: kinds 1 to 17 are expressions, 20 to 25 commands, 30 and 31 declarations.
-pub data Kind : Type 0 where
-  expression_kind : ExpressionKind → Kind
-  command_kind : CommandKind → Kind
-  declaration_kind : DeclarationKind → Kind
-  ref abs formal : Kind
-
+-- A kind with its sort: kinds 1 to 17 are expressions, 20 to 25 commands, 30 and 31 declarations. The types are the code's own, of src/kinds.rt.
+pub use Rattle.rules.specs.declared.kinds.ExpressionKind.{ExpressionKind}
+pub use Rattle.rules.specs.declared.kinds.ExpressionKind.TheVariants.{Num as num, Boo as boo, Id as id, DeRef as deref, ValRef as valref, Binary as binary, Not as negation}
+pub use Rattle.rules.specs.declared.kinds.CommandKind.{CommandKind}
+pub use Rattle.rules.specs.declared.kinds.CommandKind.TheVariants.{Assign as assign, Loop as loop, CSeq as cseq, Blk as blk, Call as call, Cond as conditional}
+pub use Rattle.rules.specs.declared.kinds.DeclarationKind.{DeclarationKind}
+pub use Rattle.rules.specs.declared.kinds.DeclarationKind.TheVariants.{Bind as bind, DSeq as dseq}
+pub use Rattle.rules.specs.declared.kinds.Kind.{Kind}
+pub use Rattle.rules.specs.declared.kinds.Kind.TheVariants.{Expression as expression_kind, Command as command_kind, Declaration as declaration_kind, Ref as ref, Abs as abs, Formal as formal}
 -- What a child, or the root, may be: an expression, a command, a declaration; what a Bind binds, which is an expression, Ref or Abs; a
 -- Formal; a Blk and no other command; and the root, which is an expression or a command.
-pub data Sort : Type 0 where
-  an_expression a_command a_declaration a_bound a_formal a_Block a_root : Sort
+pub use Rattle.rules.specs.declared.kinds.Sort.{Sort}
+pub use Rattle.rules.specs.declared.kinds.Sort.TheVariants.{Expression as an_expression, Command as a_command, Declaration as a_declaration, Bound as a_bound, Formal as a_formal, Block as a_Block, Root as a_root}
 
 -- The children of a kind: one of each of these sorts; or first some of one sort, as many as the operand counts.
 pub data Children : Type 0 where

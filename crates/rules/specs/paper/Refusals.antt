@@ -1,31 +1,11 @@
 -- The refusals (paper, "What the engine says no with"): each case by name, and the paper's number for it.
 use Rattle.std.specs.Prelude.{ℕ}
-
--- By the run: why a step is withheld. A "reason" is the paper's term for these seven.
-pub data Reason : Type 0 where
-  Steps : Reason  -- 30: steps made equal the budget and control is not empty
-  ZeroDivisor : Reason  -- 31
-  OutOfRange : Reason  -- 32: the result is outside the integers
-  Cells : Reason  -- 33: a 257th cell
-  Bindings : Reason  -- 34: a 513th binding
-  ValueEntries : Reason  -- 35: a 513th value entry
-  ControlEntries : Reason  -- 36: a 513th control entry
-
-pub data Refusal : Type 0 where
-  -- caused by the maker of the image
-  Length Size Kind Operand Tree Depth : Refusal
-  -- by the routine's author
-  Unbound Mistyped Repeated NotAssignable BadCall : Refusal
-  -- by the host
-  Registers Budget Work : Refusal
-  -- by the run
-  Withheld : Reason → Refusal
-  -- by the needs and the ranges: the steps come out above 1,000,000
-  TooManySteps : Refusal
-  -- by the host: the lent page is shorter than 31 bytes a node
-  ShortPage : Refusal
-  -- by the ranges: a lowest start exceeds its highest; the image has a Loop; an end leaves the integers or a divisor's range holds 0
-  CrossedLimits HasLoop UnsafeArithmetic : Refusal
+-- The cases are the code's own, `Reason` and `Refusal` of src/refusals.rt. By the run, a `Reason` says why a step is withheld: the paper's
+-- term for seven of the refusals.
+pub use Rattle.rules.specs.declared.refusals.Reason.{Reason}
+pub use Rattle.rules.specs.declared.refusals.Reason.TheVariants.{Steps, ZeroDivisor, OutOfRange, Cells, Bindings, ValueEntries, ControlEntries}
+pub use Rattle.rules.specs.declared.refusals.Refusal.{Refusal}
+pub use Rattle.rules.specs.declared.refusals.Refusal.TheVariants.{Length, Size, Kind, Operand, Tree, Depth, Unbound, Mistyped, Repeated, NotAssignable, BadCall, Registers, Budget, Work, Withheld, TooManySteps, ShortPage, CrossedLimits, HasLoop, UnsafeArithmetic}
 
 unfoldable pub reason_number : Reason → ℕ
 reason_number Steps = 30

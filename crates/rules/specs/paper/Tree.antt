@@ -1,22 +1,15 @@
 -- The Π IR tree (paper, "The image"): labelled abstract syntax. Each node carries its place, its number in preorder.
 -- A block is a sort of its own, since a function holds a block and no other command.
 use Rattle.std.specs.Prelude.{ℕ, Bool, List}
-
--- Kinds 4 to 14, grouped by what they take and give ("Scope and types").
-pub data Arithmetic : Type 0 where
-  Sum Sub Mul Div : Arithmetic
-
-pub data Order : Type 0 where
-  Lt Le Gt Ge : Order
-
-pub data Logic : Type 0 where
-  And Or : Logic
-
-pub data Operator : Type 0 where
-  arithmetic : Arithmetic → Operator
-  Eq : Operator
-  order : Order → Operator
-  logic : Logic → Operator
+-- Kinds 4 to 14, grouped by what they take and give ("Scope and types"): the code's own types, of src/kinds.rt.
+pub use Rattle.rules.specs.declared.kinds.Arithmetic.{Arithmetic}
+pub use Rattle.rules.specs.declared.kinds.Arithmetic.TheVariants.{Sum, Sub, Mul, Div}
+pub use Rattle.rules.specs.declared.kinds.Order.{Order}
+pub use Rattle.rules.specs.declared.kinds.Order.TheVariants.{Lt, Le, Gt, Ge}
+pub use Rattle.rules.specs.declared.kinds.Logic.{Logic}
+pub use Rattle.rules.specs.declared.kinds.Logic.TheVariants.{And, Or}
+pub use Rattle.rules.specs.declared.kinds.Operator.{Operator}
+pub use Rattle.rules.specs.declared.kinds.Operator.TheVariants.{Arithmetic as arithmetic, Eq, Order as order, Logic as logic}
 
 -- Kinds 1 to 17.
 pub data Expression : Type 0 where

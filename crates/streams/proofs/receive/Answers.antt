@@ -1,22 +1,29 @@
 -- The loop of reads, by the laws of a transfer.
-use Rattle.std.proofs.Common.{◌∙◌, arith}
+use Rattle.std.proofs.Common.{◌≡◌, ◌∙◌, length, Some, Ok, Err, arith, rules}
+use Rattle.streams.specs.Transfers.{Answered}
 use Rattle.streams.proofs.ByteLaws.{consumed_on}
-use Rattle.streams.proofs.LoopLaws.{answered_within, transfer_on, transfer_full, transfer_nothing, transfer_failed}
+use Rattle.streams.proofs.LoopLaws.{answered_within, transfer_on, transfer_whole, transfer_nothing, transfer_failed}
 use Rattle.streams.proofs.receive.Goals as goal
 
 pub loop-left-preserved : goal.loop-left-preserved
-loop-left-preserved g c = record {
-  same_length = c.receive_some.auto.input ∙ c.loop-left.invariant.same_length;
-  so_far = transfer_on _ _ _ _ _ _ c.loop-left-test.true c.in-On.ensures.answered c.loop-left.invariant.so_far;
-  bytes = consumed_on _ _ _ _ _ _ _ (answered_within _ _ _ _ c.loop-left-test.true c.in-On.ensures.answered) (omega (arith, c.loop-left.invariant.so_far.within))
-      c.receive_some.auto.input c.in-On.ensures.front c.loop-left.invariant.bytes c.in-On.ensures.bytes;
-}
+loop-left-preserved g c =
+    let answered : Answered c.loop-left.left (Ok (Some c.in-Some.rest)) = rw c.in-Some.is at c.in_ok-rest.ensures.answered in
+    record {
+      same_length = c.receive_some.auto.input ∙ c.loop-left.invariant.same_length;
+      so_far = transfer_on _ _ _ c.loop-left-test.true answered c.loop-left.invariant.so_far;
+      bytes = consumed_on _ _ _ _ _ _ _ (answered_within _ _ c.loop-left-test.true answered) (omega (arith, c.loop-left.invariant.so_far.within))
+          c.receive_some.auto.input c.in_ok-rest.ensures.front c.loop-left.invariant.bytes (rw c.in-Some.is at c.in_ok-rest.ensures.bytes);
+    }
 
-pub returns-in-Nothing-clause-transfers : goal.returns-in-Nothing-clause-transfers
-returns-in-Nothing-clause-transfers g c = transfer_nothing _ _ _ _ c.loop-left-test.true c.in-Nothing.ensures.answered c.loop-left.invariant.so_far
+pub returns-in_err-rest-clause-transfers : goal.returns-in_err-rest-clause-transfers
+returns-in_err-rest-clause-transfers g c =
+    let same : c.from_residual.result ≡ Err c.in_err-rest.field-0.0 = search rules in
+    rw same (transfer_failed _ _ _ c.loop-left-test.true c.in_err-rest.ensures.answered c.loop-left.invariant.so_far)
 
-pub returns-in-Failed-clause-transfers : goal.returns-in-Failed-clause-transfers
-returns-in-Failed-clause-transfers g c = transfer_failed _ _ _ _ _ c.loop-left-test.true c.in-Failed.ensures.answered c.loop-left.invariant.so_far
+pub returns-in-None-clause-transfers : goal.returns-in-None-clause-transfers
+returns-in-None-clause-transfers g c =
+    let same : length c.receive_some.new.input ≡ length c.args.input.now = omega arith in
+    rw same (transfer_nothing _ _ c.loop-left-test.true (rw c.in-None.is at c.in_ok-rest.ensures.answered) c.loop-left.invariant.so_far)
 
 pub returns-clause-transfers : goal.returns-clause-transfers
-returns-clause-transfers g c = transfer_full _ _ _ _ c.loop-left-test.false c.loop-left.invariant.so_far
+returns-clause-transfers g c = rw c.loop-left.invariant.same_length (transfer_whole _ _ c.loop-left-test.false c.loop-left.invariant.so_far)

@@ -1,7 +1,7 @@
--- shows_registers: by the cases of an answer.
-use mathlib.Core.Path.{sym, ap}
-use Rattle.answer.specs.Writing.{ran_shows}
+-- shows_registers: by the refusal's number.
+use Rattle.rules.specs.paper.Refusals.{refusal_number}
 use Rattle.answer.proofs.lines.shows_registers.Goals as goal
 
-pub returns-in-Refused : goal.returns-in-Refused
-returns-in-Refused c = sym (ap ran_shows c.in-Refused.is)
+pub returns-in-Err : goal.returns-in-Err
+unfolding refusal_number
+returns-in-Err c = rw (c.number.ensures, c.number-in-Err.ensures, c.in-Err.is)

@@ -14,18 +14,18 @@ has_loop-open-requires c = record {
 
 pub returns-then-open : goal.returns-then-open
 returns-then-open c = record {
-  estimated_as = open_answered _ _ _ _ _ c.routine-need.ensures.routine_needs c.routine-need.ensures.writes_entries_from (subst (LoopFound _ _) c.if-open.true c.has_loop-open.ensures);
+  estimated_as = open_answered _ _ _ _ _ c.routine-need.ensures.routine_needs c.routine-need.ensures.writes_entries_from (subst (LoopFound _ _) c.if-open.true c.has_loop-open.ensures) _ c.with_steps.ensures;
   kept_beyond = beyond_entries c.routine-need.ensures.writes_entries_from;
 }
 
 pub returns-then-need-gt-MOST_STEPS : goal.returns-then-need-gt-MOST_STEPS
 returns-then-need-gt-MOST_STEPS c = record {
-  estimated_as = steps_refused _ _ _ _ _ c.routine-need.ensures.routine_needs c.routine-need.ensures.writes_entries_from (subst (LoopFound _ _) c.if-open.false c.has_loop-open.ensures) c.if-need-gt-MOST_STEPS.true;
+  estimated_as = steps_refused _ _ _ _ _ c.routine-need.ensures.routine_needs c.routine-need.ensures.writes_entries_from (subst (LoopFound _ _) c.if-open.false c.has_loop-open.ensures) c.if-need-gt-MOST_STEPS.true _ c.nowhere.ensures;
   kept_beyond = beyond_entries c.routine-need.ensures.writes_entries_from;
 }
 
 pub returns : goal.returns
 returns c = record {
-  estimated_as = figures_answered _ _ _ _ _ c.routine-need.ensures.routine_needs c.routine-need.ensures.writes_entries_from (subst (LoopFound _ _) c.if-open.false c.has_loop-open.ensures) c.if-need-gt-MOST_STEPS.false;
+  estimated_as = figures_answered _ _ _ _ _ c.routine-need.ensures.routine_needs c.routine-need.ensures.writes_entries_from (subst (LoopFound _ _) c.if-open.false c.has_loop-open.ensures) c.if-need-gt-MOST_STEPS.false _ c.with_steps-2.ensures;
   kept_beyond = beyond_entries c.routine-need.ensures.writes_entries_from;
 }

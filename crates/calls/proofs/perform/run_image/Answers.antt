@@ -1,37 +1,21 @@
--- run_image: the image, then 20, then the run.
+-- The image, then the count of registers, then the run.
 use native.Mathlib.Omega.{arith}
-use Rattle.calls.proofs.OrderLaws.{found_root, found_expression, found_command, image_refused, count_refused, counted, run_performed}
+use Rattle.calls.proofs.LoadedLaws.{loaded_beyond}
+use Rattle.calls.proofs.OrderLaws.{image_refused, count_refused, tree_stands, run_performed}
 use Rattle.calls.proofs.perform.run_image.Goals as goal
 
-pub returns-then-registers-count : goal.returns-then-registers-count
-returns-then-registers-count c =
-    let root = found_root _ _ _ _ c.load-loaded.ensures _ _ _ c.in-Passed.is in
-    count_refused _ c.args.registers.now _ _ _ _ _ _ root.found (λ i h. (c.slice_known-1.given i).fits) c.if-registers-count.true _ c.no_marks.ensures
+pub returns-in-Err : goal.returns-in-Err
+returns-in-Err c = image_refused _ _ _ _ c.load.ensures c.args.registers.now _ (λ i h. (c.type_inv.registers i).fits) _ c.in-Err.is _ c.unstarted.ensures
 
-pub run_command-requires : goal.run_command-requires
-run_command-requires c =
-    let found = found_command _ _ _ _ c.load-loaded.ensures _ _ _ c.in-Passed.is c.if-number-eq-COMMAND.true in record {
-      work_words_in_bounds = omega (arith, found.beyond.same_length, c.requires);
-      tree_stands_as = (_, found.tree, counted _ c.args.registers.now _ _ _ c.args.budget _ _ found c.if-registers-count.false, found.stands);
-    }
+pub returns-then-registers-loaded : goal.returns-then-registers-loaded
+returns-then-registers-loaded c =
+    count_refused _ _ _ _ c.load.ensures c.args.registers.now _ _ c.in-Ok.is (λ i h. (c.type_inv.registers i).fits) c.if-registers-loaded.true _ c.nowhere.ensures _ c.unstarted-then-registers-loaded.ensures
 
-pub returns-then-number-eq-COMMAND : goal.returns-then-number-eq-COMMAND
-returns-then-number-eq-COMMAND c =
-    let found = found_command _ _ _ _ c.load-loaded.ensures _ _ _ c.in-Passed.is c.if-number-eq-COMMAND.true in
-    run_performed _ c.args.registers.now _ _ _ c.args.budget _ _ found _ _ _ c.if-registers-count.false (c.run_command.ensures _ found.tree (counted _ c.args.registers.now _ _ _ c.args.budget _ _ found c.if-registers-count.false) found.stands)
+pub run_tree-requires : goal.run_tree-requires
+run_tree-requires c = record {
+  work_words_in_bounds = omega (arith, (loaded_beyond _ _ _ _ c.load.ensures).same_length, c.requires);
+  tree_stands_as = tree_stands _ _ _ _ c.load.ensures c.args.registers.now c.args.budget _ c.in-Ok.is c.if-registers-loaded.false;
+}
 
-pub run_expression-requires : goal.run_expression-requires
-run_expression-requires c =
-    let found = found_expression _ _ _ _ c.load-loaded.ensures _ _ _ c.in-Passed.is c.if-number-eq-COMMAND.false in record {
-      work_words_in_bounds = omega (arith, found.beyond.same_length, c.requires);
-      tree_stands_as = (_, found.tree, counted _ c.args.registers.now _ _ _ c.args.budget _ _ found c.if-registers-count.false, found.stands);
-    }
-
-pub returns-else-number-eq-COMMAND : goal.returns-else-number-eq-COMMAND
-returns-else-number-eq-COMMAND c =
-    let found = found_expression _ _ _ _ c.load-loaded.ensures _ _ _ c.in-Passed.is c.if-number-eq-COMMAND.false in
-    run_performed _ c.args.registers.now _ _ _ c.args.budget _ _ found _ _ _ c.if-registers-count.false (c.run_expression.ensures _ found.tree (counted _ c.args.registers.now _ _ _ c.args.budget _ _ found c.if-registers-count.false) found.stands)
-
-pub returns-in-Refused : goal.returns-in-Refused
-returns-in-Refused c =
-    image_refused _ _ _ _ c.load-loaded.ensures c.args.registers.now _ _ _ (λ i h. (c.slice_known-1.given i).fits) c.in-Refused.is _ c.no_marks-in-Refused.ensures
+pub returns-else-registers-loaded : goal.returns-else-registers-loaded
+returns-else-registers-loaded c = run_performed _ _ _ _ c.load.ensures c.args.registers.now _ _ c.in-Ok.is c.if-registers-loaded.false _ _ _ c.run_tree.ensures

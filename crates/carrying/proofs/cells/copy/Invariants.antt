@@ -1,10 +1,6 @@
 -- The cells are copied one by one.
-use Prim.Native.Nat.{◌-◌}
-use Rattle.carrying.proofs.CopyLaws.{CopiedSoFar}
+use Rattle.carrying.specs.Frames.{Copied}
 use Rattle.carrying.proofs.cells.copy.Given as goal
 
 abbrev pub invariant-loop-at : goal.invariant-loop-at
-invariant-loop-at l = CopiedSoFar l.work l.initial.kept l.kept l.at l.cells
-
-abbrev pub decreases-loop-at : goal.decreases-loop-at
-decreases-loop-at l = l.cells - l.at
+invariant-loop-at l = Copied l.work l.ends-items l.at

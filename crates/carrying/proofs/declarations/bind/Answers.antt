@@ -1,111 +1,128 @@
 -- The proof of `bind`: what stands after the node is an Abs, a Ref or an expression, and the name is put on the names with its function, its new cell or
 -- its value.
+use Prim.Native.Nat.{◌+◌}
+use mathlib.Core.Path.{◌≡◌, refl, sym, ap, ◌∙◌, subst}
 use native.Mathlib.Omega.{arith}
+use lib.ListN.{get_or}
+use Rattle.std.proofs.lemmas.Result.{err_from_is_err_and}
+use Rattle.rules.specs.paper.Kinds.{kind_number}
+use Rattle.rules.specs.declared.kinds.Kind.TheVariants.{Ref as ref, Abs as abs}
+use Rattle.reader.specs.KindNumbers.{ref_number, abs_number}
+use Rattle.reader.specs.Pack.{packed_kind}
+use Rattle.reader.proofs.NodeKindLaws.{kinds_told}
+use Rattle.carrying.specs.Frames.{PutRow}
 use Rattle.carrying.proofs.FrameLaws.{keeps_all, keeps_all_cells}
-use Rattle.carrying.proofs.DeclarationLaws.{bind_low, bind_row, function_bound, function_keeps, referent_there, reference_bound, reference_keeps, reference_unsafe, value_there, value_sort, value_bound, value_keeps, value_unsafe}
+use Rattle.carrying.proofs.DeclarationLaws.{bind_row, known_bound_there, function_bound, function_keeps, referent_there, reference_bound, reference_keeps, reference_unsafe, value_there, value_sort, value_bound, value_keeps, value_unsafe}
 use Rattle.carrying.proofs.declarations.bind.Goals as goal
 
-pub operand-name-requires : goal.operand-name-requires
-operand-name-requires c = omega (arith, bind_low _ _ _ c.requires.some_bind, c.requires.regions_end_in_bounds)
+pub node_kind-requires-clause-known : goal.node_kind-requires-clause-known
+node_kind-requires-clause-known c = known_bound_there _ _ _ c.requires.some_bind
 
-pub overflow_add-node : goal.overflow_add-node
-overflow_add-node c = record { fits = omega (arith, bind_low _ _ _ c.requires.some_bind) }
+pub put_row-requires-clause-row_lt_most_bindings : goal.put_row-requires-clause-row_lt_most_bindings
+put_row-requires-clause-row_lt_most_bindings c =
+    let row = bind_row _ _ _ c.requires.some_bind in row.0
 
-pub kind-which-requires : goal.kind-which-requires
-kind-which-requires c = omega (arith, bind_low _ _ _ c.requires.some_bind, c.requires.regions_end_in_bounds)
+pub with_row-requires : goal.with_row-requires
+with_row-requires c = (bind_row _ _ _ c.requires.some_bind).0
 
-pub overflow_add-function : goal.overflow_add-function
-overflow_add-function c = record { fits = omega (arith, bind_low _ _ _ c.requires.some_bind) }
+pub returns-in-Abs-clause-declaration_carried : goal.returns-in-Abs-clause-declaration_carried
+returns-in-Abs-clause-declaration_carried c =
+    let is_abs = sym c.node_kind.ensures ∙ ap kind_number c.in-Abs.is in
+    let keeps = function_keeps _ _ _ _ _ c.operand-name.ensures refl is_abs _ c.put_row.ensures c.requires.some_bind in
+    rw c.with_row.ensures (function_bound _ _ _ _ _ c.operand-name.ensures refl is_abs _ c.put_row.ensures c.requires.some_bind)
 
-pub put_row-requires : goal.put_row-requires
-put_row-requires c =
+pub returns-in-Abs-clause-keeps : goal.returns-in-Abs-clause-keeps
+returns-in-Abs-clause-keeps c =
+    let is_abs = sym c.node_kind.ensures ∙ ap kind_number c.in-Abs.is in
+    let keeps = function_keeps _ _ _ _ _ c.operand-name.ensures refl is_abs _ c.put_row.ensures c.requires.some_bind in keeps.0
+
+pub expression-requires-clause-some_expression : goal.expression-requires-clause-some_expression
+expression-requires-clause-some_expression c =
+    let is_ref = sym c.node_kind.ensures ∙ ap kind_number c.in-Ref.is in (referent_there _ _ _ _ _ c.operand-name.ensures refl is_ref c.requires.some_bind).0
+
+pub returns-in_err-made-in-Ref-clause-declaration_carried : goal.returns-in_err-made-in-Ref-clause-declaration_carried
+returns-in_err-made-in-Ref-clause-declaration_carried c =
+    let is_ref = sym c.node_kind.ensures ∙ ap kind_number c.in-Ref.is in
+    let p = err_from_is_err_and c.from_residual.result c.from_residual.ensures.1 in
+    rw (p.1, p.2) (reference_unsafe _ _ _ _ _ c.operand-name.ensures refl is_ref _ c.in_err-made-in-Ref.ensures c.requires.some_bind)
+
+pub put_cell-requires-clause-at_lt_most_cells : goal.put_cell-requires-clause-at_lt_most_cells
+put_cell-requires-clause-at_lt_most_cells c =
+    let is_ref = sym c.node_kind.ensures ∙ ap kind_number c.in-Ref.is in (referent_there _ _ _ _ _ c.operand-name.ensures refl is_ref c.requires.some_bind).1
+
+pub put_row-requires-in-Ref-clause-row_lt_most_bindings : goal.put_row-requires-in-Ref-clause-row_lt_most_bindings
+put_row-requires-in-Ref-clause-row_lt_most_bindings c =
+    let row = bind_row _ _ _ c.requires.some_bind in row.0
+
+pub with_row-requires-in-Ref : goal.with_row-requires-in-Ref
+with_row-requires-in-Ref c = (bind_row _ _ _ c.requires.some_bind).0
+
+pub with_cell-requires : goal.with_cell-requires
+with_cell-requires c =
+    let is_ref = sym c.node_kind.ensures ∙ ap kind_number c.in-Ref.is in
+    rw c.with_row-in-Ref.ensures (referent_there _ _ _ _ _ c.operand-name.ensures refl is_ref c.requires.some_bind).1
+
+pub returns-in_ok-made-in-Ref-clause-declaration_carried : goal.returns-in_ok-made-in-Ref-clause-declaration_carried
+returns-in_ok-made-in-Ref-clause-declaration_carried c =
+    let is_ref = sym c.node_kind.ensures ∙ ap kind_number c.in-Ref.is in
+    let put = subst (PutRow _ _ _ _ _) c.location.ensures c.put_row-in-Ref.ensures in
+    let keeps = reference_keeps _ _ _ _ _ c.operand-name.ensures refl is_ref _ c.in_ok-made-in-Ref.ensures _ _ c.put_cell.ensures put c.requires.some_bind in
+    rw (c.with_cell.ensures, c.with_row-in-Ref.ensures) (reference_bound _ _ _ _ _ c.operand-name.ensures refl is_ref _ c.in_ok-made-in-Ref.ensures _ _ c.put_cell.ensures put c.requires.some_bind)
+
+pub returns-in_ok-made-in-Ref-clause-keeps : goal.returns-in_ok-made-in-Ref-clause-keeps
+returns-in_ok-made-in-Ref-clause-keeps c =
+    let is_ref = sym c.node_kind.ensures ∙ ap kind_number c.in-Ref.is in
+    let put = subst (PutRow _ _ _ _ _) c.location.ensures c.put_row-in-Ref.ensures in
+    let keeps = reference_keeps _ _ _ _ _ c.operand-name.ensures refl is_ref _ c.in_ok-made-in-Ref.ensures _ _ c.put_cell.ensures put c.requires.some_bind in keeps.0
+
+pub returns-in_ok-made-in-Ref-clause-keeps_cells : goal.returns-in_ok-made-in-Ref-clause-keeps_cells
+returns-in_ok-made-in-Ref-clause-keeps_cells c =
+    let is_ref = sym c.node_kind.ensures ∙ ap kind_number c.in-Ref.is in
+    let put = subst (PutRow _ _ _ _ _) c.location.ensures c.put_row-in-Ref.ensures in
+    let keeps = reference_keeps _ _ _ _ _ c.operand-name.ensures refl is_ref _ c.in_ok-made-in-Ref.ensures _ _ c.put_cell.ensures put c.requires.some_bind in keeps.1
+
+pub expression-requires-in_default : goal.expression-requires-in_default
+expression-requires-in_default c =
+    let not_abs = λ (q : packed_kind (get_or c.args.work.now (c.args.node + 1) 0) ≡ abs_number). c.in_default.not-Abs (kinds_told c.node_kind.result abs (c.node_kind.ensures ∙ q)) in
+    let not_ref = λ (q : packed_kind (get_or c.args.work.now (c.args.node + 1) 0) ≡ ref_number). c.in_default.not-Ref (kinds_told c.node_kind.result ref (c.node_kind.ensures ∙ q)) in
+    record {
+      regions_end_in_bounds = c.requires.regions_end_in_bounds;
+      some_expression = value_there _ _ _ _ _ c.operand-name.ensures refl not_abs not_ref c.requires.some_bind;
+    }
+
+pub returns-in_err-given-in_default : goal.returns-in_err-given-in_default
+returns-in_err-given-in_default c =
+    let not_abs = λ (q : packed_kind (get_or c.args.work.now (c.args.node + 1) 0) ≡ abs_number). c.in_default.not-Abs (kinds_told c.node_kind.result abs (c.node_kind.ensures ∙ q)) in
+    let not_ref = λ (q : packed_kind (get_or c.args.work.now (c.args.node + 1) 0) ≡ ref_number). c.in_default.not-Ref (kinds_told c.node_kind.result ref (c.node_kind.ensures ∙ q)) in
+    let p = err_from_is_err_and c.from_residual-in_err-given-in_default.result c.from_residual-in_err-given-in_default.ensures.1 in
+    rw (p.1, p.2) (record {
+      declaration_carried = value_unsafe _ _ _ _ _ c.operand-name.ensures refl not_abs not_ref _ c.in_err-given-in_default.ensures c.requires.some_bind;
+      keeps = keeps_all _ _ _;
+      keeps_cells = keeps_all_cells _ _;
+    })
+
+pub put_row-requires-in_default : goal.put_row-requires-in_default
+put_row-requires-in_default c =
+    let not_abs = λ (q : packed_kind (get_or c.args.work.now (c.args.node + 1) 0) ≡ abs_number). c.in_default.not-Abs (kinds_told c.node_kind.result abs (c.node_kind.ensures ∙ q)) in
+    let not_ref = λ (q : packed_kind (get_or c.args.work.now (c.args.node + 1) 0) ≡ ref_number). c.in_default.not-Ref (kinds_told c.node_kind.result ref (c.node_kind.ensures ∙ q)) in
     let row = bind_row _ _ _ c.requires.some_bind in record {
       regions_end_in_bounds = c.requires.regions_end_in_bounds;
       row_lt_most_bindings = row.0;
       name_lt_names = omega (arith, c.operand-name.ensures, row.1);
       below_le_most_bindings = row.2;
-      sort_lt_sorts = omega arith;
+      sort_lt_sorts = value_sort _ _ _ _ _ c.operand-name.ensures refl not_abs not_ref _ c.in_ok-given-in_default.ensures c.requires.some_bind;
     }
 
-pub returns-then-which-eq-ABS : goal.returns-then-which-eq-ABS
-returns-then-which-eq-ABS c =
-    record {
-      declaration_carried = function_bound _ _ _ _ _ c.operand-name.ensures c.kind-which.ensures c.if-which-eq-ABS.true _ c.put_row.ensures c.requires.some_bind;
-      keeps = (function_keeps _ _ _ _ _ c.operand-name.ensures c.kind-which.ensures c.if-which-eq-ABS.true _ c.put_row.ensures c.requires.some_bind).0;
-      keeps_cells = (function_keeps _ _ _ _ _ c.operand-name.ensures c.kind-which.ensures c.if-which-eq-ABS.true _ c.put_row.ensures c.requires.some_bind).1;
-    }
+pub with_row-requires-in_default : goal.with_row-requires-in_default
+with_row-requires-in_default c = (bind_row _ _ _ c.requires.some_bind).0
 
-pub overflow_add-node-then-which-eq-REF : goal.overflow_add-node-then-which-eq-REF
-overflow_add-node-then-which-eq-REF c = record { fits = omega (arith, bind_low _ _ _ c.requires.some_bind) }
-
-pub expression-made-requires : goal.expression-made-requires
-expression-made-requires c = record {
-  regions_end_in_bounds = c.requires.regions_end_in_bounds;
-  some_expression = (referent_there _ _ _ _ _ c.operand-name.ensures c.kind-which.ensures c.if-which-eq-REF.true c.requires.some_bind).0;
-}
-
-pub put_cell-requires : goal.put_cell-requires
-put_cell-requires c = record {
-  regions_end_in_bounds = c.requires.regions_end_in_bounds;
-  at_lt_most_cells = (referent_there _ _ _ _ _ c.operand-name.ensures c.kind-which.ensures c.if-which-eq-REF.true c.requires.some_bind).1;
-}
-
-pub put_row-requires-in-Is : goal.put_row-requires-in-Is
-put_row-requires-in-Is c =
-    let row = bind_row _ _ _ c.requires.some_bind in record {
-      regions_end_in_bounds = omega (arith, c.requires.regions_end_in_bounds, c.put_cell.ensures.same_length);
-      row_lt_most_bindings = row.0;
-      name_lt_names = omega (arith, c.operand-name.ensures, row.1);
-      below_le_most_bindings = row.2;
-      sort_lt_sorts = omega arith;
-    }
-
-pub returns-in-Is : goal.returns-in-Is
-returns-in-Is c =
-    record {
-      declaration_carried = reference_bound _ _ _ _ _ c.operand-name.ensures c.kind-which.ensures c.if-which-eq-REF.true _ c.expression-made.ensures _ c.in-Is.is _ _ c.put_cell.ensures c.put_row-in-Is.ensures c.requires.some_bind;
-      keeps = (reference_keeps _ _ _ _ _ c.operand-name.ensures c.kind-which.ensures c.if-which-eq-REF.true _ c.expression-made.ensures _ c.in-Is.is _ _ c.put_cell.ensures c.put_row-in-Is.ensures c.requires.some_bind).0;
-      keeps_cells = (reference_keeps _ _ _ _ _ c.operand-name.ensures c.kind-which.ensures c.if-which-eq-REF.true _ c.expression-made.ensures _ c.in-Is.is _ _ c.put_cell.ensures c.put_row-in-Is.ensures c.requires.some_bind).1;
-    }
-
-pub returns-in-Unsafe : goal.returns-in-Unsafe
-returns-in-Unsafe c = record {
-  declaration_carried = reference_unsafe _ _ _ _ _ c.operand-name.ensures c.kind-which.ensures c.if-which-eq-REF.true _ c.expression-made.ensures c.in-Unsafe.place c.in-Unsafe.is c.requires.some_bind;
-  keeps = keeps_all _ _ _;
-  keeps_cells = keeps_all_cells _ _;
-}
-
-pub overflow_add-node-2 : goal.overflow_add-node-2
-overflow_add-node-2 c = record { fits = omega (arith, bind_low _ _ _ c.requires.some_bind) }
-
-pub expression-given-requires : goal.expression-given-requires
-expression-given-requires c = record {
-  regions_end_in_bounds = c.requires.regions_end_in_bounds;
-  some_expression = value_there _ _ _ _ _ c.operand-name.ensures c.kind-which.ensures c.if-which-eq-ABS.false c.if-which-eq-REF.false c.requires.some_bind;
-}
-
-pub put_row-requires-in-Is-given : goal.put_row-requires-in-Is-given
-put_row-requires-in-Is-given c =
-    let row = bind_row _ _ _ c.requires.some_bind in
-    let sort = value_sort _ _ _ _ _ c.operand-name.ensures c.kind-which.ensures c.if-which-eq-ABS.false c.if-which-eq-REF.false _ c.expression-given.ensures _ c.in-Is-given.is c.requires.some_bind in record {
-      regions_end_in_bounds = c.requires.regions_end_in_bounds;
-      row_lt_most_bindings = row.0;
-      name_lt_names = omega (arith, c.operand-name.ensures, row.1);
-      below_le_most_bindings = row.2;
-      sort_lt_sorts = sort;
-    }
-
-pub returns-in-Is-given : goal.returns-in-Is-given
-returns-in-Is-given c =
-    record {
-      declaration_carried = value_bound _ _ _ _ _ c.operand-name.ensures c.kind-which.ensures c.if-which-eq-ABS.false c.if-which-eq-REF.false _ c.expression-given.ensures _ c.in-Is-given.is _ c.put_row-in-Is-given.ensures c.requires.some_bind;
-      keeps = (value_keeps _ _ _ _ _ c.operand-name.ensures c.kind-which.ensures c.if-which-eq-ABS.false c.if-which-eq-REF.false _ c.expression-given.ensures _ c.in-Is-given.is _ c.put_row-in-Is-given.ensures c.requires.some_bind).0;
-      keeps_cells = (value_keeps _ _ _ _ _ c.operand-name.ensures c.kind-which.ensures c.if-which-eq-ABS.false c.if-which-eq-REF.false _ c.expression-given.ensures _ c.in-Is-given.is _ c.put_row-in-Is-given.ensures c.requires.some_bind).1;
-    }
-
-pub returns-in-Unsafe-given : goal.returns-in-Unsafe-given
-returns-in-Unsafe-given c = record {
-  declaration_carried = value_unsafe _ _ _ _ _ c.operand-name.ensures c.kind-which.ensures c.if-which-eq-ABS.false c.if-which-eq-REF.false _ c.expression-given.ensures c.in-Unsafe-given.place c.in-Unsafe-given.is c.requires.some_bind;
-  keeps = keeps_all _ _ _;
-  keeps_cells = keeps_all_cells _ _;
-}
+pub returns-in_ok-given-in_default : goal.returns-in_ok-given-in_default
+returns-in_ok-given-in_default c =
+    let not_abs = λ (q : packed_kind (get_or c.args.work.now (c.args.node + 1) 0) ≡ abs_number). c.in_default.not-Abs (kinds_told c.node_kind.result abs (c.node_kind.ensures ∙ q)) in
+    let not_ref = λ (q : packed_kind (get_or c.args.work.now (c.args.node + 1) 0) ≡ ref_number). c.in_default.not-Ref (kinds_told c.node_kind.result ref (c.node_kind.ensures ∙ q)) in
+    let keeps = value_keeps _ _ _ _ _ c.operand-name.ensures refl not_abs not_ref _ c.in_ok-given-in_default.ensures _ c.put_row-in_default.ensures c.requires.some_bind in
+    rw c.with_row-in_default.ensures (record {
+      declaration_carried = value_bound _ _ _ _ _ c.operand-name.ensures refl not_abs not_ref _ c.in_ok-given-in_default.ensures _ c.put_row-in_default.ensures c.requires.some_bind;
+      keeps = keeps.0;
+      keeps_cells = keeps.1;
+    })

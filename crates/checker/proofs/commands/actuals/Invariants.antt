@@ -1,9 +1,7 @@
--- A Call's actuals one after the other, their codes packed. The loop's measure is how many are left.
+-- A Call's actuals one after the other, their codes packed: so many are left.
+use Prim.Native.Nat.{◌-◌}
 use Rattle.checker.proofs.laws.commands.ActualLaws.{CodedSoFar}
 use Rattle.checker.proofs.commands.actuals.Given as goal
 
-abbrev pub invariant-loop-left : goal.invariant-loop-left
-invariant-loop-left l = CodedSoFar l.work l.registers l.scope l.node l.count l.at l.left l.codes
-
-abbrev pub decreases-loop-left : goal.decreases-loop-left
-decreases-loop-left l = l.left
+abbrev pub invariant-loop : goal.invariant-loop
+invariant-loop l = CodedSoFar l.work l.registers l.scope l.node l.count l.at (l.count - l.counter) l.codes

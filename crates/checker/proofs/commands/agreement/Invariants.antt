@@ -1,9 +1,7 @@
--- The Formals' codes, packed one after the other, then compared with those that are given. The loop's measure is how many are left.
+-- The Formals' codes, packed one after the other, then compared with those that are given: so many are left.
+use Prim.Native.Nat.{◌+◌, ◌-◌}
 use Rattle.checker.proofs.laws.commands.AgreementLaws.{WantedSoFar}
 use Rattle.checker.proofs.commands.agreement.Given as goal
 
-abbrev pub invariant-loop-left : goal.invariant-loop-left
-invariant-loop-left l = WantedSoFar l.work l.formal l.count l.at l.left l.wanted
-
-abbrev pub decreases-loop-left : goal.decreases-loop-left
-decreases-loop-left l = l.left
+abbrev pub invariant-loop-at : goal.invariant-loop-at
+invariant-loop-at l = WantedSoFar l.work l.formal l.count l.at (l.formal + l.count - l.at) l.wanted

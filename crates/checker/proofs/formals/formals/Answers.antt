@@ -1,63 +1,35 @@
--- The Formals of an Abs one after the other: each gets its row, unless its name has one. The loop's measure is how many are left.
+-- The Formals of an Abs one after the other: each gets its row, unless its name has one.
+use mathlib.Core.Path.{sym, ◌∙◌}
+use Rattle.checker.proofs.laws.commands.PackingLaws.{some_left, none_left, one_less}
 use native.Mathlib.Omega.{arith}
-use Rattle.checker.proofs.laws.declarations.FormalLaws.{formal_node_low, formal_code_low, formals_none, formals_repeated, no_rows_yet, one_row_more}
+use Rattle.checker.proofs.laws.declarations.FormalLaws.{formal_node_low, formal_code_low, formals_none, formals_repeated, one_row_more}
+use Rattle.std.specs.Prelude.{◌≡◌, ◌+◌, ◌-◌, []}
+use Rattle.rules.specs.paper.Checker.{Scope}
+use Rattle.typing.specs.Rows.{Rows, no_rows}
+use Rattle.checker.proofs.laws.commands.KeptLaws.{kept_nothing}
 use Rattle.checker.proofs.formals.formals.Goals as goal
 
-pub loop-left-init : goal.loop-left-init
-loop-left-init c = no_rows_yet _ _ _ _ _ c.requires.formals_at c.requires.rows c.requires.tail_le_node
+pub loop-at-init : goal.loop-at-init
+loop-at-init c =
+    let none : (seen : Scope) × Rows c.args.work.now c.args.scope c.args.scope seen = ([], no_rows) in
+    let all : c.args.node + c.args.count - c.args.node ≡ c.args.count = omega arith in
+    rw all (record { others = c.requires.formals_at; rows = none; linked = c.requires.scope_low; onward = omega arith; kept = kept_nothing c.args.work.now c.args.node; whole = λ r after o. o })
 
-pub operand-word-requires : goal.operand-word-requires
-operand-word-requires c =
-    omega (arith, formal_node_low _ _ _ c.loop-left.invariant.others c.loop-left-test.true, c.loop-left.invariant.kept.same_length, c.requires.rows_end_in_bounds)
+pub returns-then-is_some-clause-formals_judged_at : goal.returns-then-is_some-clause-formals_judged_at
+returns-then-is_some-clause-formals_judged_at c =
+    c.loop-at.invariant.whole _ _ (formals_repeated _ _ _ _ _ _ _ (some_left _ _ c.loop-at-test.true) c.operand-word.ensures c.find_row.ensures (sym c.is_some.ensures ∙ c.if-is_some.true))
 
-pub find_row-found-requires : goal.find_row-found-requires
-find_row-found-requires c = record {
-  rows_end_in_bounds = omega (arith, c.loop-left.invariant.kept.same_length, c.requires.rows_end_in_bounds);
-  rows = c.loop-left.invariant.rows;
-}
+pub row_word-requires-clause-number_low : goal.row_word-requires-clause-number_low
+row_word-requires-clause-number_low c =
+    let low = formal_node_low _ _ _ c.loop-at.invariant.others (some_left _ _ c.loop-at-test.true) in
+    formal_code_low _ _ _ _ c.loop-at.invariant.others (some_left _ _ c.loop-at-test.true) c.operand-word.ensures
 
-pub shape_of-work-then-found-scope : goal.shape_of-work-then-found-scope
-shape_of-work-then-found-scope c = c.loop-left.invariant.kept.same_length
-
-pub returns-then-found-scope : goal.returns-then-found-scope
-returns-then-found-scope c = record {
-  formals_judged_at = c.loop-left.invariant.whole _ _ (formals_repeated _ _ _ _ _ _ _ c.loop-left-test.true c.operand-word.ensures c.find_row-found.ensures c.if-found-scope.true);
-  writes_rows_from = c.loop-left.invariant.kept;
-}
-
-pub row_word-requires : goal.row_word-requires
-row_word-requires c =
-    let low = formal_node_low _ _ _ c.loop-left.invariant.others c.loop-left-test.true in record {
-      name_lt_names = omega arith;
-      number_lt_meaning_numbers = formal_code_low _ _ _ _ c.loop-left.invariant.others c.loop-left-test.true c.operand-word.ensures;
-      link_le_most_nodes = omega (arith, c.loop-left.invariant.linked, low);
-    }
-
-pub overflow_add-work : goal.overflow_add-work
-overflow_add-work c =
-    record { fits = omega (arith, formal_node_low _ _ _ c.loop-left.invariant.others c.loop-left-test.true) }
-
-pub offset_bounds-work-at : goal.offset_bounds-work-at
-offset_bounds-work-at c =
-    record { fits = omega (arith, formal_node_low _ _ _ c.loop-left.invariant.others c.loop-left-test.true) }
-
-pub bounds-work-at : goal.bounds-work-at
-bounds-work-at c =
-    omega (arith, formal_node_low _ _ _ c.loop-left.invariant.others c.loop-left-test.true, c.loop-left.invariant.kept.same_length, c.requires.rows_end_in_bounds)
-
-pub overflow_add-at : goal.overflow_add-at
-overflow_add-at c =
-    record { fits = omega (arith, formal_node_low _ _ _ c.loop-left.invariant.others c.loop-left-test.true) }
-
-pub loop-left-preserved : goal.loop-left-preserved
-loop-left-preserved c =
-    one_row_more _ _ _ _ _ _ _ _ _ c.loop-left.invariant _ _ _ c.loop-left-test.true c.operand-word.ensures c.find_row-found.ensures (omega (arith, c.loop-left.invariant.kept.same_length, c.requires.rows_end_in_bounds)) c.row_word.ensures c.if-found-scope.false
-
-pub shape_of-work : goal.shape_of-work
-shape_of-work c = c.loop-left.invariant.kept.same_length
+pub loop-at-preserved : goal.loop-at-preserved
+loop-at-preserved c =
+    one_row_more _ _ _ _ _ _ _ _ _ c.loop-at.invariant _ _ _ (some_left _ _ c.loop-at-test.true) c.operand-word.ensures c.find_row.ensures (omega (arith, c.loop-at.invariant.kept.same_length, c.requires.rows_end_in_bounds)) c.row_word.ensures (sym c.is_some.ensures ∙ c.if-is_some.false) _ (one_less _ _)
 
 pub returns : goal.returns
 returns c = record {
-  formals_judged_at = c.loop-left.invariant.whole _ _ (formals_none _ _ _ _ _ c.loop-left-test.false c.loop-left.invariant.linked);
-  writes_rows_from = c.loop-left.invariant.kept;
+  formals_judged_at = c.loop-at.invariant.whole _ _ (formals_none _ _ _ _ _ (none_left _ _ c.loop-at-test.false) c.loop-at.invariant.linked);
+  writes_rows_from = c.loop-at.invariant.kept;
 }

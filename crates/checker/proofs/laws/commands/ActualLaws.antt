@@ -11,13 +11,14 @@ use Rattle.reader.specs.Pack.{packed_end}
 use Rattle.reader.specs.Stored.{StoredActuals, no_actuals, one_actual}
 use Rattle.reader.proofs.StandingLaws.{expression_low, expression_end}
 use Rattle.typing.specs.Rows.{ScopeAt}
-use Rattle.typing.specs.Answers.{answer, ExpressionAt, ExpressionJudgedAt}
+use Rattle.typing.specs.Answers.{ExpressionAt, ExpressionJudgedAt}
 use Rattle.checker.specs.Packing.{packed_onto, AllCodes}
 use Rattle.checker.specs.Commands.{ActualsAt, ActualsJudgedAt}
-use Rattle.typing.specs.declared.codes.Answer.{Answer}
-use Rattle.typing.specs.declared.codes.Answer.TheVariants.{Is, Fault}
+use Rattle.std.specs.Prelude.{Result, Ok, Err}
+use Rattle.rules.specs.Answers.{answer}
+use Rattle.rules.specs.declared.refusals.Refused.{Refused}
 use Rattle.typing.proofs.laws.codes.AnswerLaws.{same_fine, then_inverse, then_fault, then_code}
-use Rattle.checker.proofs.laws.commands.PackingLaws.{PackedSoFar, none_packed, one_packed}
+use Rattle.checker.proofs.laws.commands.PackingLaws.{PackedSoFar, one_packed}
 use Rattle.typing.proofs.laws.expressions.CodeRangeLaws.{code_low, judged_low}
 
 -- ---- The first of some.
@@ -48,27 +49,27 @@ first_actual_low words node count f a = expression_low (first_actual words node 
 
 -- ---- All the actuals, onto codes that are packed already.
 
-abbrev ActualsOnto : ℕ → List ℕ → (registers scope node count : ℕ) → Answer → Type 0
+abbrev ActualsOnto : ℕ → List ℕ → (registers scope node count : ℕ) → Result ℕ Refused → Type 0
 ActualsOnto n words registers scope node count r =
     (es : List Expression) (Γ : Scope) → ActualsAt words node count es → ScopeAt words registers scope Γ → r ≡ answer (packed_onto n) (expression_codes Γ es)
 
-pub actuals_none : (n : ℕ) (words : List ℕ) (registers scope node count : ℕ) → count ≡ 0 → ActualsOnto n words registers scope node count (Is n)
+pub actuals_none : (n : ℕ) (words : List ℕ) (registers scope node count : ℕ) → count ≡ 0 → ActualsOnto n words registers scope node count (Ok n)
 unfolding expression_codes
 actuals_none n words registers scope node count q es Γ a s = by es (a.number ∙ q)
   where
-    by : (es : List Expression) → length es ≡ 0 → Is n ≡ answer (packed_onto n) (expression_codes Γ es)
+    by : (es : List Expression) → length es ≡ 0 → Ok n ≡ answer (packed_onto n) (expression_codes Γ es)
     by [] q = refl
     by (e ∷ es) q = absurd (omega (arith, q))
 
-module _ (n : ℕ) (words : List ℕ) (registers scope node count : ℕ) (some_left : count ≡ 0 → ⊥) (one : Answer) (judged : ExpressionJudgedAt words registers scope node one) where
-  pub actual_fault : (x p : ℕ) → one ≡ Fault x p → ActualsOnto n words registers scope node count one
-  actual_fault x p q es Γ a s =
+module _ (n : ℕ) (words : List ℕ) (registers scope node count : ℕ) (some_left : count ≡ 0 → ⊥) (one : Result ℕ Refused) (judged : ExpressionJudgedAt words registers scope node one) where
+  pub actual_fault : (x : Refused) → one ≡ Err x → (r : Result ℕ Refused) → r ≡ Err x → ActualsOnto n words registers scope node count r
+  actual_fault x q r stays es Γ a s =
       let f = first_actual words node count es some_left a in
-      subst (λ l. one ≡ answer (packed_onto n) (expression_codes Γ l)) (sym f.split)
+      subst (λ l. r ≡ answer (packed_onto n) (expression_codes Γ l)) (sym f.split)
       (unfold expression_codes in
-      (then_fault (λ c. c) (packed_onto n) (expression_code Γ f.first) (λ c. expression_codes Γ f.rest >>= λ cs. fine (c ∷ cs)) one x p (judged f.first Γ f.stands s) q))
+      (then_fault (λ c. c) (packed_onto n) (expression_code Γ f.first) (λ c. expression_codes Γ f.rest >>= λ cs. fine (c ∷ cs)) one r x (judged f.first Γ f.stands s) q stays))
 
-  actual_rest : (c next : ℕ) (r : Answer) → one ≡ Is c → next ≡ packed_end (get_or words node 0) → ActualsOnto (n * codes + c) words registers scope next (count - 1) r →
+  actual_rest : (c next : ℕ) (r : Result ℕ Refused) → one ≡ Ok c → next ≡ packed_end (get_or words node 0) → ActualsOnto (n * codes + c) words registers scope next (count - 1) r →
       ActualsOnto n words registers scope node count r
   actual_rest c next r q end later es Γ a s =
       let f = first_actual words node count es some_left a in
@@ -85,16 +86,14 @@ module _ (n : ℕ) (words : List ℕ) (registers scope node count : ℕ) (some_l
 pub record CodedSoFar (words : List ℕ) (registers scope node count at left so_far : ℕ) : Type 0 where
   pub packed : PackedSoFar count left so_far
   pub others : (es : List Expression) × ActualsAt words at left es
-  pub whole : (r : Answer) → ActualsOnto so_far words registers scope at left r → ActualsJudgedAt words registers scope node count r
+  pub whole : (r : Result ℕ Refused) → ActualsOnto so_far words registers scope at left r → ActualsJudgedAt words registers scope node count r
 
-pub none_coded : (words : List ℕ) (registers scope node count : ℕ) → ((es : List Expression) × ActualsAt words node count es) → CodedSoFar words registers scope node count node count 0
-none_coded words registers scope node count a = record { packed = none_packed count; others = a; whole = λ r o. o }
-
-pub one_coded : (words : List ℕ) (registers scope node count at left so_far : ℕ) → CodedSoFar words registers scope node count at left so_far → (left ≡ 0 → ⊥) → (one : Answer) →
-    ExpressionJudgedAt words registers scope at one → (c next : ℕ) → one ≡ Is c → c < codes → next ≡ packed_end (get_or words at 0) →
-    CodedSoFar words registers scope node count next (left - 1) (so_far * codes + c)
-one_coded words registers scope node count at left so_far known f one judged c next q low end =
+pub one_coded : (words : List ℕ) (registers scope node count at left so_far : ℕ) → CodedSoFar words registers scope node count at left so_far → (left ≡ 0 → ⊥) → (one : Result ℕ Refused) →
+    ExpressionJudgedAt words registers scope at one → (c next : ℕ) → one ≡ Ok c → c < codes → next ≡ packed_end (get_or words at 0) → (less : ℕ) → left - 1 ≡ less →
+    CodedSoFar words registers scope node count next less (so_far * codes + c)
+one_coded words registers scope node count at left so_far known f one judged c next q low end less fewer =
     let first = first_actual words at left known.others.0 f known.others.1 in
+    subst (λ n. CodedSoFar words registers scope node count next n (so_far * codes + c)) fewer
     record {
       packed = one_packed count left so_far c known.packed f low;
       others = (first.rest, subst (λ i. ActualsAt words i (left - 1) first.rest) (sym end) first.others);
@@ -102,8 +101,8 @@ one_coded words registers scope node count at left so_far known f one judged c n
     }
 
 -- The code of the next actual.
-pub actual_code_low : (words : List ℕ) (registers scope at left : ℕ) → ((Γ : Scope) × ScopeAt words registers scope Γ) → ((es : List Expression) × ActualsAt words at left es) → (left ≡ 0 → ⊥) → (one : Answer) →
-    ExpressionJudgedAt words registers scope at one → (c : ℕ) → one ≡ Is c → c < codes
+pub actual_code_low : (words : List ℕ) (registers scope at left : ℕ) → ((Γ : Scope) × ScopeAt words registers scope Γ) → ((es : List Expression) × ActualsAt words at left es) → (left ≡ 0 → ⊥) → (one : Result ℕ Refused) →
+    ExpressionJudgedAt words registers scope at one → (c : ℕ) → one ≡ Ok c → c < codes
 actual_code_low words registers scope at left s a f one judged c q =
     let first = first_actual words at left a.0 f a.1 in
     judged_low words registers scope at s (first.first, first.stands) one judged c q

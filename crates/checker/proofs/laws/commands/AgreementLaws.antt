@@ -12,8 +12,9 @@ use Rattle.reader.specs.Stored.{StoredFormals, no_formals, one_formal}
 use Rattle.typing.specs.Answers.{fine_answer}
 use Rattle.checker.specs.Packing.{packed_onto, packed_codes, AllCodes, formal_codes}
 use Rattle.checker.specs.Commands.{FormalsAt, AgreementJudgedAt}
-use Rattle.typing.specs.declared.codes.Answer.{Answer}
-use Rattle.checker.proofs.laws.commands.PackingLaws.{PackedSoFar, none_packed, one_packed, same_packed}
+use Rattle.std.specs.Prelude.{Result}
+use Rattle.rules.specs.declared.refusals.Refused.{Refused}
+use Rattle.checker.proofs.laws.commands.PackingLaws.{PackedSoFar, one_packed, same_packed}
 use Rattle.checker.proofs.laws.declarations.FormalLaws.{first_formal, formal_code}
 
 formals_low : {words : List ℕ} {i j : ℕ} {fs : List Formal} → StoredFormals words i j fs → AllCodes (formal_codes fs)
@@ -26,16 +27,14 @@ pub record WantedSoFar (words : List ℕ) (formal count at left wanted : ℕ) : 
   pub others : (fs : List Formal) × FormalsAt words at left fs
   pub whole : (n : ℕ) → ((fs : List Formal) → FormalsAt words at left fs → n ≡ packed_onto wanted (formal_codes fs)) → (fs : List Formal) → FormalsAt words formal count fs → n ≡ packed_codes (formal_codes fs)
 
-pub none_wanted : (words : List ℕ) (formal count : ℕ) → ((fs : List Formal) × FormalsAt words formal count fs) → WantedSoFar words formal count formal count 0
-none_wanted words formal count a = record { packed = none_packed count; others = a; whole = λ n o. o }
-
 module _ (words : List ℕ) (at left w : ℕ) (some_left : left ≡ 0 → ⊥) (is : w ≡ packed_operand (get_or words at 0)) where
   pub wanted_code_low : ((fs : List Formal) × FormalsAt words at left fs) → w / names < codes
   wanted_code_low a = let first = first_formal a.1 some_left in subst (λ c. c < codes) (sym (formal_code first w is)) first.code_low
 
-  pub one_wanted : (formal count wanted : ℕ) → WantedSoFar words formal count at left wanted → WantedSoFar words formal count (at + 1) (left - 1) (wanted * codes + w / names)
-  one_wanted formal count wanted known =
+  pub one_wanted : (formal count wanted : ℕ) → WantedSoFar words formal count at left wanted → (less : ℕ) → left - 1 ≡ less → WantedSoFar words formal count (at + 1) less (wanted * codes + w / names)
+  one_wanted formal count wanted known less fewer =
       let first = first_formal known.others.1 some_left in
+      subst (λ n. WantedSoFar words formal count (at + 1) n (wanted * codes + w / names)) fewer
       record {
         packed = one_packed count left wanted (w / names) known.packed some_left (wanted_code_low known.others);
         others = (first.rest, first.later);
@@ -48,7 +47,7 @@ module _ (words : List ℕ) (at left w : ℕ) (some_left : left ≡ 0 → ⊥) (
       }
 
 -- All of them are packed.
-pub all_agree : (words : List ℕ) (formal count at left wanted : ℕ) → WantedSoFar words formal count at left wanted → left ≡ 0 → (place given : ℕ) (r : Answer) → r ≡ fine_answer (same_code place wanted given) →
+pub all_agree : (words : List ℕ) (formal count at left wanted : ℕ) → WantedSoFar words formal count at left wanted → left ≡ 0 → (place given : ℕ) (r : Result (Unit {0}) Refused) → r ≡ fine_answer (same_code place wanted given) →
     AgreementJudgedAt words place given formal count r
 all_agree words formal count at left wanted known none_left place given r q fs cs a number low is =
     q ∙ ap (λ n. fine_answer (same_code place n given)) (known.whole wanted (λ gs b. last gs (b.number ∙ none_left)) fs a) ∙

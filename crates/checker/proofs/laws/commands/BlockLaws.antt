@@ -1,22 +1,22 @@
 -- Blocks: the declaration's names, then the command in the scope with them.
 use Prim.Native.Nat.{ℕ, zero, suc, ◌+◌, ◌<◌, ◌≤◌}
-use mathlib.Core.Path.{◌≡◌, refl, sym, ◌∙◌, subst}
+use mathlib.Core.Path.{◌≡◌, refl, sym, ap, ◌∙◌, subst}
 use mathlib.Core.List.{List, ◌++◌}
 use native.Mathlib.Omega.{arith}
 use lib.ListN.{get_or}
 use Rattle.rules.specs.paper.Limits.{most_nodes}
 use Rattle.rules.specs.paper.Tree.{Command, Block, Blk, Declaration}
-use Rattle.rules.specs.paper.Refusals.{refusal_number}
 use Rattle.rules.specs.paper.Checker.{Scope, Judged, fine, ◌>>=◌, command_ok, block_ok, declaration_gives}
 use Rattle.reader.specs.Pack.{packed_end}
 use Rattle.reader.specs.Stored.{StoredCommand, StoredBlock, blk, StoredDeclaration}
 use Rattle.reader.proofs.StandingLaws.{command_low, declaration_low, declaration_on, declaration_end, after_node}
 use Rattle.typing.specs.Rows.{Rows, ScopeAt}
-use Rattle.typing.specs.Answers.{answer, fine_answer}
+use Rattle.typing.specs.Answers.{fine_answer}
 use Rattle.checker.specs.Commands.{WritesRowsFrom, CommandAt, BlockAt, DeclarationAt, NamesFrom, names_from, names_fault, CommandJudgedAt, BlockJudgedAt, DeclarationJudgedAt}
-use Rattle.typing.specs.declared.codes.Answer.{Answer}
-use Rattle.typing.specs.declared.codes.Answer.TheVariants.{Is, Fault}
-use Rattle.typing.proofs.laws.codes.AnswerLaws.{two_answers, same_is}
+use Rattle.std.specs.Prelude.{Result, Ok, Err}
+use Rattle.rules.specs.Answers.{refused_at, answer}
+use Rattle.rules.specs.declared.refusals.Refused.{Refused}
+use Rattle.typing.proofs.laws.codes.AnswerLaws.{two_answers, same_ok, same_err}
 use Rattle.checker.proofs.laws.commands.KeptLaws.{kept_command, kept_scope, scope_with, kept_end}
 
 -- ---- Names that were declared.
@@ -27,16 +27,16 @@ pub record Names (words : List ℕ) (to node t : ℕ) (j : Judged Scope) : Type 
   pub rows : Rows words t to names
   pub low : t ≤ node
 
-pub names_are : {words : List ℕ} {to node : ℕ} {j : Judged Scope} {r : Answer} (t : ℕ) → NamesFrom words to node j r → r ≡ Is t → Names words to node t j
+pub names_are : {words : List ℕ} {to node : ℕ} {j : Judged Scope} {r : Result ℕ Refused} (t : ℕ) → NamesFrom words to node j r → r ≡ Ok t → Names words to node t j
 names_are {words} {to} {node} t (names_from {t = u} {Δ = Δ} rows low) q =
-    let same : u ≡ t = same_is (Is u) u t refl q in
+    let same : u ≡ t = same_ok (Ok u) u t refl q in
     record { names = Δ; given = refl; rows = subst (λ v. Rows words v to Δ) same rows; low = subst (λ v. v ≤ node) same low }
-names_are t (names_fault {r = r} {p = p}) q = absurd (two_answers (Fault (refusal_number r) p) t (refusal_number r) p q refl)
+names_are t (names_fault {r = r} {p = p}) q = absurd (two_answers (refused_at r p) t (record { refusal = r; place = p }) q refl)
 
-pub names_not : {B : Type 0} (number : B → ℕ) {words : List ℕ} {to node : ℕ} {j : Judged Scope} {r : Answer} (f : Scope → Judged B) (x p : ℕ) →
-    NamesFrom words to node j r → r ≡ Fault x p → r ≡ answer number (j >>= f)
-names_not number f x p (names_from {t = t} rows low) q = absurd (two_answers (Is t) t x p refl q)
-names_not number f x p names_fault q = refl
+pub names_not : {B Y : Type 0} (value : B → Y) {words : List ℕ} {to node : ℕ} {j : Judged Scope} {r : Result ℕ Refused} (s : Result Y Refused) (f : Scope → Judged B) (x : Refused) →
+    NamesFrom words to node j r → r ≡ Err x → s ≡ Err x → s ≡ answer value (j >>= f)
+names_not value s f x (names_from {t = t} rows low) q stays = absurd (two_answers (Ok t) t x refl q)
+names_not value s f x (names_fault {r = y} {p = p}) q stays = stays ∙ ap Err (same_err (refused_at y p) x (record { refusal = y; place = p }) q refl)
 
 -- ---- The parts of a block.
 
@@ -70,18 +70,18 @@ block_first_low words node b = declaration_low (block_parts words node b.0 b.1).
 
 -- ---- What it is judged.
 
-module _ (words words' : List ℕ) (registers scope node : ℕ) (r : Answer) (declares : DeclarationJudgedAt words words' registers scope (node + 1) r) where
+module _ (words words' : List ℕ) (registers scope node : ℕ) (r : Result ℕ Refused) (declares : DeclarationJudgedAt words words' registers scope (node + 1) r) where
   named : (b : Block) (Γ : Scope) (at : BlockAt words node b) → ScopeAt words registers scope Γ →
       NamesFrom words' scope (packed_end (get_or words (node + 1) 0)) (declaration_gives Γ (block_parts words node b at).declared) r
   named b Γ at s = let parts = block_parts words node b at in declares parts.declared (packed_end (get_or words (node + 1) 0)) Γ parts.declaration_stands s
 
-  pub block_fault : (x p : ℕ) → r ≡ Fault x p → BlockJudgedAt words registers scope node r
-  block_fault x p q b Γ at s =
+  pub block_fault : (x : Refused) → r ≡ Err x → (a : Result (Unit {0}) Refused) → a ≡ Err x → BlockJudgedAt words registers scope node a
+  block_fault x q a stays b Γ at s =
       let parts = block_parts words node b at in
-      subst (λ c. r ≡ fine_answer (block_ok Γ c)) (sym parts.split)
-      (unfold block_ok in (names_not (λ done. 0) (λ Δ. command_ok (Δ ++ Γ) parts.inside) x p (named b Γ at s) q))
+      subst (λ c. a ≡ fine_answer (block_ok Γ c)) (sym parts.split)
+      (unfold block_ok in (names_not (λ done. tt) a (λ Δ. command_ok (Δ ++ Γ) parts.inside) x (named b Γ at s) q stays))
 
-  module _ (t next : ℕ) (got : r ≡ Is t) (kept : WritesRowsFrom words words' (node + 1)) (low : scope ≤ node) (end : next ≡ packed_end (get_or words' (node + 1) 0)) where
+  module _ (t next : ℕ) (got : r ≡ Ok t) (kept : WritesRowsFrom words words' (node + 1)) (low : scope ≤ node) (end : next ≡ packed_end (get_or words' (node + 1) 0)) where
     end_before : ((b : Block) × BlockAt words node b) → next ≡ packed_end (get_or words (node + 1) 0)
     end_before b = end ∙ kept_end (node + 1) kept (block_first_low words node b)
 
@@ -104,7 +104,7 @@ module _ (words words' : List ℕ) (registers scope node : ℕ) (r : Answer) (de
           ((block_parts words node b.0 b.1).inside, inside),
         )
 
-    pub block_fine : (s : Answer) → CommandJudgedAt words' registers t next s → BlockJudgedAt words registers scope node s
+    pub block_fine : (s : Result (Unit {0}) Refused) → CommandJudgedAt words' registers t next s → BlockJudgedAt words registers scope node s
     block_fine a judged b Γ at s =
         let parts = block_parts words node b at in
         let names = names_are t (named b Γ at s) got in

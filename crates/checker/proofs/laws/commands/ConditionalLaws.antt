@@ -6,16 +6,16 @@ use native.Mathlib.Omega.{arith}
 use lib.ListN.{get_or}
 use Rattle.rules.specs.paper.Limits.{most_nodes}
 use Rattle.rules.specs.paper.Tree.{Expression, Command, Cond}
-use Rattle.rules.specs.paper.Checker.{Scope, Judged, Fine, ◌>>=◌, ok, truth_only, expression_code, command_ok}
+use Rattle.rules.specs.paper.Checker.{Scope, Judged, Fine, ◌>>=◌, ok, same_code, truth_only, expression_code, command_ok}
 use Rattle.reader.specs.Pack.{packed_end}
 use Rattle.reader.specs.Stored.{StoredExpression, StoredCommand}
 use Rattle.reader.specs.Stored as Stored
 use Rattle.reader.proofs.StandingLaws.{expression_on, expression_end, command_on, command_end, after_node}
 use Rattle.typing.specs.Rows.{ScopeAt}
-use Rattle.typing.specs.Answers.{code_answer, fine_answer, ExpressionAt, ExpressionJudgedAt}
+use Rattle.typing.specs.Answers.{fine_answer, ExpressionAt, ExpressionJudgedAt}
 use Rattle.checker.specs.Commands.{WritesRowsFrom, CommandAt, CommandJudgedAt, ConditionalJudgedAt}
-use Rattle.typing.specs.declared.codes.Answer.{Answer}
-use Rattle.typing.specs.declared.codes.Answer.TheVariants.{Is, Fault}
+use Rattle.std.specs.Prelude.{Result, Ok, Err}
+use Rattle.rules.specs.declared.refusals.Refused.{Refused}
 use Rattle.typing.proofs.laws.codes.AnswerLaws.{then_fault, then_fine, then_code, truth_fine}
 use Rattle.checker.proofs.laws.commands.KeptLaws.{kept_end}
 use Rattle.checker.proofs.laws.commands.CommandLaws.{second_place}
@@ -59,8 +59,8 @@ second_found {words} {words'} node where_true where_false kept end low later =
 
 -- ---- What it is judged.
 
-module _ (words : List ℕ) (registers scope node : ℕ) (test : Answer) (tested : ExpressionJudgedAt words registers scope (node + 1) test) where
-  abbrev Judges : Answer → Type 0
+module _ (words : List ℕ) (registers scope node : ℕ) (test : Result ℕ Refused) (tested : ExpressionJudgedAt words registers scope (node + 1) test) where
+  abbrev Judges : Result (Unit {0}) Refused → Type 0
   Judges r = ConditionalJudgedAt words registers scope node r
 
   abbrev after_first : Scope → Command → ℕ → Judged Fine
@@ -69,35 +69,35 @@ module _ (words : List ℕ) (registers scope node : ℕ) (test : Answer) (tested
   abbrev after_test : Scope → (c₁ c₂ : Command) → ℕ → Judged Fine
   after_test Γ c₁ c₂ t = command_ok Γ c₁ >>= λ first. after_first Γ c₂ t
 
-  pub conditional_test_fault : (x p : ℕ) → test ≡ Fault x p → Judges test
+  pub conditional_test_fault : (x : Refused) → test ≡ Err x → (r : Result (Unit {0}) Refused) → r ≡ Err x → Judges r
   unfolding command_ok
-  conditional_test_fault x p q e c₁ c₂ Γ at s =
-      then_fault (λ t. t) (λ done. 0) (expression_code Γ e) (after_test Γ c₁ c₂) test x p (tested e Γ (conditional_parts words node e c₁ c₂ at).test s) q
+  conditional_test_fault x q r stays e c₁ c₂ Γ at s =
+      then_fault (λ t. t) (λ done. tt) (expression_code Γ e) (after_test Γ c₁ c₂) test r x (tested e Γ (conditional_parts words node e c₁ c₂ at).test s) q stays
 
-  module _ (t where_true : ℕ) (first : Answer) (got : test ≡ Is t) (end : where_true ≡ second_place words node) (judged : CommandJudgedAt words registers scope where_true first) where
-    of_first : (r : Answer) → ((c₁ c₂ : Command) (Γ : Scope) → first ≡ fine_answer (command_ok Γ c₁) → CommandAt words (third_place words node) c₂ → ScopeAt words registers scope Γ →
+  module _ (t where_true : ℕ) (first : Result (Unit {0}) Refused) (got : test ≡ Ok t) (end : where_true ≡ second_place words node) (judged : CommandJudgedAt words registers scope where_true first) where
+    of_first : (r : Result (Unit {0}) Refused) → ((c₁ c₂ : Command) (Γ : Scope) → first ≡ fine_answer (command_ok Γ c₁) → CommandAt words (third_place words node) c₂ → ScopeAt words registers scope Γ →
         r ≡ fine_answer (after_test Γ c₁ c₂ t)) → Judges r
     unfolding command_ok
     of_first r done e c₁ c₂ Γ at s =
         let parts = conditional_parts words node e c₁ c₂ at in
-        then_code (λ done. 0) (expression_code Γ e) (after_test Γ c₁ c₂) test r t (tested e Γ parts.test s) got
+        then_code (λ done. tt) (expression_code Γ e) (after_test Γ c₁ c₂) test r t (tested e Γ parts.test s) got
         (done c₁ c₂ Γ (judged c₁ Γ (subst (λ i. CommandAt words i c₁) (sym end) parts.first) s) parts.second s)
 
-    pub conditional_first_fault : (x p : ℕ) → first ≡ Fault x p → Judges first
-    conditional_first_fault x p q =
-        of_first first (λ c₁ c₂ Γ b a s. then_fault (λ done. 0) (λ done. 0) (command_ok Γ c₁) (λ done. after_first Γ c₂ t) first x p b q)
+    pub conditional_first_fault : (x : Refused) → first ≡ Err x → (r : Result (Unit {0}) Refused) → r ≡ Err x → Judges r
+    conditional_first_fault x q r stays =
+        of_first r (λ c₁ c₂ Γ b a s. then_fault (λ done. tt) (λ done. tt) (command_ok Γ c₁) (λ done. after_first Γ c₂ t) first r x b q stays)
 
-    module _ (z where_false : ℕ) (second : Answer) (fine : first ≡ Is z) (later : where_false ≡ third_place words node) (judged₂ : CommandJudgedAt words registers scope where_false second) where
-      of_second : (r : Answer) → ((c₂ : Command) (Γ : Scope) → second ≡ fine_answer (command_ok Γ c₂) → r ≡ fine_answer (after_first Γ c₂ t)) → Judges r
+    module _ (z : Unit {0}) (where_false : ℕ) (second : Result (Unit {0}) Refused) (fine : first ≡ Ok z) (later : where_false ≡ third_place words node) (judged₂ : CommandJudgedAt words registers scope where_false second) where
+      of_second : (r : Result (Unit {0}) Refused) → ((c₂ : Command) (Γ : Scope) → second ≡ fine_answer (command_ok Γ c₂) → r ≡ fine_answer (after_first Γ c₂ t)) → Judges r
       of_second r done =
           of_first r
           (λ c₁ c₂ Γ b a s.
-          then_fine (λ done. 0) (λ done. 0) (command_ok Γ c₁) (λ done. after_first Γ c₂ t) first r z b fine
+          then_fine (λ done. tt) (λ done. tt) (command_ok Γ c₁) (λ done. after_first Γ c₂ t) first r z b fine
           (λ a' k e. done c₂ Γ (judged₂ c₂ Γ (subst (λ i. CommandAt words i c₂) (sym later) a) s)))
 
-      pub conditional_second_fault : (x p : ℕ) → second ≡ Fault x p → Judges second
-      conditional_second_fault x p q = of_second second (λ c₂ Γ b. then_fault (λ done. 0) (λ done. 0) (command_ok Γ c₂) (λ done. truth_only node ok t) second x p b q)
+      pub conditional_second_fault : (x : Refused) → second ≡ Err x → (r : Result (Unit {0}) Refused) → r ≡ Err x → Judges r
+      conditional_second_fault x q r stays = of_second r (λ c₂ Γ b. then_fault (λ done. tt) (λ done. tt) (command_ok Γ c₂) (λ done. truth_only node ok t) second r x b q stays)
 
-      pub conditional_fine : (z : ℕ) (r : Answer) → second ≡ Is z → r ≡ code_answer (truth_only node 0 t) → Judges r
+      pub conditional_fine : (z : Unit {0}) (r : Result (Unit {0}) Refused) → second ≡ Ok z → r ≡ fine_answer (same_code node 1 t) → Judges r
       conditional_fine z r q done =
-          of_second r (λ c₂ Γ b. then_fine (λ done. 0) (λ done. 0) (command_ok Γ c₂) (λ done. truth_only node ok t) second r z b q (λ a k e. done ∙ truth_fine node t))
+          of_second r (λ c₂ Γ b. then_fine (λ done. tt) (λ done. tt) (command_ok Γ c₂) (λ done. truth_only node ok t) second r z b q (λ a k e. done ∙ truth_fine node t))

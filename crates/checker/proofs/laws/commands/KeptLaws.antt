@@ -6,14 +6,13 @@ use native.Mathlib.Omega.{arith}
 use lib.ListN.{length, get_or, set, length-set}
 use Rattle.rules.specs.paper.Limits.{most_nodes}
 use Rattle.rules.proofs.Basics.{append_assoc}
-use Rattle.rules.specs.paper.Tree.{Formal, Expression, Command, Block, Declaration, Bound}
+use Rattle.rules.specs.paper.Tree.{Formal, Command, Block, Declaration}
 use Rattle.rules.specs.paper.Checker.{Meaning, Scope, register_scope}
 use Rattle.reader.specs.Pack.{packed_end}
 use Rattle.reader.specs.Stored.{HasWord}
-use Rattle.reader.specs.StoredLaws.{SameNodes, same_expression, same_actuals, same_formals, same_command, same_block, same_declaration, same_bound}
+use Rattle.reader.specs.StoredLaws.{SameNodes, same_formals, same_command, same_block, same_declaration}
 use Rattle.typing.specs.Rows.{rows_from, rows_end, MeaningAt, code_at, function_at, HasRow, Rows, no_rows, one_row, ScopeAt}
-use Rattle.typing.specs.Answers.{ExpressionAt}
-use Rattle.checker.specs.Commands.{WritesRowsFrom, ActualsAt, FormalsAt, CommandAt, BlockAt, DeclarationAt, BoundAt}
+use Rattle.checker.specs.Commands.{WritesRowsFrom, FormalsAt, CommandAt, BlockAt, DeclarationAt}
 
 -- ---- Keeping nothing new, and keeping twice.
 
@@ -40,12 +39,6 @@ pub kept_word : {words words' : List ℕ} {node : ℕ} → WritesRowsFrom words 
 kept_word k {i} h = record { word = kept_nodes k i h.place_low ∙ h.word; place_low = h.place_low; operand_low = h.operand_low; end_low = h.end_low }
 
 module _ {words words' : List ℕ} {node : ℕ} (k : WritesRowsFrom words words' node) where
-  pub kept_expression : {i : ℕ} {e : Expression} → ExpressionAt words i e → ExpressionAt words' i e
-  kept_expression a = record { depth = a.depth; next = a.next; stored = same_expression words words' (kept_nodes k) a.stored }
-
-  pub kept_actuals : {i count : ℕ} {es : List Expression} → ActualsAt words i count es → ActualsAt words' i count es
-  kept_actuals a = record { depth = a.depth; next = a.next; stored = same_actuals words words' (kept_nodes k) a.stored; number = a.number }
-
   pub kept_formals : {i count : ℕ} {fs : List Formal} → FormalsAt words i count fs → FormalsAt words' i count fs
   kept_formals a = record { next = a.next; stored = same_formals words words' (kept_nodes k) a.stored; number = a.number }
 
@@ -57,9 +50,6 @@ module _ {words words' : List ℕ} {node : ℕ} (k : WritesRowsFrom words words'
 
   pub kept_declaration : {i j : ℕ} {d : Declaration} → DeclarationAt words i j d → DeclarationAt words' i j d
   kept_declaration a = record { depth = a.depth; stored = same_declaration words words' (kept_nodes k) a.stored }
-
-  pub kept_bound : {i : ℕ} {b : Bound} → BoundAt words i b → BoundAt words' i b
-  kept_bound a = record { depth = a.depth; next = a.next; stored = same_bound words words' (kept_nodes k) a.stored }
 
   -- ---- Rows below the node, and the scope that they hold.
 

@@ -6,12 +6,22 @@ use mathlib.Core.List.{List, [], ◌∷◌}
 use native.Mathlib.Omega.{arith}
 use lib.Dec.{T, eqb, eqb→eq, eqb_refl}
 use lib.ListN.{length}
-use Rattle.rules.proofs.Basics.{true_test, false_test}
 use Rattle.rules.specs.paper.Limits.{codes, most_parameters}
-use Rattle.rules.specs.paper.Refusals.{Mistyped}
 use Rattle.rules.specs.paper.Tree.{Formal}
 use Rattle.rules.specs.paper.Checker.{Judged, fault, fine, ◌>>=◌, Fine, ok, same_code, same_codes}
+use Rattle.typing.proofs.laws.codes.AnswerLaws.{same_yes, same_no}
 use Rattle.checker.specs.Packing.{packed_onto, packed_codes, packed_last, packed_others, packings, AllCodes, formal_codes}
+
+-- ---- How many are left in a loop over some.
+
+pub some_left : (count at : ℕ) → at < count → count - at ≡ 0 → ⊥
+some_left count at h q = omega arith
+
+pub none_left : (count at : ℕ) → count ≤ at → count - at ≡ 0
+none_left count at h = omega arith
+
+pub one_less : (count at : ℕ) → count - at - 1 ≡ count - (at + 1)
+one_less count at = omega arith
 
 -- ---- Room.
 
@@ -49,12 +59,6 @@ packed_room count left so_far known f few = within known.passed (omega (arith, k
     within k h l = omega (arith, l, packings_low k h)
 
 -- ---- Comparing.
-
-same_yes : (p a b : ℕ) → a ≡ b → same_code p a b ≡ fine ok
-same_yes p a b q = rw (true_test (eqb a b) (subst (λ c. T (eqb a c)) q (eqb_refl a)))
-
-same_no : (p a b : ℕ) → (a ≡ b → ⊥) → same_code p a b ≡ fault Mistyped p
-same_no p a b f = rw (false_test (eqb a b) (λ t. f (eqb→eq a b t)))
 
 equal_or_not : {A : Type 0} (a b : ℕ) → (a ≡ b → A) → ((a ≡ b → ⊥) → A) → A
 equal_or_not {A} a b equal apart = by (eqb a b) (λ t. equal (eqb→eq a b t)) (λ n. apart (λ q. n (subst (λ c. T (eqb a c)) q (eqb_refl a))))

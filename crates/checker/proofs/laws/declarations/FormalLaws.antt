@@ -5,7 +5,7 @@ use mathlib.Core.Bool.{true, false}
 use mathlib.Core.List.{List, [], ◌∷◌}
 use native.Mathlib.Omega.{arith}
 use lib.ListN.{length, get_or, set}
-use Rattle.rules.specs.paper.Refusals.{Repeated, refusal_number}
+use Rattle.rules.specs.declared.refusals.Refusal.TheVariants.{Repeated}
 use Rattle.rules.specs.paper.Limits.{most_nodes, names, codes}
 use Rattle.rules.specs.paper.Tree.{Formal}
 use Rattle.rules.specs.paper.Checker.{code, Named, Scope, fault, has_name, distinct, with_formals}
@@ -15,10 +15,11 @@ use Rattle.reader.proofs.StoredFields.{operand_is}
 use Rattle.reader.proofs.StandingLaws.{after_node, operand_name, operand_number}
 use Rattle.typing.specs.Rows.{meaning_numbers, rows_from, rows_end, row_word, code_at, Rows, one_row, RowFound}
 use Rattle.checker.specs.Commands.{WritesRowsFrom, FormalsAt, NamesFrom, names_from, names_fault, formals_give, FormalsJudgedAt}
-use Rattle.typing.specs.declared.codes.Answer.{Answer}
-use Rattle.typing.specs.declared.codes.Answer.TheVariants.{Is, Fault}
+use Rattle.std.specs.Prelude.{Option, is_some, Result, Ok}
+use Rattle.rules.specs.Answers.{refused_at}
+use Rattle.rules.specs.declared.refusals.Refused.{Refused}
 use Rattle.typing.proofs.laws.scope.RowLaws.{row_has, row_has_not}
-use Rattle.checker.proofs.laws.commands.KeptLaws.{kept_nothing, kept_then, kept_rows, kept_formals, kept_row, row_there}
+use Rattle.checker.proofs.laws.commands.KeptLaws.{kept_then, kept_rows, kept_formals, kept_row, row_there}
 
 abbrev pub named : Formal → Named
 named f = record { name = f.name; meaning = code f.code }
@@ -75,11 +76,11 @@ formal_code_low words node count w e f is =
 
 -- ---- No Formals.
 
-pub formals_none : (words : List ℕ) (scope tail node count : ℕ) → count ≡ 0 → tail ≤ node → FormalsJudgedAt words words scope tail node count (Is tail)
+pub formals_none : (words : List ℕ) (scope tail node count : ℕ) → count ≡ 0 → tail ≤ node → FormalsJudgedAt words words scope tail node count (Ok tail)
 unfolding distinct with_formals
 formals_none words scope tail node count z h fs seen a r = by fs (a.number ∙ z)
   where
-    by : (gs : List Formal) → length gs ≡ 0 → NamesFrom words scope (node + count) (formals_give seen gs) (Is tail)
+    by : (gs : List Formal) → length gs ≡ 0 → NamesFrom words scope (node + count) (formals_give seen gs) (Ok tail)
     by [] q = names_from r (omega (arith, h))
     by (g ∷ gs) q = absurd (never (length gs) q)
       where
@@ -96,15 +97,14 @@ give_later : (seen : Scope) (f : Formal) (fs : List Formal) → has_name f.name 
 unfolding distinct with_formals
 give_later seen f fs q = rw q
 
-module _ (words : List ℕ) (scope tail node count w found : ℕ) (some_left : ¬ (count ≡ 0)) (is : w ≡ packed_operand (get_or words node 0))
+module _ (words : List ℕ) (scope tail node count w : ℕ) (found : Option ℕ) (some_left : ¬ (count ≡ 0)) (is : w ≡ packed_operand (get_or words node 0))
     (looked : (Δ : Scope) → Rows words tail scope Δ → RowFound words scope (w % names) Δ found) where
-  pub formals_repeated : ¬ (found ≡ scope) → FormalsJudgedAt words words scope tail node count (Fault 12 node)
-  unfolding refusal_number
+  pub formals_repeated : is_some found ≡ true → FormalsJudgedAt words words scope tail node count (refused_at Repeated node)
   formals_repeated f fs seen a r =
       let o = first_formal a some_left in
       let has : has_name o.first.name seen ≡ true = ap (λ x. has_name x seen) (sym (formal_name o w is)) ∙ row_has (looked seen r) f in
       let gives : formals_give seen fs ≡ fault Repeated node = ap (formals_give seen) o.split ∙ give_repeated seen o.first o.rest has ∙ ap (fault Repeated) o.place_is in
-      subst (λ j. NamesFrom words scope (node + count) j (Fault 12 node)) (sym gives) names_fault
+      subst (λ j. NamesFrom words scope (node + count) j (refused_at Repeated node)) (sym gives) names_fault
 
   -- The row of the first Formal, written at its node.
   pub formal_rows : (v : ℕ) → rows_end ≤ length words → tail ≤ node → v ≡ row_word (w % names) (w / names) tail → (fs : List Formal) (a : FormalsAt words node count fs) (seen : Scope) →
@@ -123,7 +123,7 @@ module _ (words : List ℕ) (scope tail node count w found : ℕ) (some_left : �
       }
       refl refl (code_at o.code_low) (kept_rows (kept_row words node v place) r low))
 
-  pub formals_more : (v : ℕ) (words'' : List ℕ) (answer : Answer) → rows_end ≤ length words → tail ≤ node → v ≡ row_word (w % names) (w / names) tail → found ≡ scope →
+  pub formals_more : (v : ℕ) (words'' : List ℕ) (answer : Result ℕ Refused) → rows_end ≤ length words → tail ≤ node → v ≡ row_word (w % names) (w / names) tail → is_some found ≡ false →
       FormalsJudgedAt (set words (rows_from + node) v) words'' scope (node + 1) (node + 1) (count - 1) answer → FormalsJudgedAt words words'' scope tail node count answer
   formals_more v words'' answer long low row absent later fs seen a r =
       let o = first_formal a some_left in
@@ -145,20 +145,17 @@ pub record RowsSoFar (before words : List ℕ) (scope tail node count newest at 
   pub linked : newest ≤ at
   pub onward : node ≤ at
   pub kept : WritesRowsFrom before words node
-  pub whole : (r : Answer) (after : List ℕ) → FormalsJudgedAt words after scope newest at left r → FormalsJudgedAt before after scope tail node count r
+  pub whole : (r : Result ℕ Refused) (after : List ℕ) → FormalsJudgedAt words after scope newest at left r → FormalsJudgedAt before after scope tail node count r
 
-pub no_rows_yet : (words : List ℕ) (scope tail node count : ℕ) → ((fs : List Formal) × FormalsAt words node count fs) → ((seen : Scope) × Rows words tail scope seen) → tail ≤ node →
-    RowsSoFar words words scope tail node count tail node count
-no_rows_yet words scope tail node count a r h = record { others = a; rows = r; linked = h; onward = omega arith; kept = kept_nothing words node; whole = λ r after o. o }
-
-module _ (before words : List ℕ) (scope tail node count newest at left : ℕ) (so_far : RowsSoFar before words scope tail node count newest at left) (w found v : ℕ) (some_left : ¬ (left ≡ 0))
+module _ (before words : List ℕ) (scope tail node count newest at left : ℕ) (so_far : RowsSoFar before words scope tail node count newest at left) (w : ℕ) (found : Option ℕ) (v : ℕ) (some_left : ¬ (left ≡ 0))
     (is : w ≡ packed_operand (get_or words at 0)) (looked : (Δ : Scope) → Rows words newest scope Δ → RowFound words scope (w % names) Δ found) where
-  pub one_row_more : rows_end ≤ length words → v ≡ row_word (w % names) (w / names) newest → found ≡ scope →
-      RowsSoFar before (set words (rows_from + at) v) scope tail node count (at + 1) (at + 1) (left - 1)
-  one_row_more long row absent =
+  pub one_row_more : rows_end ≤ length words → v ≡ row_word (w % names) (w / names) newest → is_some found ≡ false → (less : ℕ) → left - 1 ≡ less →
+      RowsSoFar before (set words (rows_from + at) v) scope tail node count (at + 1) (at + 1) less
+  one_row_more long row absent less fewer =
       let a = so_far.others.1 in
       let o = first_formal a some_left in
       let keeps = kept_row words at v o.word.place_low in
+      subst (RowsSoFar before (set words (rows_from + at) v) scope tail node count (at + 1) (at + 1)) fewer
       record {
         others = (o.rest, kept_formals keeps o.later);
         rows = (named o.first ∷ so_far.rows.0, formal_rows words scope newest at left w found some_left is looked v long so_far.linked row _ a _ so_far.rows.1);

@@ -13,4 +13,4 @@ pub overflow_add-node-2 : goal.overflow_add-node-2
 overflow_add-node-2 c = record { fits = omega (arith, declaration_low _ _ _ _ c.requires.2) }
 
 pub returns : goal.returns
-returns c = declaration_sequence_steps _ _ _ _ _ _ c.end-second.ensures c.put_four.ensures
+returns c = declaration_sequence_steps _ _ _ _ _ _ c.end-second.ensures c.put_items.ensures

@@ -7,4 +7,4 @@ pub overflow_add-node : goal.overflow_add-node
 overflow_add-node c = record { fits = omega (arith, reference_low _ _ _ _ _ c.requires.2) }
 
 pub returns : goal.returns
-returns c = reference_steps _ _ _ _ _ c.put_two.ensures
+returns c = reference_steps _ _ _ _ _ c.put_items.ensures

@@ -1,14 +1,10 @@
 -- assign_mark: the cell of the name is set.
 use native.Mathlib.Omega.{arith}
 use Rattle.commands.proofs.command_laws.AssignLaws.{two_there, name_bound, row_low, cell_low, assign_made}
-use Rattle.machine.proofs.state_laws.MarkTopLaws.{at_height_fits}
 use Rattle.commands.proofs.marks.assign_mark.Goals as goal
 
-pub row_of-row-requires : goal.row_of-row-requires
-row_of-row-requires c = record {
-  fits = c.requires.ready.fits;
-  binds_name = name_bound _ _ c.requires;
-}
+pub row_of-row-requires-clause-binds_name : goal.row_of-row-requires-clause-binds_name
+row_of-row-requires-clause-binds_name c = name_bound _ _ c.requires
 
 pub overflow_add-bound : goal.overflow_add-bound
 overflow_add-bound c = record { fits = omega (arith, row_low _ _ c.requires c.row_of-row.ensures) }
@@ -22,11 +18,8 @@ bounds-work-row c = omega (arith, row_low _ _ c.requires c.row_of-row.ensures, c
 pub overflow_sub-m : goal.overflow_sub-m
 overflow_sub-m c = two_there _ _ c.requires
 
-pub set_cell-requires : goal.set_cell-requires
-set_cell-requires c = record {
-  fits = at_height_fits _ _ _ c.requires.ready.fits (omega arith);
-  at_lt_cells = cell_low _ _ c.requires c.row_of-row.ensures;
-}
+pub set_cell-requires-clause-at_lt_cells : goal.set_cell-requires-clause-at_lt_cells
+set_cell-requires-clause-at_lt_cells c = cell_low _ _ c.requires c.row_of-row.ensures
 
 pub returns : goal.returns
 returns c =

@@ -16,4 +16,4 @@ pub end-body-requires : goal.end-body-requires
 end-body-requires c = omega (arith, node_low _ _ c.requires, c.requires.ready.fits.room)
 
 pub returns : goal.returns
-returns c = loop_repeats _ _ _ _ _ _ c.if-truth-eq0.false c.end-body.ensures c.put_two.ensures
+returns c = loop_repeats _ _ _ _ _ _ c.if-truth-eq0.false c.end-body.ensures c.put_items.ensures

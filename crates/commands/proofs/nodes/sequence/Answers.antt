@@ -13,4 +13,4 @@ pub overflow_add-node-2 : goal.overflow_add-node-2
 overflow_add-node-2 c = record { fits = omega (arith, command_low _ _ _ _ c.requires.2) }
 
 pub returns : goal.returns
-returns c = sequence_steps _ _ _ _ _ _ c.end-second.ensures c.put_two.ensures
+returns c = sequence_steps _ _ _ _ _ _ c.end-second.ensures c.put_items.ensures

@@ -1,9 +1,7 @@
--- A Call's actuals one after the other. The loop's measure is how many are left.
+-- A Call's actuals one after the other, as many as are not given yet.
+use Prim.Native.Nat.{◌-◌}
 use Rattle.estimator.proofs.ActualLaws.{NeededSoFar}
 use Rattle.estimator.proofs.expressions.actuals.Given as goal
 
-abbrev pub invariant-loop-left : goal.invariant-loop-left
-invariant-loop-left l = NeededSoFar l.work l.node l.count l.at l.left l.need
-
-abbrev pub decreases-loop-left : goal.decreases-loop-left
-decreases-loop-left l = l.left
+abbrev pub invariant-loop-given : goal.invariant-loop-given
+invariant-loop-given l = NeededSoFar l.work l.node l.count l.at l.given (l.count - l.given) l.need

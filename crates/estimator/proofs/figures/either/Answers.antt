@@ -4,4 +4,4 @@ use Rattle.estimator.proofs.figures.either.Goals as goal
 
 pub returns : goal.returns
 returns c =
-    same_need c.larger.ensures c.larger-2.ensures c.larger-3.ensures c.larger-4.ensures c.larger-steps.ensures c.sum-all_steps.ensures
+    same_need c.max.ensures c.max-2.ensures c.max-3.ensures c.max-4.ensures c.max-steps.ensures c.sum-all_steps.ensures

@@ -19,7 +19,7 @@ pub kept-requires : goal.kept-requires
 kept-requires c =
     let low = walk_low _ _ _ _ c.requires.names_at c.loop-at.invariant c.loop-at-test.true in record {
       at_le_most_nodes = low.1;
-      le_at = low.0;
+      at_positive = low.0;
       entries_end_in_bounds = c.requires.entries_end_in_bounds;
     }
 

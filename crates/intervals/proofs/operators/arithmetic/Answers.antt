@@ -1,10 +1,9 @@
 -- arithmetic: the ends, or the node.
-use mathlib.Core.Path.{sym, ◌∙◌}
 use Rattle.intervals.proofs.SpanLaws.{not_carried, is_carried}
 use Rattle.intervals.proofs.operators.arithmetic.Goals as goal
 
-pub returns-in_default : goal.returns-in_default
-returns-in_default c = λ o x y z w e f g. not_carried o _ f g (sym c.in_default.is ∙ c.over_ends-span.ensures o e)
+pub returns-in-Some : goal.returns-in-Some
+returns-in-Some c = λ w x y z f g. is_carried _ _ f g _ _ c.in-Some.ensures
 
-pub returns : goal.returns
-returns c = λ o x y z w e f g. is_carried o _ f g _ _ (sym c.in-Ends.is ∙ c.over_ends-span.ensures o e)
+pub returns-in-None : goal.returns-in-None
+returns-in-None c = λ w x y z f g. not_carried _ _ f g c.in-None.ensures

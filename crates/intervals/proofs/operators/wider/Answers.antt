@@ -8,5 +8,5 @@ returns-then-first-eq-NUMBERS c = wider_numbers _ _ _ c.if-first-eq-NUMBERS.true
 pub returns-then-first-eq-LOCATION : goal.returns-then-first-eq-LOCATION
 returns-then-first-eq-LOCATION c = wider_location _ _ c.if-first-eq-LOCATION.true
 
-pub returns : goal.returns
-returns c = wider_truths _ _ _ _ c.if-first-eq-NUMBERS.false c.if-first-eq-LOCATION.false c.some.ensures c.some-2.ensures
+pub returns-else-first-eq-LOCATION : goal.returns-else-first-eq-LOCATION
+returns-else-first-eq-LOCATION c = wider_truths _ _ c.if-first-eq-NUMBERS.false c.if-first-eq-LOCATION.false

@@ -1,126 +1,53 @@
 -- find_row: along the chain, until the name is found.
-use Prim.Native.Nat.{ℕ, ◌/◌, ◌%◌, ◌<◌, ◌≤◌}
-use mathlib.Core.Path.{refl, sym, ap, ◌∙◌, subst}
+use Prim.Native.Nat.{ℕ, ◌+◌, ◌/◌, ◌%◌, ◌<◌, ◌≤◌}
+use mathlib.Core.Path.{◌≡◌}
+use mathlib.Core.List.{List}
 use native.Mathlib.Omega.{arith}
-use Rattle.machine.specs.Layout.{row_labels, row_payloads}
+use lib.ListN.{get_or}
+use Rattle.machine.specs.Layout.{row_labels, row_payloads, row_at_pointer}
 use Rattle.machine.specs.Regions.{slots}
+use Rattle.machine.specs.Lookup.{BindsName}
 use Rattle.machine.proofs.memory_laws.LookupLaws.{FirstRow, first_row, row_low, row_found, row_further, row_falls}
 use Rattle.machine.proofs.lookup.find_row.Invariants.{Left}
 use Rattle.machine.proofs.lookup.find_row.Goals as goal
 
+module _ (work : List ℕ) (bindings pointer name : ℕ) (binds : BindsName (slots row_labels row_payloads bindings work) pointer name) where
+  whole : Left work bindings pointer name pointer
+  whole nodes E b s q = first_row _ b s q
+
+  -- What is left begins with a row.
+  row_left : (at : ℕ) → Left work bindings pointer name at → FirstRow binds.0 (slots row_labels row_payloads bindings work) at name binds.2
+  row_left at left = left binds.0 binds.1 binds.2 binds.3 binds.4
+
+  low : (at : ℕ) → Left work bindings pointer name at → (0 < at) × (at ≤ bindings)
+  low at left = row_low _ _ _ _ _ _ (row_left at left)
+
+  -- Another name: the rest is left.
+  further : (at : ℕ) → Left work bindings pointer name at → (get_or work (row_at_pointer + at) 0 % 64 ≡ name → ⊥) → Left work bindings pointer name (get_or work (row_at_pointer + at) 0 / 128)
+  further at left other nodes E b s q =
+      let more = row_further nodes _ _ at _ b (left nodes E b s q) other in
+      first_row _ b more.segment more.looked
+
 pub overflow_add-row : goal.overflow_add-row
-overflow_add-row c =
-    let given : (at : ℕ) → Left c.args.work.now c.args.bindings c.args.pointer c.args.name at →
-    FirstRow c.requires.binds_name.0 (slots row_labels row_payloads c.args.bindings c.args.work.now) at c.args.name c.requires.binds_name.2 =
-    λ at left. left c.requires.binds_name.0 c.requires.binds_name.1 c.requires.binds_name.2 c.requires.binds_name.3 c.requires.binds_name.4 in
-    let low : (at : ℕ) → Left c.args.work.now c.args.bindings c.args.pointer c.args.name at →
-    (0 < at) × (at ≤ c.args.bindings) =
-    λ at left. row_low _ _ _ _ _ _ (given at left) in
-    let first : Left c.args.work.now c.args.bindings c.args.pointer c.args.name c.args.pointer =
-    λ nodes E b s q. first_row _ b s q in
-    record { fits = omega (arith, low c.args.pointer (first), c.requires.bindings_le_most_bindings) }
+overflow_add-row c = let bounds = low _ _ _ _ c.requires.binds_name _ c.loop-row.invariant in record { fits = omega (arith, bounds) }
 
 pub offset_bounds-work-at : goal.offset_bounds-work-at
-offset_bounds-work-at c =
-    let given : (at : ℕ) → Left c.args.work.now c.args.bindings c.args.pointer c.args.name at →
-    FirstRow c.requires.binds_name.0 (slots row_labels row_payloads c.args.bindings c.args.work.now) at c.args.name c.requires.binds_name.2 =
-    λ at left. left c.requires.binds_name.0 c.requires.binds_name.1 c.requires.binds_name.2 c.requires.binds_name.3 c.requires.binds_name.4 in
-    let low : (at : ℕ) → Left c.args.work.now c.args.bindings c.args.pointer c.args.name at →
-    (0 < at) × (at ≤ c.args.bindings) =
-    λ at left. row_low _ _ _ _ _ _ (given at left) in
-    let first : Left c.args.work.now c.args.bindings c.args.pointer c.args.name c.args.pointer =
-    λ nodes E b s q. first_row _ b s q in
-    record { fits = omega (arith, low c.args.pointer (first), c.requires.bindings_le_most_bindings) }
+offset_bounds-work-at c = let bounds = low _ _ _ _ c.requires.binds_name _ c.loop-row.invariant in record { fits = omega (arith, bounds) }
 
 pub bounds-work-at : goal.bounds-work-at
-bounds-work-at c =
-    let given : (at : ℕ) → Left c.args.work.now c.args.bindings c.args.pointer c.args.name at →
-    FirstRow c.requires.binds_name.0 (slots row_labels row_payloads c.args.bindings c.args.work.now) at c.args.name c.requires.binds_name.2 =
-    λ at left. left c.requires.binds_name.0 c.requires.binds_name.1 c.requires.binds_name.2 c.requires.binds_name.3 c.requires.binds_name.4 in
-    let low : (at : ℕ) → Left c.args.work.now c.args.bindings c.args.pointer c.args.name at →
-    (0 < at) × (at ≤ c.args.bindings) =
-    λ at left. row_low _ _ _ _ _ _ (given at left) in
-    let first : Left c.args.work.now c.args.bindings c.args.pointer c.args.name c.args.pointer =
-    λ nodes E b s q. first_row _ b s q in
-    omega (arith, low c.args.pointer (first), c.requires.bindings_le_most_bindings, c.requires.work_words_in_bounds)
+bounds-work-at c = let bounds = low _ _ _ _ c.requires.binds_name _ c.loop-row.invariant in omega (arith, bounds)
 
 pub loop-row-init : goal.loop-row-init
-loop-row-init c =
-    let first : Left c.args.work.now c.args.bindings c.args.pointer c.args.name c.args.pointer =
-    λ nodes E b s q. first_row _ b s q in
-    (refl, first)
-
-pub overflow_add-row-in-loop-row : goal.overflow_add-row-in-loop-row
-overflow_add-row-in-loop-row c =
-    let given : (at : ℕ) → Left c.args.work.now c.args.bindings c.args.pointer c.args.name at →
-    FirstRow c.requires.binds_name.0 (slots row_labels row_payloads c.args.bindings c.args.work.now) at c.args.name c.requires.binds_name.2 =
-    λ at left. left c.requires.binds_name.0 c.requires.binds_name.1 c.requires.binds_name.2 c.requires.binds_name.3 c.requires.binds_name.4 in
-    let low : (at : ℕ) → Left c.args.work.now c.args.bindings c.args.pointer c.args.name at →
-    (0 < at) × (at ≤ c.args.bindings) =
-    λ at left. row_low _ _ _ _ _ _ (given at left) in
-    let further : Left c.args.work.now c.args.bindings c.args.pointer c.args.name (c.loop-row.row / 128) =
-    λ nodes E b s q. let f = c.loop-row.invariant.1 nodes E b s q in
-    let more = row_further nodes _ _ c.loop-row.at _ b f (λ e. c.loop-row-test.true (ap (λ w. w % 64) c.loop-row.invariant.0 ∙ e)) in
-    subst (λ p. FirstRow nodes (slots row_labels row_payloads c.args.bindings c.args.work.now) p c.args.name b)
-    (sym (ap (λ w. w / 128) c.loop-row.invariant.0)) (first_row _ b more.segment more.looked) in
-    record { fits = omega (arith, low (c.loop-row.row / 128) (further), c.requires.bindings_le_most_bindings) }
-
-pub offset_bounds-work-at-in-loop-row : goal.offset_bounds-work-at-in-loop-row
-offset_bounds-work-at-in-loop-row c =
-    let given : (at : ℕ) → Left c.args.work.now c.args.bindings c.args.pointer c.args.name at →
-    FirstRow c.requires.binds_name.0 (slots row_labels row_payloads c.args.bindings c.args.work.now) at c.args.name c.requires.binds_name.2 =
-    λ at left. left c.requires.binds_name.0 c.requires.binds_name.1 c.requires.binds_name.2 c.requires.binds_name.3 c.requires.binds_name.4 in
-    let low : (at : ℕ) → Left c.args.work.now c.args.bindings c.args.pointer c.args.name at →
-    (0 < at) × (at ≤ c.args.bindings) =
-    λ at left. row_low _ _ _ _ _ _ (given at left) in
-    let further : Left c.args.work.now c.args.bindings c.args.pointer c.args.name (c.loop-row.row / 128) =
-    λ nodes E b s q. let f = c.loop-row.invariant.1 nodes E b s q in
-    let more = row_further nodes _ _ c.loop-row.at _ b f (λ e. c.loop-row-test.true (ap (λ w. w % 64) c.loop-row.invariant.0 ∙ e)) in
-    subst (λ p. FirstRow nodes (slots row_labels row_payloads c.args.bindings c.args.work.now) p c.args.name b)
-    (sym (ap (λ w. w / 128) c.loop-row.invariant.0)) (first_row _ b more.segment more.looked) in
-    record { fits = omega (arith, low (c.loop-row.row / 128) (further), c.requires.bindings_le_most_bindings) }
-
-pub bounds-work-at-in-loop-row : goal.bounds-work-at-in-loop-row
-bounds-work-at-in-loop-row c =
-    let given : (at : ℕ) → Left c.args.work.now c.args.bindings c.args.pointer c.args.name at →
-    FirstRow c.requires.binds_name.0 (slots row_labels row_payloads c.args.bindings c.args.work.now) at c.args.name c.requires.binds_name.2 =
-    λ at left. left c.requires.binds_name.0 c.requires.binds_name.1 c.requires.binds_name.2 c.requires.binds_name.3 c.requires.binds_name.4 in
-    let low : (at : ℕ) → Left c.args.work.now c.args.bindings c.args.pointer c.args.name at →
-    (0 < at) × (at ≤ c.args.bindings) =
-    λ at left. row_low _ _ _ _ _ _ (given at left) in
-    let further : Left c.args.work.now c.args.bindings c.args.pointer c.args.name (c.loop-row.row / 128) =
-    λ nodes E b s q. let f = c.loop-row.invariant.1 nodes E b s q in
-    let more = row_further nodes _ _ c.loop-row.at _ b f (λ e. c.loop-row-test.true (ap (λ w. w % 64) c.loop-row.invariant.0 ∙ e)) in
-    subst (λ p. FirstRow nodes (slots row_labels row_payloads c.args.bindings c.args.work.now) p c.args.name b)
-    (sym (ap (λ w. w / 128) c.loop-row.invariant.0)) (first_row _ b more.segment more.looked) in
-    omega (arith, low (c.loop-row.row / 128) (further), c.requires.bindings_le_most_bindings, c.requires.work_words_in_bounds)
+loop-row-init c = whole _ _ _ _ c.requires.binds_name
 
 pub loop-row-smaller : goal.loop-row-smaller
-loop-row-smaller c =
-    let given : (at : ℕ) → Left c.args.work.now c.args.bindings c.args.pointer c.args.name at →
-    FirstRow c.requires.binds_name.0 (slots row_labels row_payloads c.args.bindings c.args.work.now) at c.args.name c.requires.binds_name.2 =
-    λ at left. left c.requires.binds_name.0 c.requires.binds_name.1 c.requires.binds_name.2 c.requires.binds_name.3 c.requires.binds_name.4 in
-    subst (λ w. w / 128 < c.loop-row.at) (sym c.loop-row.invariant.0) (row_falls _ _ _ _ _ _ (given c.loop-row.at c.loop-row.invariant.1))
+loop-row-smaller c = row_falls _ _ _ _ _ _ (row_left _ _ _ _ c.requires.binds_name _ c.loop-row.invariant)
 
 pub loop-row-preserved : goal.loop-row-preserved
-loop-row-preserved c =
-    let further : Left c.args.work.now c.args.bindings c.args.pointer c.args.name (c.loop-row.row / 128) =
-    λ nodes E b s q. let f = c.loop-row.invariant.1 nodes E b s q in
-    let more = row_further nodes _ _ c.loop-row.at _ b f (λ e. c.loop-row-test.true (ap (λ w. w % 64) c.loop-row.invariant.0 ∙ e)) in
-    subst (λ p. FirstRow nodes (slots row_labels row_payloads c.args.bindings c.args.work.now) p c.args.name b)
-    (sym (ap (λ w. w / 128) c.loop-row.invariant.0)) (first_row _ b more.segment more.looked) in
-    (refl, further)
+loop-row-preserved c = further _ _ _ _ c.requires.binds_name _ c.loop-row.invariant c.if-row-name.false
 
 pub overflow_sub-result : goal.overflow_sub-result
-overflow_sub-result c =
-    let given : (at : ℕ) → Left c.args.work.now c.args.bindings c.args.pointer c.args.name at →
-    FirstRow c.requires.binds_name.0 (slots row_labels row_payloads c.args.bindings c.args.work.now) at c.args.name c.requires.binds_name.2 =
-    λ at left. left c.requires.binds_name.0 c.requires.binds_name.1 c.requires.binds_name.2 c.requires.binds_name.3 c.requires.binds_name.4 in
-    let low : (at : ℕ) → Left c.args.work.now c.args.bindings c.args.pointer c.args.name at →
-    (0 < at) × (at ≤ c.args.bindings) =
-    λ at left. row_low _ _ _ _ _ _ (given at left) in
-    (low c.loop-row.at c.loop-row.invariant.1).0
+overflow_sub-result c = (low _ _ _ _ c.requires.binds_name _ c.loop-row.invariant).0
 
 pub returns : goal.returns
-returns c nodes E b s q =
-    row_found nodes _ _ _ _ b (c.loop-row.invariant.1 nodes E b s q) (sym (ap (λ w. w % 64) c.loop-row.invariant.0) ∙ c.loop-row-test.false)
+returns c nodes E b s q = row_found nodes _ _ _ _ b (c.loop-row.invariant nodes E b s q) c.if-row-name.true

@@ -1,11 +1,10 @@
 -- find_row: along the chain, until the name is found.
-use Prim.Native.Nat.{ℕ, ◌+◌}
+use Prim.Native.Nat.{ℕ}
 use mathlib.Core.Path.{◌≡◌}
 use mathlib.Core.List.{List}
 use mathlib.Core.Option.{some}
-use lib.ListN.{get_or}
 use Rattle.rules.specs.paper.States.{Bindable, Environment, lookup}
-use Rattle.machine.specs.Layout.{row_labels, row_payloads, row_at_pointer}
+use Rattle.machine.specs.Layout.{row_labels, row_payloads}
 use Rattle.machine.specs.Regions.{slots}
 use Rattle.machine.specs.Represents.{SegmentAs}
 use Rattle.machine.proofs.memory_laws.LookupLaws.{FirstRow}
@@ -17,7 +16,7 @@ Left work bindings pointer name at =
     (nodes : List ℕ) (E : Environment) (b : Bindable) → SegmentAs nodes (slots row_labels row_payloads bindings work) pointer 0 E → lookup name E ≡ some b → FirstRow nodes (slots row_labels row_payloads bindings work) at name b
 
 abbrev pub invariant-loop-row : goal.invariant-loop-row
-invariant-loop-row l = (l.row ≡ get_or l.work (row_at_pointer + l.at) 0) × Left l.work l.bindings l.pointer l.name l.at
+invariant-loop-row l = Left l.work l.bindings l.pointer l.name l.at
 
 abbrev pub decreases-loop-row : goal.decreases-loop-row
 decreases-loop-row l = l.at

@@ -24,7 +24,7 @@ put_number-requires-3 c = record {
 
 pub returns : goal.returns
 returns c =
-    line_written _ _ _ _ _ _ _ _ _ _ _ _ c.requires.some_line c.put_number.ensures c.put_number-2.ensures c.kind.ensures c.put_name.ensures
+    line_written _ _ _ _ _ _ _ _ _ _ _ _ c.requires.some_line c.put_number.ensures c.put_number-2.ensures c.node_kind.ensures c.put_name.ensures
     c.operand.ensures c.put_number-3.ensures c.put_number-4.ensures
 
 pub put_number-requires-4 : goal.put_number-requires-4

@@ -1,95 +1,53 @@
--- `names::name` answers the name of each kind at its number.
-use Rattle.std.proofs.Common.{rules}
-use mathlib.Core.Path.{refl}
-use Rattle.rules.specs.paper.Tree.{arithmetic, Eq, order, logic, Sum, Sub, Mul, Div, Lt, Le, Gt, Ge, And, Or}
-use Rattle.rules.specs.paper.Kinds.{num, boo, id, deref, valref, binary, negation, assign, loop, cseq, blk, call, conditional, bind, dseq, expression_kind, command_kind, declaration_kind, ref, abs, formal, every_kind}
-use Rattle.page.proofs.NameLaws.{name_known, name_unknown}
+-- `names::name` answers the name of each kind.
 use Rattle.page.proofs.names.name.Goals as goal
 
-pub returns-in-1 : goal.returns-in-1
-returns-in-1 c = name_known (expression_kind num) _ _ c.in-1.is refl
+pub returns-in-Expression-Num : goal.returns-in-Expression-Num
+returns-in-Expression-Num c = rw (c.in-Expression-Num.is, (rw c.in-Expression-Num.is at c.in-Expression-Num.field-0-is))
 
-pub returns-in-2 : goal.returns-in-2
-returns-in-2 c = name_known (expression_kind boo) _ _ c.in-2.is refl
+pub returns-in-Expression-Boo : goal.returns-in-Expression-Boo
+returns-in-Expression-Boo c = rw (c.in-Expression-Boo.is, (rw c.in-Expression-Boo.is at c.in-Expression-Boo.field-0-is))
 
-pub returns-in-3 : goal.returns-in-3
-returns-in-3 c = name_known (expression_kind id) _ _ c.in-3.is refl
+pub returns-in-Expression-Id : goal.returns-in-Expression-Id
+returns-in-Expression-Id c = rw (c.in-Expression-Id.is, (rw c.in-Expression-Id.is at c.in-Expression-Id.field-0-is))
 
-pub returns-in-4 : goal.returns-in-4
-returns-in-4 c = name_known (expression_kind (binary (arithmetic Sum))) _ _ c.in-4.is refl
+pub returns-in-Expression-DeRef : goal.returns-in-Expression-DeRef
+returns-in-Expression-DeRef c = rw (c.in-Expression-DeRef.is, (rw c.in-Expression-DeRef.is at c.in-Expression-DeRef.field-0-is))
 
-pub returns-in-5 : goal.returns-in-5
-returns-in-5 c = name_known (expression_kind (binary (arithmetic Sub))) _ _ c.in-5.is refl
+pub returns-in-Expression-ValRef : goal.returns-in-Expression-ValRef
+returns-in-Expression-ValRef c = rw (c.in-Expression-ValRef.is, (rw c.in-Expression-ValRef.is at c.in-Expression-ValRef.field-0-is))
 
-pub returns-in-6 : goal.returns-in-6
-returns-in-6 c = name_known (expression_kind (binary (arithmetic Mul))) _ _ c.in-6.is refl
+pub returns-in-Expression-Not : goal.returns-in-Expression-Not
+returns-in-Expression-Not c = rw (c.in-Expression-Not.is, (rw c.in-Expression-Not.is at c.in-Expression-Not.field-0-is))
 
-pub returns-in-7 : goal.returns-in-7
-returns-in-7 c = name_known (expression_kind (binary (arithmetic Div))) _ _ c.in-7.is refl
+pub returns-in-Command-Assign : goal.returns-in-Command-Assign
+returns-in-Command-Assign c = rw (c.in-Command-Assign.is, (rw c.in-Command-Assign.is at c.in-Command-Assign.field-0-is))
 
-pub returns-in-8 : goal.returns-in-8
-returns-in-8 c = name_known (expression_kind (binary Eq)) _ _ c.in-8.is refl
+pub returns-in-Command-Loop : goal.returns-in-Command-Loop
+returns-in-Command-Loop c = rw (c.in-Command-Loop.is, (rw c.in-Command-Loop.is at c.in-Command-Loop.field-0-is))
 
-pub returns-in-9 : goal.returns-in-9
-returns-in-9 c = name_known (expression_kind (binary (order Lt))) _ _ c.in-9.is refl
+pub returns-in-Command-CSeq : goal.returns-in-Command-CSeq
+returns-in-Command-CSeq c = rw (c.in-Command-CSeq.is, (rw c.in-Command-CSeq.is at c.in-Command-CSeq.field-0-is))
 
-pub returns-in-10 : goal.returns-in-10
-returns-in-10 c = name_known (expression_kind (binary (order Le))) _ _ c.in-10.is refl
+pub returns-in-Command-Blk : goal.returns-in-Command-Blk
+returns-in-Command-Blk c = rw (c.in-Command-Blk.is, (rw c.in-Command-Blk.is at c.in-Command-Blk.field-0-is))
 
-pub returns-in-11 : goal.returns-in-11
-returns-in-11 c = name_known (expression_kind (binary (order Gt))) _ _ c.in-11.is refl
+pub returns-in-Command-Call : goal.returns-in-Command-Call
+returns-in-Command-Call c = rw (c.in-Command-Call.is, (rw c.in-Command-Call.is at c.in-Command-Call.field-0-is))
 
-pub returns-in-12 : goal.returns-in-12
-returns-in-12 c = name_known (expression_kind (binary (order Ge))) _ _ c.in-12.is refl
+pub returns-in-Command-Cond : goal.returns-in-Command-Cond
+returns-in-Command-Cond c = rw (c.in-Command-Cond.is, (rw c.in-Command-Cond.is at c.in-Command-Cond.field-0-is))
 
-pub returns-in-13 : goal.returns-in-13
-returns-in-13 c = name_known (expression_kind (binary (logic And))) _ _ c.in-13.is refl
+pub returns-in-Declaration-Bind : goal.returns-in-Declaration-Bind
+returns-in-Declaration-Bind c = rw (c.in-Declaration-Bind.is, (rw c.in-Declaration-Bind.is at c.in-Declaration-Bind.field-0-is))
 
-pub returns-in-14 : goal.returns-in-14
-returns-in-14 c = name_known (expression_kind (binary (logic Or))) _ _ c.in-14.is refl
+pub returns-in-Declaration-DSeq : goal.returns-in-Declaration-DSeq
+returns-in-Declaration-DSeq c = rw (c.in-Declaration-DSeq.is, (rw c.in-Declaration-DSeq.is at c.in-Declaration-DSeq.field-0-is))
 
-pub returns-in-15 : goal.returns-in-15
-returns-in-15 c = name_known (expression_kind negation) _ _ c.in-15.is refl
+pub returns-in-Ref : goal.returns-in-Ref
+returns-in-Ref c = rw c.in-Ref.is
 
-pub returns-in-16 : goal.returns-in-16
-returns-in-16 c = name_known (expression_kind deref) _ _ c.in-16.is refl
+pub returns-in-Abs : goal.returns-in-Abs
+returns-in-Abs c = rw c.in-Abs.is
 
-pub returns-in-17 : goal.returns-in-17
-returns-in-17 c = name_known (expression_kind valref) _ _ c.in-17.is refl
-
-pub returns-in-20 : goal.returns-in-20
-returns-in-20 c = name_known (command_kind assign) _ _ c.in-20.is refl
-
-pub returns-in-21 : goal.returns-in-21
-returns-in-21 c = name_known (command_kind loop) _ _ c.in-21.is refl
-
-pub returns-in-22 : goal.returns-in-22
-returns-in-22 c = name_known (command_kind cseq) _ _ c.in-22.is refl
-
-pub returns-in-23 : goal.returns-in-23
-returns-in-23 c = name_known (command_kind blk) _ _ c.in-23.is refl
-
-pub returns-in-24 : goal.returns-in-24
-returns-in-24 c = name_known (command_kind call) _ _ c.in-24.is refl
-
-pub returns-in-25 : goal.returns-in-25
-returns-in-25 c = name_known (command_kind conditional) _ _ c.in-25.is refl
-
-pub returns-in-30 : goal.returns-in-30
-returns-in-30 c = name_known (declaration_kind bind) _ _ c.in-30.is refl
-
-pub returns-in-31 : goal.returns-in-31
-returns-in-31 c = name_known (declaration_kind dseq) _ _ c.in-31.is refl
-
-pub returns-in-40 : goal.returns-in-40
-returns-in-40 c = name_known ref _ _ c.in-40.is refl
-
-pub returns-in-41 : goal.returns-in-41
-returns-in-41 c = name_known abs _ _ c.in-41.is refl
-
-pub returns-in-42 : goal.returns-in-42
-returns-in-42 c = name_known formal _ _ c.in-42.is refl
-
-pub returns-in_default : goal.returns-in_default
-unfolding every_kind
-returns-in_default c = name_unknown _ _ (search rules)
+pub returns-in-Formal : goal.returns-in-Formal
+returns-in-Formal c = rw c.in-Formal.is

@@ -1,12 +1,8 @@
 -- Id's code by the number of the name's meaning.
-use Rattle.typing.proofs.laws.codes.CodeLaws.{id_plain, id_location, id_function}
+use Rattle.typing.proofs.laws.codes.CodeLaws.{id_function}
+use mathlib.Core.Path.{ap, ◌∙◌}
+use Rattle.std.specs.Prelude.{Err}
 use Rattle.typing.proofs.codes.id_code.Goals as goal
 
-pub returns-then-number-lt2 : goal.returns-then-number-lt2
-returns-then-number-lt2 c = id_plain _ _ c.if-number-lt2.true
-
-pub returns-then-number-lt-CODES : goal.returns-then-number-lt-CODES
-returns-then-number-lt-CODES c = id_location _ _ c.if-number-lt2.false c.if-number-lt-CODES.true
-
 pub returns : goal.returns
-returns c = id_function _ _ c.if-number-lt-CODES.false
+returns c = λ m n. ap Err c.mistyped.ensures ∙ id_function _ _ c.if-number-lt-CODES.false m n

@@ -1,79 +1,72 @@
 -- `expression`, which calls itself: the node's kind says which expression stands there, and its code follows from its
 -- children's.
-use mathlib.Core.Path.{sym, ◌∙◌, subst}
+use mathlib.Core.Path.{sym, subst}
 use native.Mathlib.Omega.{arith}
-use Rattle.typing.specs.Answers.{ExpressionAt}
-use Rattle.typing.proofs.laws.expressions.ExpressionLaws.{code_number, code_truth, name_three, name_high, first_child, first_low, first_fault, first_truth, second_child, second_fault, second_fine}
+use Rattle.std.proofs.Common.{rules}
+use Rattle.reader.proofs.NodeKindLaws.{expression_known}
 use Rattle.reader.proofs.StandingLaws.{expression_low}
+use Rattle.typing.specs.Answers.{ExpressionAt}
+use Rattle.typing.proofs.laws.expressions.ExpressionLaws.{kind_there, number_code, truth_code, id_there, deref_there, valref_there, name_fault, name_fine, not_there, not_fault, not_fine, binary_there, first_fault, second_fault, both_fine}
 use Rattle.typing.proofs.expressions.+expression.Goals as goal
 
-pub kind-which-requires : goal.kind-which-requires
-kind-which-requires t c =
-    omega (arith, expression_low c.requires.expression_at.1.stored, c.requires.rows_end_in_bounds)
+pub node_kind-requires-clause-known : goal.node_kind-requires-clause-known
+node_kind-requires-clause-known t c = expression_known c.requires.expression_at.1.stored
 
-pub returns-then-which-eq-NUM : goal.returns-then-which-eq-NUM
-returns-then-which-eq-NUM t c = code_number _ _ _ _ _ c.kind-which.ensures c.if-which-eq-NUM.true
+pub returns-in-Expression-Num : goal.returns-in-Expression-Num
+returns-in-Expression-Num t c = number_code _ _ _ _ (kind_there _ _ _ _ _ c.node_kind.ensures c.in-Expression-Num.is c.in-Expression-Num.field-0-is)
 
-pub returns-then-which-eq-BOO : goal.returns-then-which-eq-BOO
-returns-then-which-eq-BOO t c = code_truth _ _ _ _ _ c.kind-which.ensures c.if-which-eq-BOO.true
+pub returns-in-Expression-Boo : goal.returns-in-Expression-Boo
+returns-in-Expression-Boo t c = truth_code _ _ _ _ (kind_there _ _ _ _ _ c.node_kind.ensures c.in-Expression-Boo.is c.in-Expression-Boo.field-0-is)
 
-pub name_code-requires : goal.name_code-requires
-name_code-requires t c = record {
-  rows_end_in_bounds = c.requires.rows_end_in_bounds;
-  scope_at = c.requires.scope_at;
-  name_at = (c.requires.expression_at.0, name_three _ _ _ c.kind-which.ensures c.if-which-eq-ID.true c.requires.expression_at.0 c.requires.expression_at.1);
-}
+pub returns-in_err-number-in-Expression-Id : goal.returns-in_err-number-in-Expression-Id
+returns-in_err-number-in-Expression-Id t c = name_fault _ _ _ _ _ (id_there _ _ (kind_there _ _ _ _ _ c.node_kind.ensures c.in-Expression-Id.is c.in-Expression-Id.field-0-is)) _ c.operand.ensures _ c.meaning.ensures _ c.in_err-number-in-Expression-Id.was _ (search rules)
 
-pub returns-then-which-eq-ID : goal.returns-then-which-eq-ID
-returns-then-which-eq-ID t c = λ e Γ at s. c.name_code.ensures e Γ (name_three _ _ _ c.kind-which.ensures c.if-which-eq-ID.true e at) s
+pub returns-in_ok-number-in-Expression-Id : goal.returns-in_ok-number-in-Expression-Id
+returns-in_ok-number-in-Expression-Id t c = name_fine _ _ _ _ _ (id_there _ _ (kind_there _ _ _ _ _ c.node_kind.ensures c.in-Expression-Id.is c.in-Expression-Id.field-0-is)) _ c.operand.ensures _ c.meaning.ensures _ c.in_ok-number-in-Expression-Id.was _ c.id_code.ensures
 
-pub name_code-requires-then-which-gt-NOT : goal.name_code-requires-then-which-gt-NOT
-name_code-requires-then-which-gt-NOT t c = record {
-  rows_end_in_bounds = c.requires.rows_end_in_bounds;
-  scope_at = c.requires.scope_at;
-  name_at = (c.requires.expression_at.0, name_high _ _ _ c.kind-which.ensures c.if-which-gt-NOT.true c.requires.expression_at.0 c.requires.expression_at.1);
-}
+pub returns-in_err-number-in-Expression-DeRef : goal.returns-in_err-number-in-Expression-DeRef
+returns-in_err-number-in-Expression-DeRef t c = name_fault _ _ _ _ _ (deref_there _ _ (kind_there _ _ _ _ _ c.node_kind.ensures c.in-Expression-DeRef.is c.in-Expression-DeRef.field-0-is)) _ c.operand-in-Expression-DeRef.ensures _ c.meaning-in-Expression-DeRef.ensures _ c.in_err-number-in-Expression-DeRef.was _ (search rules)
 
-pub returns-then-which-gt-NOT : goal.returns-then-which-gt-NOT
-returns-then-which-gt-NOT t c = λ e Γ at s. c.name_code-then-which-gt-NOT.ensures e Γ (name_high _ _ _ c.kind-which.ensures c.if-which-gt-NOT.true e at) s
+pub returns-in_ok-number-in-Expression-DeRef : goal.returns-in_ok-number-in-Expression-DeRef
+returns-in_ok-number-in-Expression-DeRef t c = name_fine _ _ _ _ _ (deref_there _ _ (kind_there _ _ _ _ _ c.node_kind.ensures c.in-Expression-DeRef.is c.in-Expression-DeRef.field-0-is)) _ c.operand-in-Expression-DeRef.ensures _ c.meaning-in-Expression-DeRef.ensures _ c.in_ok-number-in-Expression-DeRef.was _ c.deref_code.ensures
 
-pub overflow_add-node : goal.overflow_add-node
-overflow_add-node t c =
-    record { fits = omega (arith, first_low _ _ _ c.kind-which.ensures c.if-which-eq-NUM.false c.if-which-eq-BOO.false c.if-which-eq-ID.false c.if-which-gt-NOT.false c.requires.expression_at) }
+pub returns-in_err-number-in-Expression-ValRef : goal.returns-in_err-number-in-Expression-ValRef
+returns-in_err-number-in-Expression-ValRef t c = name_fault _ _ _ _ _ (valref_there _ _ (kind_there _ _ _ _ _ c.node_kind.ensures c.in-Expression-ValRef.is c.in-Expression-ValRef.field-0-is)) _ c.operand-in-Expression-ValRef.ensures _ c.meaning-in-Expression-ValRef.ensures _ c.in_err-number-in-Expression-ValRef.was _ (search rules)
 
-pub expression-inner-requires : goal.expression-inner-requires
-expression-inner-requires t c =
-    let low = first_low _ _ _ c.kind-which.ensures c.if-which-eq-NUM.false c.if-which-eq-BOO.false c.if-which-eq-ID.false c.if-which-gt-NOT.false c.requires.expression_at in
-    (omega (arith, low, c.decreases), (c.requires.rows_end_in_bounds, (c.requires.scope_at, first_child _ _ _ c.kind-which.ensures c.if-which-eq-NUM.false c.if-which-eq-BOO.false c.if-which-eq-ID.false c.if-which-gt-NOT.false c.requires.expression_at)))
+pub returns-in_ok-number-in-Expression-ValRef : goal.returns-in_ok-number-in-Expression-ValRef
+returns-in_ok-number-in-Expression-ValRef t c = name_fine _ _ _ _ _ (valref_there _ _ (kind_there _ _ _ _ _ c.node_kind.ensures c.in-Expression-ValRef.is c.in-Expression-ValRef.field-0-is)) _ c.operand-in-Expression-ValRef.ensures _ c.meaning-in-Expression-ValRef.ensures _ c.in_ok-number-in-Expression-ValRef.was _ c.valref_code.ensures
 
-pub returns-in_default : goal.returns-in_default
-returns-in_default t c =
-    first_fault _ _ _ _ _ c.kind-which.ensures c.if-which-eq-NUM.false c.if-which-eq-BOO.false c.if-which-eq-ID.false c.if-which-gt-NOT.false _ c.expression-inner.ensures _ _ c.in_default.is
+pub expression-requires : goal.expression-requires
+expression-requires t c =
+    let e = c.requires.expression_at in
+    let parts = not_there _ _ (kind_there _ _ _ _ _ c.node_kind.ensures c.in-Expression-Not.is c.in-Expression-Not.field-0-is) e.0 e.1 in
+    (omega (arith, expression_low parts.inner_at.stored, c.decreases), (c.requires.rows_end_in_bounds, (c.requires.scope_at, (parts.inner, parts.inner_at))))
 
-pub returns-then-which-eq-NOT : goal.returns-then-which-eq-NOT
-returns-then-which-eq-NOT t c =
-    first_truth _ _ _ _ _ c.kind-which.ensures c.if-which-eq-NUM.false c.if-which-eq-BOO.false c.if-which-eq-ID.false c.if-which-gt-NOT.false _ c.expression-inner.ensures _ _ c.in-Is.is c.if-which-eq-NOT.true c.truth.ensures
+pub returns-in_err-code-in-Expression-Not : goal.returns-in_err-code-in-Expression-Not
+returns-in_err-code-in-Expression-Not t c = not_fault _ _ _ _ (kind_there _ _ _ _ _ c.node_kind.ensures c.in-Expression-Not.is c.in-Expression-Not.field-0-is) _ c.expression.ensures _ c.in_err-code-in-Expression-Not.was _ (search rules)
 
-pub overflow_add-node-2 : goal.overflow_add-node-2
-overflow_add-node-2 t c =
-    record { fits = omega (arith, first_low _ _ _ c.kind-which.ensures c.if-which-eq-NUM.false c.if-which-eq-BOO.false c.if-which-eq-ID.false c.if-which-gt-NOT.false c.requires.expression_at) }
+pub returns-in_ok-code-in-Expression-Not : goal.returns-in_ok-code-in-Expression-Not
+returns-in_ok-code-in-Expression-Not t c = not_fine _ _ _ _ (kind_there _ _ _ _ _ c.node_kind.ensures c.in-Expression-Not.is c.in-Expression-Not.field-0-is) _ c.expression.ensures _ c.in_ok-code-in-Expression-Not.was _ c.truth.ensures
 
-pub end-next-requires : goal.end-next-requires
-end-next-requires t c =
-    omega (arith, first_low _ _ _ c.kind-which.ensures c.if-which-eq-NUM.false c.if-which-eq-BOO.false c.if-which-eq-ID.false c.if-which-gt-NOT.false c.requires.expression_at, c.requires.rows_end_in_bounds)
+pub expression-requires-in-Expression-Binary : goal.expression-requires-in-Expression-Binary
+expression-requires-in-Expression-Binary t c =
+    let e = c.requires.expression_at in
+    let parts = binary_there _ _ _ (kind_there _ _ _ _ _ c.node_kind.ensures c.in-Expression-Binary.is c.in-Expression-Binary.field-0-is) e.0 e.1 in
+    (omega (arith, expression_low parts.first_at.stored, c.decreases), (c.requires.rows_end_in_bounds, (c.requires.scope_at, (parts.first, parts.first_at))))
 
-pub expression-outer-requires : goal.expression-outer-requires
-expression-outer-requires t c =
-    let child = second_child _ _ _ c.kind-which.ensures c.if-which-eq-NUM.false c.if-which-eq-BOO.false c.if-which-eq-ID.false c.if-which-gt-NOT.false c.if-which-eq-NOT.false c.requires.expression_at in (
-      omega (arith, expression_low child.1.stored, child.2, c.end-next.ensures, c.decreases),
-      (c.requires.rows_end_in_bounds, (c.requires.scope_at, (child.0, subst (λ i. ExpressionAt c.args.work.now i child.0) (sym c.end-next.ensures) child.1))),
+pub returns-in_err-first-in-Expression-Binary : goal.returns-in_err-first-in-Expression-Binary
+returns-in_err-first-in-Expression-Binary t c = first_fault _ _ _ _ _ (kind_there _ _ _ _ _ c.node_kind.ensures c.in-Expression-Binary.is c.in-Expression-Binary.field-0-is) _ c.expression-in-Expression-Binary.ensures _ c.in_err-first-in-Expression-Binary.was _ (search rules)
+
+pub expression-requires-in-Expression-Binary-2 : goal.expression-requires-in-Expression-Binary-2
+expression-requires-in-Expression-Binary-2 t c =
+    let e = c.requires.expression_at in
+    let parts = binary_there _ _ _ (kind_there _ _ _ _ _ c.node_kind.ensures c.in-Expression-Binary.is c.in-Expression-Binary.field-0-is) e.0 e.1 in (
+      omega (arith, expression_low parts.second_at.stored, parts.on, c.end-next.ensures, c.decreases),
+      (c.requires.rows_end_in_bounds, (c.requires.scope_at, (parts.second, subst (λ i. ExpressionAt c.args.work.now i parts.second) (sym c.end-next.ensures) parts.second_at))),
     )
 
-pub returns-in_default-outer : goal.returns-in_default-outer
-returns-in_default-outer t c =
-    second_fault _ _ _ _ _ c.kind-which.ensures c.if-which-eq-NUM.false c.if-which-eq-BOO.false c.if-which-eq-ID.false c.if-which-gt-NOT.false _ c.expression-inner.ensures c.if-which-eq-NOT.false _ _ _ c.in-Is.is c.end-next.ensures c.expression-outer.ensures _ _ c.in_default-outer.is
+pub returns-in_err-second-in-Expression-Binary : goal.returns-in_err-second-in-Expression-Binary
+returns-in_err-second-in-Expression-Binary t c = second_fault _ _ _ _ _ (kind_there _ _ _ _ _ c.node_kind.ensures c.in-Expression-Binary.is c.in-Expression-Binary.field-0-is) _ c.expression-in-Expression-Binary.ensures _ _ c.in_ok-first-in-Expression-Binary.was c.end-next.ensures _ c.expression-in-Expression-Binary-2.ensures _ c.in_err-second-in-Expression-Binary.was _ (search rules)
 
-pub returns : goal.returns
-returns t c =
-    λ e Γ at s. c.anew.ensures ∙
-    second_fine _ _ _ _ _ c.kind-which.ensures c.if-which-eq-NUM.false c.if-which-eq-BOO.false c.if-which-eq-ID.false c.if-which-gt-NOT.false _ c.expression-inner.ensures c.if-which-eq-NOT.false _ _ _ c.in-Is.is c.end-next.ensures c.expression-outer.ensures _ _ c.in-Is-outer.is c.operation-judged.ensures e Γ at s
+pub returns-in_ok-second-in-Expression-Binary : goal.returns-in_ok-second-in-Expression-Binary
+returns-in_ok-second-in-Expression-Binary t c = both_fine _ _ _ _ _ (kind_there _ _ _ _ _ c.node_kind.ensures c.in-Expression-Binary.is c.in-Expression-Binary.field-0-is) _ c.expression-in-Expression-Binary.ensures _ _ c.in_ok-first-in-Expression-Binary.was c.end-next.ensures _ c.expression-in-Expression-Binary-2.ensures _ c.in_ok-second-in-Expression-Binary.was _ c.operator_code.ensures

@@ -4,14 +4,15 @@ use mathlib.Core.Path.{◌≡◌, refl, subst}
 use mathlib.Core.List.{List}
 use native.Mathlib.Omega.{arith}
 use Rattle.rules.specs.paper.Limits.{codes}
-use Rattle.rules.specs.paper.Refusals.{refusal_number}
-use Rattle.rules.specs.paper.Tree.{Operator, arithmetic, Eq, order, logic, Expression, Num, Boo, Id, DeRef, ValRef, Binary, Not}
+use Rattle.rules.specs.paper.Tree.{Expression, Num, Boo, Id, DeRef, ValRef, Binary, Not}
+use Rattle.rules.specs.declared.kinds.Operator.{Operator}
+use Rattle.rules.specs.declared.kinds.Operator.TheVariants.{Arithmetic as arithmetic, Eq, Order as order, Logic as logic}
 use Rattle.rules.specs.paper.Checker.{Meaning, code, function, Scope, Judged, fault, fine, ◌>>=◌, meaning_of, bound_name, id_code, deref_code, valref_code, integers_give, truths_give, equals_give, operator_code, truth_only, expression_code}
 use Rattle.typing.specs.Rows.{meaning_number, ScopeAt}
 use Rattle.typing.specs.Answers.{code_answer, Numbered, numbered_code, ExpressionAt, ExpressionJudgedAt}
-use Rattle.typing.specs.declared.codes.Answer.{Answer}
-use Rattle.typing.specs.declared.codes.Answer.TheVariants.{Is}
-use Rattle.typing.proofs.laws.codes.AnswerLaws.{two_answers, same_is, no_fault, same_fine, then_inverse}
+use Rattle.std.specs.Prelude.{Result, Ok}
+use Rattle.rules.specs.declared.refusals.Refused.{Refused}
+use Rattle.typing.proofs.laws.codes.AnswerLaws.{two_answers, same_ok, no_fault, same_fine, then_inverse}
 use Rattle.typing.proofs.laws.expressions.NameLaws.{scope_numbered}
 
 code_below : {n c : ℕ} → Numbered n (code c) → c < codes
@@ -90,10 +91,10 @@ code_low {Γ = Γ} s (Not p e) c q =
     truth_low p t.0 c t.2
 
 -- So is the code of the expression that stands there.
-pub judged_low : (words : List ℕ) (registers scope node : ℕ) → ((Γ : Scope) × ScopeAt words registers scope Γ) → ((e : Expression) × ExpressionAt words node e) → (one : Answer) →
-    ExpressionJudgedAt words registers scope node one → (c : ℕ) → one ≡ Is c → c < codes
+pub judged_low : (words : List ℕ) (registers scope node : ℕ) → ((Γ : Scope) × ScopeAt words registers scope Γ) → ((e : Expression) × ExpressionAt words node e) → (one : Result ℕ Refused) →
+    ExpressionJudgedAt words registers scope node one → (c : ℕ) → one ≡ Ok c → c < codes
 judged_low words registers scope node s e one judged c q = by (expression_code s.0 e.0) refl (judged e.0 s.0 e.1 s.1)
   where
     by : (j : Judged ℕ) → expression_code s.0 e.0 ≡ j → one ≡ code_answer j → c < codes
-    by (fault x p) known h = absurd (two_answers one c (refusal_number x) p q h)
-    by (fine d) known h = subst (λ k. k < codes) (same_is one d c h q) (code_low s.1 e.0 d known)
+    by (fault x p) known h = absurd (two_answers one c (record { refusal = x; place = p }) q h)
+    by (fine d) known h = subst (λ k. k < codes) (same_ok one d c h q) (code_low s.1 e.0 d known)

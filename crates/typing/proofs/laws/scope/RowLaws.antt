@@ -7,12 +7,12 @@ use mathlib.Core.Option.{none, some, none-ne-some}
 use native.Mathlib.Omega.{arith}
 use lib.Dec.{T, eqb, eqb→eq, eqb_refl}
 use lib.ListN.{get_or}
+use Rattle.std.specs.Prelude.{Option, Some, None, is_some}
 use Rattle.rules.specs.paper.Limits.{names, most_nodes}
 use Rattle.rules.proofs.Basics.{true_test, false_test}
 use Rattle.rules.specs.paper.Checker.{Meaning, code, Named, Scope, meaning_of, has_name, shares_name, register_scope}
 use Rattle.typing.specs.Rows.{rows_from, pointers_from, meaning_numbers, link_factor, row_word, meaning_number, MeaningAt, HasRow, Rows, no_rows, one_row, ScopeAt, RowFound, absent, present}
 use Rattle.typing.specs.Answers.{FoundAs, found_nothing, found_binding, found_register}
-use Rattle.typing.specs.declared.scope.Found.TheVariants.{Bound, Nothing}
 
 -- ---- A row's parts.
 
@@ -86,9 +86,6 @@ pointer_word words at k q = ap (λ j. get_or words j 0) (place q)
 abbrev pub Walked : List ℕ → (from to name at : ℕ) → Type 0
 Walked words from to name at = (Δ : Scope) → Rows words from to Δ → (Δ' : Scope) × Rows words at to Δ' × (meaning_of name Δ ≡ meaning_of name Δ')
 
-pub walk_start : (words : List ℕ) (from to name : ℕ) → Walked words from to name from
-walk_start words from to name Δ r = (Δ, r, refl)
-
 meaning_head : (x : ℕ) (n : Named) (Δ : Scope) → n.name ≡ x → meaning_of x (n ∷ Δ) ≡ some n.meaning
 unfolding meaning_of
 meaning_head x n Δ q = rw (true_test (eqb n.name x) (subst (λ j. T (eqb n.name j)) q (eqb_refl n.name)))
@@ -117,20 +114,20 @@ pub walk_low : (words : List ℕ) (from to name at : ℕ) → ((Δ : Scope) × R
 walk_low words from to name at e w f = let o = opened (w e.0 e.1).1 f in omega (arith, o.row.node_low, o.pointer)
 
 pub walk_found : (words : List ℕ) (from to name at : ℕ) → Walked words from to name at → ¬ (at ≡ to) → get_or words (pointers_from + at) 0 % names ≡ name →
-    (Δ : Scope) → Rows words from to Δ → RowFound words to name Δ at
+    (Δ : Scope) → Rows words from to Δ → RowFound words to name Δ (Some at)
 walk_found words from to name at w f q Δ r =
     let s = w Δ r in
     let o = opened s.1 f in
     let is : o.name ≡ name = sym (ap (λ v. v % names) (pointer_word words at o.node o.pointer) ∙ row_name o.row) ∙ q in
-    subst (RowFound words to name Δ) (sym o.pointer)
+    subst (λ p. RowFound words to name Δ (Some p)) (sym o.pointer)
     (present (s.2 ∙ ap (meaning_of name) o.split ∙ meaning_head name _ o.rest is)
     (subst (λ j. HasRow words o.node j (meaning_number o.meaning) o.link) is o.row) o.known
     (omega (arith, rows_order o.later, o.row.link_low)))
 
-pub walk_absent : (words : List ℕ) (from to name at : ℕ) → Walked words from to name at → at ≡ to → (Δ : Scope) → Rows words from to Δ → RowFound words to name Δ at
+pub walk_absent : (words : List ℕ) (from to name at : ℕ) → Walked words from to name at → at ≡ to → (Δ : Scope) → Rows words from to Δ → RowFound words to name Δ None
 walk_absent words from to name at w q Δ r =
     let s = w Δ r in
-    subst (RowFound words to name Δ) (sym q) (absent (s.2 ∙ none_left at to s.0 s.1 q))
+    absent (s.2 ∙ none_left at to s.0 s.1 q)
   where
     none_left : (at to : ℕ) (Δ : Scope) → Rows words at to Δ → at ≡ to → meaning_of name Δ ≡ none
     none_left at to Δ no_rows e = unfold meaning_of in refl
@@ -184,41 +181,39 @@ register_out x (suc r) h = rw (false_test (eqb r x) (λ t. clash (eqb→eq r x t
     clash : r ≡ x → ⊥
     clash e = omega arith
 
-not_found : {words : List ℕ} {x : ℕ} {Δ : Scope} {p : ℕ} → RowFound words 0 x Δ p → p ≡ 0 → meaning_of x Δ ≡ none
+not_found : {words : List ℕ} {x : ℕ} {Δ : Scope} {p : Option ℕ} → RowFound words 0 x Δ p → p ≡ None → meaning_of x Δ ≡ none
 not_found (absent q) e = q
-not_found (present q h a l) e = absurd (clash e)
-  where
-    clash : {k : ℕ} → suc k ≡ 0 → ⊥
-    clash f = omega arith
+not_found (present q h a l) e = absurd cc
 
-pub lookup_register : (words : List ℕ) (registers scope name at : ℕ) → ((Δ : Scope) → Rows words scope 0 Δ → RowFound words 0 name Δ at) → at ≡ 0 → name < registers →
-    (Γ : Scope) → ScopeAt words registers scope Γ → FoundAs words (meaning_of name Γ) (Bound 2 0)
-lookup_register words registers scope name at f z h Γ s =
-    subst (λ o. FoundAs words o (Bound 2 0))
-    (sym (ap (meaning_of name) s.whole ∙ append_absent name s.own (register_scope registers) (not_found (f s.own s.rows) z) ∙ register_in name registers h)) found_register
+module _ (words : List ℕ) (registers scope name : ℕ) (at : Option ℕ) (looked : (Δ : Scope) → Rows words scope 0 Δ → RowFound words 0 name Δ at) where
+  pub lookup_register : at ≡ None → name < registers → (Γ : Scope) → ScopeAt words registers scope Γ → FoundAs words (meaning_of name Γ) (Some (record { meaning = 2; pointer = 0 }))
+  lookup_register z h Γ s =
+      subst (λ o. FoundAs words o (Some (record { meaning = 2; pointer = 0 })))
+      (sym (ap (meaning_of name) s.whole ∙ append_absent name s.own (register_scope registers) (not_found (looked s.own s.rows) z) ∙ register_in name registers h)) found_register
 
-pub lookup_nothing : (words : List ℕ) (registers scope name at : ℕ) → ((Δ : Scope) → Rows words scope 0 Δ → RowFound words 0 name Δ at) → at ≡ 0 → registers ≤ name →
-    (Γ : Scope) → ScopeAt words registers scope Γ → FoundAs words (meaning_of name Γ) Nothing
-lookup_nothing words registers scope name at f z h Γ s =
-    subst (λ o. FoundAs words o Nothing)
-    (sym (ap (meaning_of name) s.whole ∙ append_absent name s.own (register_scope registers) (not_found (f s.own s.rows) z) ∙ register_out name registers h)) found_nothing
+  pub lookup_nothing : at ≡ None → registers ≤ name → (Γ : Scope) → ScopeAt words registers scope Γ → FoundAs words (meaning_of name Γ) None
+  lookup_nothing z h Γ s =
+      subst (λ o. FoundAs words o None)
+      (sym (ap (meaning_of name) s.whole ∙ append_absent name s.own (register_scope registers) (not_found (looked s.own s.rows) z) ∙ register_out name registers h)) found_nothing
 
-pub lookup_row : (words : List ℕ) (registers scope name at : ℕ) → ((Δ : Scope) → Rows words scope 0 Δ → RowFound words 0 name Δ at) → ¬ (at ≡ 0) →
-    (Γ : Scope) → ScopeAt words registers scope Γ → FoundAs words (meaning_of name Γ) (Bound (get_or words (pointers_from + at) 0 / names % meaning_numbers) at)
-lookup_row words registers scope name at f z Γ s = by (f s.own s.rows) z
-  where
-    by : {p : ℕ} → RowFound words 0 name s.own p → ¬ (p ≡ 0) → FoundAs words (meaning_of name Γ) (Bound (get_or words (pointers_from + p) 0 / names % meaning_numbers) p)
-    by (absent q) g = absurd (g refl)
-    by (present {k = k} {m = m} q h a l) g =
-        subst (λ o. FoundAs words o (Bound (get_or words (pointers_from + suc k) 0 / names % meaning_numbers) (suc k))) (sym (ap (meaning_of name) s.whole ∙ append_present name m s.own (register_scope registers) q))
-        (subst (λ v. FoundAs words (some m) (Bound v (suc k))) (sym (ap (λ v. v / names % meaning_numbers) (pointer_word words (suc k) k refl) ∙ row_meaning h)) (found_binding a))
+  module _ (pointer : ℕ) (is : at ≡ Some pointer) where
+    pub lookup_row : (Γ : Scope) → ScopeAt words registers scope Γ → FoundAs words (meaning_of name Γ) (Some (record { meaning = get_or words (pointers_from + pointer) 0 / names % meaning_numbers; pointer = pointer }))
+    lookup_row Γ s = by (looked s.own s.rows) is
+      where
+        by : {p : Option ℕ} → RowFound words 0 name s.own p → p ≡ Some pointer → FoundAs words (meaning_of name Γ) (Some (record { meaning = get_or words (pointers_from + pointer) 0 / names % meaning_numbers; pointer = pointer }))
+        by (absent q) g = absurd cc
+        by (present {k = k} {m = m} q h a l) g =
+            let there : pointer ≡ suc k = cc in
+            let number : get_or words (pointers_from + pointer) 0 / names % meaning_numbers ≡ meaning_number m = ap (λ v. v / names % meaning_numbers) (pointer_word words pointer k there) ∙ row_meaning h in
+            let known : meaning_of name Γ ≡ some m = ap (meaning_of name) s.whole ∙ append_present name m s.own (register_scope registers) q in
+            rw (known, number, there) (found_binding a)
 
-pub found_low : (words : List ℕ) (registers scope name at : ℕ) → ((Γ : Scope) × ScopeAt words registers scope Γ) → ((Δ : Scope) → Rows words scope 0 Δ → RowFound words 0 name Δ at) → at ≤ most_nodes
-found_low words registers scope name at e f = by (f e.1.own e.1.rows)
-  where
-    by : {p : ℕ} → RowFound words 0 name e.1.own p → p ≤ most_nodes
-    by (absent q) = omega arith
-    by (present q h a l) = omega (arith, h.node_low)
+    pub found_low : ((Γ : Scope) × ScopeAt words registers scope Γ) → pointer ≤ most_nodes
+    found_low e = by (looked e.1.own e.1.rows) is
+      where
+        by : {p : Option ℕ} → RowFound words 0 name e.1.own p → p ≡ Some pointer → pointer ≤ most_nodes
+        by (absent q) g = absurd cc
+        by (present {k = k} q h a l) g = let there : pointer ≡ suc k = cc in omega (arith, h.node_low)
 
 -- ---- Names that two lots of rows share.
 
@@ -240,27 +235,21 @@ has_by_some x m (n ∷ Δ) q = choose (eqb n.name x) q (has_by_some x m Δ)
     choose true p later = refl
     choose false p later = later p
 
-pub row_has : {words : List ℕ} {to x : ℕ} {Δ : Scope} {p : ℕ} → RowFound words to x Δ p → ¬ (p ≡ to) → has_name x Δ ≡ true
-row_has (absent q) f = absurd (f refl)
-row_has {x = x} {Δ = Δ} (present {m = m} q h a l) f = has_by_some x m Δ q
+pub row_has : {words : List ℕ} {to x : ℕ} {Δ : Scope} {p : Option ℕ} → RowFound words to x Δ p → is_some p ≡ true → has_name x Δ ≡ true
+row_has (absent q) e = absurd cc
+row_has {x = x} {Δ = Δ} (present {m = m} q h a l) e = has_by_some x m Δ q
 
-pub row_has_not : {words : List ℕ} {to x : ℕ} {Δ : Scope} {p : ℕ} → RowFound words to x Δ p → p ≡ to → has_name x Δ ≡ false
+pub row_has_not : {words : List ℕ} {to x : ℕ} {Δ : Scope} {p : Option ℕ} → RowFound words to x Δ p → is_some p ≡ false → has_name x Δ ≡ false
 row_has_not {x = x} {Δ = Δ} (absent q) e = has_by_meaning x Δ q
-row_has_not (present q h a l) e = absurd (clash l e)
-  where
-    clash : {k t : ℕ} → t ≤ k → suc k ≡ t → ⊥
-    clash a b = omega arith
+row_has_not (present q h a l) e = absurd cc
 
 abbrev pub Compared : List ℕ → (from middle to at : ℕ) → Type 0
 Compared words from middle to at =
     (Δ₁ Δ₂ : Scope) → Rows words middle to Δ₁ → Rows words from middle Δ₂ → (Δ' : Scope) × Rows words at to Δ' × (shares_name Δ₁ Δ₂ ≡ shares_name Δ' Δ₂)
 
-pub compare_start : (words : List ℕ) (from middle to : ℕ) → Compared words from middle to middle
-compare_start words from middle to Δ₁ Δ₂ r s = (Δ₁, r, refl)
-
-module _ (words : List ℕ) (from middle to at p : ℕ) (w : Compared words from middle to at) (f : ¬ (at ≡ to))
+module _ (words : List ℕ) (from middle to at : ℕ) (p : Option ℕ) (w : Compared words from middle to at) (f : ¬ (at ≡ to))
     (found : (Δ : Scope) → Rows words from middle Δ → RowFound words middle (get_or words (pointers_from + at) 0 % names) Δ p) where
-  pub compare_shared : ¬ (p ≡ middle) → (Δ₁ Δ₂ : Scope) → Rows words middle to Δ₁ → Rows words from middle Δ₂ → true ≡ shares_name Δ₁ Δ₂
+  pub compare_shared : is_some p ≡ true → (Δ₁ Δ₂ : Scope) → Rows words middle to Δ₁ → Rows words from middle Δ₂ → true ≡ shares_name Δ₁ Δ₂
   compare_shared g Δ₁ Δ₂ r s =
       let c = w Δ₁ Δ₂ r s in
       let o = opened c.1 f in
@@ -270,7 +259,7 @@ module _ (words : List ℕ) (from middle to at p : ℕ) (w : Compared words from
       first_shared : (x : ℕ) (m : Meaning) (Δ Γ : Scope) → has_name x Γ ≡ true → shares_name (record { name = x; meaning = m } ∷ Δ) Γ ≡ true
       first_shared x m Δ Γ q = unfold shares_name in (rw q)
 
-  pub compare_on : p ≡ middle → Compared words from middle to (get_or words (pointers_from + at) 0 / link_factor)
+  pub compare_on : is_some p ≡ false → Compared words from middle to (get_or words (pointers_from + at) 0 / link_factor)
   compare_on g Δ₁ Δ₂ r s =
       let c = w Δ₁ Δ₂ r s in
       let o = opened c.1 f in

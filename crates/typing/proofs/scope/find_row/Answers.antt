@@ -1,10 +1,7 @@
 -- The newest row of a name: so far the name has not been met.
 use native.Mathlib.Omega.{arith}
-use Rattle.typing.proofs.laws.scope.RowLaws.{walk_start, walk_on, walk_less, walk_low, walk_found, walk_absent}
+use Rattle.typing.proofs.laws.scope.RowLaws.{walk_on, walk_less, walk_low, walk_found, walk_absent}
 use Rattle.typing.proofs.scope.find_row.Goals as goal
-
-pub loop-at-init : goal.loop-at-init
-loop-at-init c = walk_start _ _ _ _
 
 pub overflow_add-row : goal.overflow_add-row
 overflow_add-row c = record { fits = omega (arith, walk_low _ _ _ _ _ c.requires.rows c.loop-at.invariant c.loop-at-test.true) }
