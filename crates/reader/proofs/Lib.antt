@@ -3,6 +3,7 @@ pub mod ScanExact
 pub mod TableRows
 pub mod PassingLaws
 pub mod ChildLaws
+pub mod RowLaws
 pub mod ReadLaws
 pub mod SiblingLaws
 pub mod ImageLaws

@@ -1,10 +1,7 @@
 -- The children of a node as the code has them: so many of one sort, and behind them so many of another.
-use Rattle.std.specs.Prelude.{ℕ, List, ◌++◌, replicate}
+use Rattle.std.specs.Prelude.{List, ◌++◌, replicate}
 use Rattle.rules.specs.declared.kinds.Sort.{Sort}
 use Rattle.reader.specs.declared.tables.Children.{Children}
-
-abbrev pub runs : (firsts : ℕ) (first : Sort) (others : ℕ) (other : Sort) → Children
-runs firsts first others other = record { firsts = firsts; first = first; others = others; other = other }
 
 -- The sort of each.
 abbrev pub sorts_of_children : Children → List Sort

@@ -8,3 +8,4 @@ pub mod StoredLaws
 pub mod SizeLaws
 pub mod NodeKinds
 pub mod Children
+pub mod Rows

@@ -73,7 +73,7 @@ fn read_node(
     }
     let number = image[2 + at];
     let operand = image[2 + n + at];
-    let kind = tables::passing(number as u64, operand as u64, sort, at)?;
+    let row = tables::passing(number as u64, operand as u64, sort, at)?;
     if levels == 0 {
         return Err(Refused {
             refusal: Refusal::Depth,
@@ -81,7 +81,7 @@ fn read_node(
         });
     }
     let mut end = at + 1;
-    let children = tables::children_of(kind, operand as u64);
+    let children = row.children(operand as u64);
     for index in 0..children.count() {
         end = read_node(work, image, n, end, children.sort(index), levels - 1)?;
     }
