@@ -12,8 +12,9 @@ pub fn take_registers(work: &[u64], registers: &mut [u64])
     requires registers_len_bound { length registers.old ≤ most_registers }
     ensures { RegistersTaken work.now (length registers.old) registers.new }
 {
-    let count = registers.len();
-    registers.copy_from_slice(&work[CELL_PAYLOADS..CELL_PAYLOADS + count]);
+    for (i, register) in registers.iter_mut().enumerate() {
+        *register = work[CELL_PAYLOADS + i];
+    }
 }
 
 // The word of the value on top of the value stack.

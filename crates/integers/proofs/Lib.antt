@@ -1,3 +1,3 @@
 mod CastLaws
-mod OrderLaws
-mod QuotientLaws
+pub mod OrderLaws
+pub mod QuotientLaws

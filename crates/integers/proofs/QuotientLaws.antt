@@ -1,5 +1,5 @@
 -- The quotient rounded down is that of the magnitudes, and where the signs differ it is negative and its magnitude is rounded up.
-use Rattle.std.specs.Prelude.{◌≡◌, ℕ, zero, suc, ◌+◌, ◌*◌, ◌/◌, ◌<◌, ◌≤◌, Bool, true, false, ℤ, pos, negsuc, ◌+ℤ◌, ◌-ℤ◌, int_lt, unsigned_abs}
+use Rattle.std.specs.Prelude.{◌≡◌, ℕ, zero, suc, ◌+◌, ◌*◌, ◌/◌, ◌^◌, ◌<◌, ◌≤◌, Bool, true, false, ℤ, pos, negsuc, ◌+ℤ◌, ◌-ℤ◌, int_lt, nat_abs, unsigned_abs}
 use Rattle.std.specs.Int.{div_ceil}
 use Rattle.std.proofs.Common.{sym, ap, ◌∙◌, arith, le-ltb, lt-ltb}
 use Rattle.std.proofs.Math.Nat.{zero-div, zero-mod, div-eq_of_lt-le}
@@ -13,6 +13,13 @@ use Rattle.integers.specs.WordLaws.{integer_low, integer_high, by_sign}
 -- A word other than 0 has a magnitude above 0.
 pub magnitude_positive : (w : ℕ) → (w ≡ 0 → ⊥) → 0 < unsigned_abs (integer_of w)
 magnitude_positive w nonzero =
+    by_sign w
+    (λ low. rw (integer_low w low) (omega arith))
+    (λ high. rw (integer_high w high) (omega arith))
+
+-- No word has a magnitude above 2^63.
+pub magnitude_within : (w : ℕ) → w < 2 ^ 64 → nat_abs (integer_of w) ≤ 2 ^ 63
+magnitude_within w fits =
     by_sign w
     (λ low. rw (integer_low w low) (omega arith))
     (λ high. rw (integer_high w high) (omega arith))

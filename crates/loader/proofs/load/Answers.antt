@@ -8,15 +8,15 @@ returns-in_err-nodes c = shape_refused _ _ _ _ c.read_image.ensures _ c.in_err-n
 
 pub root-requires-clause-root_at : goal.root-requires-clause-root_at
 root-requires-clause-root_at c =
-    let tree = tree_read _ _ _ _ c.read_image.ensures _ c.requires c.in_ok-nodes.was in
-    (tree.tree, tree.stands)
+    let read = tree_read _ _ _ _ c.read_image.ensures _ c.requires c.in_ok-nodes.was in
+    (read.tree, read.stands)
 
 pub returns-in_err-root : goal.returns-in_err-root
 returns-in_err-root c =
-    let tree = tree_read _ _ _ _ c.read_image.ensures _ c.requires c.in_ok-nodes.was in
-    root_refused _ _ _ _ _ _ _ tree c.root.ensures.writes_rows_from _ c.root.ensures.root_judged_at _ c.in_err-root.was _ (search rules)
+    let judged = tree_read _ _ _ _ c.read_image.ensures _ c.requires c.in_ok-nodes.was in
+    root_refused _ _ _ _ _ _ _ judged c.root.ensures.writes_rows_from _ c.root.ensures.root_judged_at _ c.in_err-root.was _ (search rules)
 
 pub returns : goal.returns
 returns c =
-    let tree = tree_read _ _ _ _ c.read_image.ensures _ c.requires c.in_ok-nodes.was in
-    root_passes _ _ _ _ _ _ _ tree c.root.ensures.writes_rows_from _ c.root.ensures.root_judged_at _ c.in_ok-root.was
+    let passed = tree_read _ _ _ _ c.read_image.ensures _ c.requires c.in_ok-nodes.was in
+    root_passes _ _ _ _ _ _ _ passed c.root.ensures.writes_rows_from _ c.root.ensures.root_judged_at _ c.in_ok-root.was
