@@ -90,10 +90,11 @@ fn answer_refused(refusal: Refusal) -> Text
     answer_text(answer, &[])
 }
 
-// The program: any input. The answer is the first bytes of the output, as many as are returned.
+// The program: any input. The answer is the first bytes of the output, as many as are returned, and the bytes beyond stay as they were.
 pub fn answer(input: &[u8], output: &mut [u8; ANSWER_BYTES]) -> usize
     ensures prefix_len { IsPrefixLen result output.new }
     ensures output_after { take result output.new ≡ program input.now }
+    ensures kept { drop result output.new ≡ drop result output.old }
 {
     let text = match count_input(input) {
         Ok(counts) => answer_counted(input, counts),

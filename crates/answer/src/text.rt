@@ -1,5 +1,5 @@
 // The text of an answer as far as it is written: texts and numbers, one behind the other.
-ghost use Rattle.std.specs.Prelude.{◌≡◌, ◌++◌, ◌+◌, ◌≤◌, List, [], ℕ, length, take};
+ghost use Rattle.std.specs.Prelude.{◌≡◌, ◌++◌, ◌+◌, ◌≤◌, List, [], ℕ, length, take, drop};
 ghost use Rattle.io.specs.Counts.{IsPrefixLen};
 ghost use Rattle.answer.specs.Sizes.{number_bytes, integer_bytes, answer_bytes};
 ghost use Rattle.integers.specs.Words.{integer_of};
@@ -87,12 +87,13 @@ impl Text {
         self.put_integer(word);
     }
 
-    // The text becomes the first bytes of an output, as many as are returned.
+    // The text becomes the first bytes of an output, as many as are returned. The bytes beyond are not written.
     pub(crate) fn copied_to(&self, output: &mut [u8; ANSWER_BYTES]) -> usize
         ensures prefix_len { IsPrefixLen result output.new }
         ensures text { take result output.new ≡ self.now }
+        ensures kept { drop result output.new ≡ drop result output.old }
     {
-        *output = self.bytes;
+        output[..self.length].copy_from_slice(&self.bytes[..self.length]);
         self.length
     }
 }

@@ -104,7 +104,7 @@ pub fn operator_code(
     }
 }
 
-// The operator that has a kind's number.
+// The operator that has a kind's number. Of the numbers that no operator has, those below Eq's go to Div, and those above Or's to Or.
 fn operator_of(which: usize) -> Operator
     ensures { (o : Operator) → which ≡ operator_number o → result ≡ o }
 {
@@ -112,7 +112,7 @@ fn operator_of(which: usize) -> Operator
         kinds::SUM => Operator::Arithmetic(Arithmetic::Sum),
         kinds::SUB => Operator::Arithmetic(Arithmetic::Sub),
         kinds::MUL => Operator::Arithmetic(Arithmetic::Mul),
-        kinds::DIV => Operator::Arithmetic(Arithmetic::Div),
+        0..=kinds::DIV => Operator::Arithmetic(Arithmetic::Div),
         kinds::EQ => Operator::Eq,
         kinds::LT => Operator::Order(Order::Lt),
         kinds::LE => Operator::Order(Order::Le),
@@ -123,7 +123,8 @@ fn operator_of(which: usize) -> Operator
     }
 }
 
-// The same of the operator that has a kind's number. It takes any number, as it always has, and asks nothing of it.
+// The same of the operator that has a kind's number. It takes any number and asks nothing of it: below Eq's it is taken for arithmetic, above Or's
+// for Or.
 pub fn operation(which: usize, node: usize, first: usize, second: usize) -> Result<usize, Refused>
     ensures { (o : Operator) → which ≡ operator_number o → result ≡ code_answer (operator_code o node first second) }
 {

@@ -18,7 +18,7 @@ use Rattle.rules.specs.paper.Checker.{Meaning, Scope, Judged, fault, fine, ◌>>
 use Rattle.reader.specs.Pack.{packed_kind, packed_end, packed_operand}
 use Rattle.reader.specs.Stored.{HasWord, StoredDeclaration, bind, dseq, StoredBound}
 use Rattle.reader.specs.NodeKinds.{declaration_kind_of}
-use Rattle.reader.proofs.NodeKindLaws.{declaration_is}
+use Rattle.reader.proofs.NodeKindLaws.{declaration_number, declaration_is}
 use Rattle.reader.proofs.StoredFields.{operand_is}
 use Rattle.reader.proofs.StandingLaws.{declaration_on, bound_on, after_node}
 use Rattle.typing.specs.Rows.{meaning_numbers, rows_from, rows_end, row_word, meaning_number, MeaningAt, HasRow, Rows, no_rows, one_row, ScopeAt}
@@ -40,7 +40,7 @@ declaration_end a = Standing.declaration_end a.stored
 pub declaration_low : {words : List ℕ} {node next : ℕ} {d : Declaration} → DeclarationAt words node next d → node < most_nodes
 declaration_low a = Standing.declaration_low a.stored
 
--- ---- Which declaration it is.
+-- ---- Which declaration it is, by its kind.
 
 pub record SequenceAt (words : List ℕ) (node next : ℕ) (d : Declaration) : Type 0 where
   pub first : Declaration
@@ -60,17 +60,17 @@ pub record BindAt (words : List ℕ) (node next : ℕ) (d : Declaration) : Type 
   pub child_at : BoundAt words (node + 1) child
   pub on : node + 1 < next
 
-data SeenDeclaration (words : List ℕ) (node next : ℕ) : DeclarationKind → Declaration → Type 0 where
-  seen_bind : {d : Declaration} → BindAt words node next d → SeenDeclaration words node next bind_kind d
-  seen_sequence : {d : Declaration} → SequenceAt words node next d → SeenDeclaration words node next dseq_kind d
+data DeclarationOfKind (words : List ℕ) (node next : ℕ) : DeclarationKind → Declaration → Type 0 where
+  bind_of_kind : {d : Declaration} → BindAt words node next d → DeclarationOfKind words node next bind_kind d
+  sequence_of_kind : {d : Declaration} → SequenceAt words node next d → DeclarationOfKind words node next dseq_kind d
 
-seen_declaration : (words : List ℕ) (node next : ℕ) (d : Declaration) → DeclarationAt words node next d → SeenDeclaration words node next (declaration_kind_of d) d
-seen_declaration words node next d at = by at.stored
+declaration_of_kind : (words : List ℕ) (node next : ℕ) (d : Declaration) → DeclarationAt words node next d → DeclarationOfKind words node next (declaration_kind_of d) d
+declaration_of_kind words node next d at = by at.stored
   where
-    by : {t : ℕ} {d : Declaration} → StoredDeclaration words t node next d → SeenDeclaration words node next (declaration_kind_of d) d
+    by : {t : ℕ} {d : Declaration} → StoredDeclaration words t node next d → DeclarationOfKind words node next (declaration_kind_of d) d
     by {t = zero} x = elim x [ ]
     by {t = suc t} (bind {x = x} {b = b} l w h) =
-        seen_bind
+        bind_of_kind
         record {
           name = x;
           child = b;
@@ -81,7 +81,7 @@ seen_declaration words node next d at = by at.stored
           on = omega (arith, bound_on h);
         }
     by {t = suc t} (dseq {j = j} {d₁ = d₁} {d₂ = d₂} w a b) =
-        seen_sequence
+        sequence_of_kind
         record {
           first = d₁;
           second = d₂;
@@ -98,6 +98,19 @@ KindThere words node x = (d : Declaration) (next : ℕ) → DeclarationAt words 
 
 pub kind_there : (words : List ℕ) (node : ℕ) (k : Kind) (x y : DeclarationKind) → kind_number k ≡ packed_kind (get_or words node 0) → k ≡ declaration_kind x → x ≡ y → KindThere words node y
 kind_there words node k x y known is same d next at = let told : k ≡ declaration_kind (declaration_kind_of d) = declaration_is k at.stored known in cc
+
+-- Which declaration it is, by the number of its kind.
+pub data SeenDeclaration (words : List ℕ) (node next : ℕ) : (which : ℕ) → Declaration → Type 0 where
+  seen_bind : {d : Declaration} → BindAt words node next d → SeenDeclaration words node next 30 d
+  seen_sequence : {d : Declaration} → SequenceAt words node next d → SeenDeclaration words node next 31 d
+
+pub seen_declaration : (words : List ℕ) (node which next : ℕ) (d : Declaration) → which ≡ packed_kind (get_or words node 0) → DeclarationAt words node next d → SeenDeclaration words node next which d
+seen_declaration words node which next d k at =
+    subst (λ w. SeenDeclaration words node next w d) (sym (k ∙ declaration_number at.stored)) (by (declaration_of_kind words node next d at))
+  where
+    by : {x : DeclarationKind} {d : Declaration} → DeclarationOfKind words node next x d → SeenDeclaration words node next (kind_number (declaration_kind x)) d
+    by (bind_of_kind a) = seen_bind a
+    by (sequence_of_kind a) = seen_sequence a
 
 -- ---- Names that were given, or a fault.
 
@@ -121,11 +134,11 @@ joined p Δ₁ Δ₂ = cond (shares_name Δ₁ Δ₂) (fault Repeated p) (fine (
 
 module _ (words : List ℕ) (registers scope node : ℕ) (is_sequence : KindThere words node dseq_kind) where
   sequence_there : (d : Declaration) (next : ℕ) → DeclarationAt words node next d → SequenceAt words node next d
-  sequence_there d next at = by (seen_declaration words node next d at) (is_sequence d next at)
+  sequence_there d next at = by (declaration_of_kind words node next d at) (is_sequence d next at)
     where
-      by : {w : DeclarationKind} {d : Declaration} → SeenDeclaration words node next w d → w ≡ dseq_kind → SequenceAt words node next d
-      by (seen_bind a) q = absurd cc
-      by (seen_sequence a) q = a
+      by : {w : DeclarationKind} {d : Declaration} → DeclarationOfKind words node next w d → w ≡ dseq_kind → SequenceAt words node next d
+      by (bind_of_kind a) q = absurd cc
+      by (sequence_of_kind a) q = a
 
   pub first_declaration : ((d : Declaration) × (next : ℕ) × DeclarationAt words node next d) → (d : Declaration) × (next : ℕ) × DeclarationAt words (node + 1) next d
   first_declaration d =
@@ -252,11 +265,11 @@ means_inverse r n (fine m) g h = (m, refl, same_ok r (meaning_number m) n g h)
 
 module _ (words : List ℕ) (registers scope node : ℕ) (is_bind : KindThere words node bind_kind) where
   bind_there : (d : Declaration) (next : ℕ) → DeclarationAt words node next d → BindAt words node next d
-  bind_there d next at = by (seen_declaration words node next d at) (is_bind d next at)
+  bind_there d next at = by (declaration_of_kind words node next d at) (is_bind d next at)
     where
-      by : {w : DeclarationKind} {d : Declaration} → SeenDeclaration words node next w d → w ≡ bind_kind → BindAt words node next d
-      by (seen_bind a) q = a
-      by (seen_sequence a) q = absurd cc
+      by : {w : DeclarationKind} {d : Declaration} → DeclarationOfKind words node next w d → w ≡ bind_kind → BindAt words node next d
+      by (bind_of_kind a) q = a
+      by (sequence_of_kind a) q = absurd cc
 
   pub bind_child : ((d : Declaration) × (next : ℕ) × DeclarationAt words node next d) → (b : Bound) × BoundAt words (node + 1) b
   bind_child d =

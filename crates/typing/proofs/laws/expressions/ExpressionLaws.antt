@@ -1,13 +1,15 @@
 -- Expressions by the kind of their node: which expression stands there, and its code from its name's meaning or its children's codes.
 use Prim.Native.Nat.{ℕ, suc, ◌+◌, ◌<◌}
 use mathlib.Core.Path.{◌≡◌, refl, sym, ap, ◌∙◌, subst}
+use mathlib.Core.Bool.{Bool}
 use mathlib.Core.List.{List}
 use native.Mathlib.Omega.{arith}
 use lib.ListN.{get_or}
 use Rattle.std.specs.Prelude.{Result, Ok, Err}
 use Rattle.rules.specs.declared.refusals.Refused.{Refused}
-use Rattle.rules.specs.paper.Kinds.{kind_number}
-use Rattle.rules.specs.paper.Tree.{Expression, Binary, Not}
+use Rattle.rules.specs.paper.Limits.{names}
+use Rattle.rules.specs.paper.Kinds.{kind_number, operator_number}
+use Rattle.rules.specs.paper.Tree.{Expression, Num, Boo, Id, DeRef, ValRef, Binary, Not}
 use Rattle.rules.specs.declared.kinds.Operator.{Operator}
 use Rattle.rules.specs.declared.kinds.Kind.{Kind}
 use Rattle.rules.specs.declared.kinds.Kind.TheVariants.{Expression as expression_kind}
@@ -16,17 +18,58 @@ use Rattle.rules.specs.declared.kinds.ExpressionKind.TheVariants.{Num as num, Bo
 use Rattle.rules.specs.paper.Checker.{Meaning, Scope, Judged, ◌>>=◌, meaning_of, bound_name, id_code, deref_code, valref_code, operator_code, truth_only, expression_code}
 use Rattle.reader.specs.NodeKinds.{expression_kind_of}
 use Rattle.reader.specs.Pack.{packed_kind, packed_operand, packed_end}
-use Rattle.reader.specs.Stored.{StoredExpression}
+use Rattle.reader.specs.Stored.{HasWord, StoredExpression}
 use Rattle.reader.specs.Stored as Stored
 use Rattle.reader.proofs.NodeKindLaws.{expression_is}
-use Rattle.reader.proofs.StoredFields.{operand_is}
-use Rattle.reader.proofs.StandingLaws.{after_node, expression_on, expression_end}
+use Rattle.reader.proofs.StoredFields.{kind_is, operand_is}
+use Rattle.reader.proofs.StandingLaws.{after_node, operator_low, expression_on, expression_end}
 use Rattle.typing.specs.Rows.{meaning_number, ScopeAt}
 use Rattle.typing.specs.Answers.{code_answer, meaning_answer, MeaningJudgedAt, Numbered, ExpressionAt, ExpressionJudgedAt}
 use Rattle.typing.proofs.laws.codes.AnswerLaws.{then_fault, then_fine, then_code}
 use Rattle.typing.proofs.laws.expressions.NameLaws.{scope_numbered}
 
--- ---- Which expression it is.
+-- ---- Which expression it is, by the number of its kind, with where its children stand.
+
+-- An expression that is a name.
+pub data NameAt (words : List ℕ) (node : ℕ) : Expression → Type 0 where
+  id_at : {x : ℕ} → x < names → HasWord words node 3 x (suc node) → NameAt words node (Id node x)
+  deref_at : {x : ℕ} → x < names → HasWord words node 16 x (suc node) → NameAt words node (DeRef node x)
+  valref_at : {x : ℕ} → x < names → HasWord words node 17 x (suc node) → NameAt words node (ValRef node x)
+
+-- The kinds of expressions, with what follows from each.
+pub data Seen (words : List ℕ) (node : ℕ) : (which : ℕ) → Expression → Type 0 where
+  seen_number : {n : ℕ} → Seen words node 1 (Num node n)
+  seen_truth : {b : Bool} → Seen words node 2 (Boo node b)
+  seen_id : {e : Expression} → NameAt words node e → Seen words node 3 e
+  seen_name : {w : ℕ} {e : Expression} → 15 < w → NameAt words node e → Seen words node w e
+  seen_binary : {o : Operator} {e₁ e₂ : Expression} → ExpressionAt words (node + 1) e₁ → ExpressionAt words (packed_end (get_or words (node + 1) 0)) e₂ →
+      node < packed_end (get_or words (node + 1) 0) → Seen words node (operator_number o) (Binary node o e₁ e₂)
+  seen_negation : {e : Expression} → ExpressionAt words (node + 1) e → Seen words node 15 (Not node e)
+
+child_place : {words : List ℕ} {d i j : ℕ} {e : Expression} → StoredExpression words d (suc i) j e → StoredExpression words d (i + 1) j e
+child_place {words} {d} {i} {j} {e} s = subst (λ k. StoredExpression words d k j e) (after_node i) s
+
+pub seen : (words : List ℕ) (node which : ℕ) (e : Expression) → which ≡ packed_kind (get_or words node 0) → ExpressionAt words node e → Seen words node which e
+seen words node which e k at = by at.stored k
+  where
+    of_kind : {n : ℕ} {e : Expression} → which ≡ packed_kind (get_or words node 0) → packed_kind (get_or words node 0) ≡ n → Seen words node n e → Seen words node which e
+    of_kind {n} {e} k q s = subst (λ w. Seen words node w e) (sym (k ∙ q)) s
+
+    by : {d j : ℕ} {e : Expression} → StoredExpression words d node j e → which ≡ packed_kind (get_or words node 0) → Seen words node which e
+    by (Stored.num h) k = of_kind k (kind_is h (omega arith)) seen_number
+    by (Stored.boo h) k = of_kind k (kind_is h (omega arith)) seen_truth
+    by (Stored.id l h) k = of_kind k (kind_is h (omega arith)) (seen_id (id_at l h))
+    by (Stored.deref l h) k = of_kind k (kind_is h (omega arith)) (seen_name (omega arith) (deref_at l h))
+    by (Stored.valref l h) k = of_kind k (kind_is h (omega arith)) (seen_name (omega arith) (valref_at l h))
+    by {d = suc d} (Stored.binary {j = j} {k = m} {o = o} {e₁ = e₁} {e₂ = e₂} h a b) k =
+        let end : packed_end (get_or words (node + 1) 0) ≡ j = expression_end (child_place a) in
+        of_kind k (kind_is h (operator_low o))
+        (seen_binary (record { depth = d; next = j; stored = child_place a })
+        (record { depth = d; next = m; stored = subst (λ i. StoredExpression words d i m e₂) (sym end) b })
+        (subst (λ i. node < i) (sym end) (omega (arith, expression_on a))))
+    by {d = suc d} (Stored.negation {j = j} h a) k = of_kind k (kind_is h (omega arith)) (seen_negation (record { depth = d; next = j; stored = child_place a }))
+
+-- ---- Which expression it is, by its kind.
 
 module _ (words : List ℕ) (node : ℕ) where
   -- Whatever expression stands there is of this kind.
