@@ -64,11 +64,13 @@ pub fn declaration(work: &mut [u64], held: Held, node: usize) -> Result<Held, Re
         unreachable!();
     };
     match kind {
-        DeclarationKind::DSeq => {
-            let inner = declaration(work, held, node + 1)?;
-            let after = end(work, node + 1);
-            declaration(work, inner, after)
-        }
+        DeclarationKind::DSeq => match declaration(work, held, node + 1) {
+            Ok(inner) => {
+                let after = end(work, node + 1);
+                declaration(work, inner, after)
+            }
+            Err(refused) => Err(refused),
+        },
         DeclarationKind::Bind => bind(work, held, node),
     }
 }

@@ -19,7 +19,9 @@ pub struct Entered {
 }
 
 // So many actuals from a node on, last to first, each in its row. The rows get their names when the function is known. An actual's place is known from
-// the one before it, so the way to the last is gone by calls.
+// the one before it, so the way to the last is gone by calls. Where there are none, nothing is called.
+#[cycle(actuals_first_actual)]
+#[inline(always)]
 fn actuals(
     work: &mut [u64],
     environment: usize,
@@ -34,13 +36,37 @@ fn actuals(
     ensures keeps_cells { KeepsCells work.old work.new most_cells }
 {
     if left == 0 {
-        return Ok(());
+        Ok(())
+    } else {
+        first_actual(work, environment, node, left, row)
     }
+}
+
+// The same of at least one: the later ones, and then the first.
+#[cycle(actuals_first_actual)]
+fn first_actual(
+    work: &mut [u64],
+    environment: usize,
+    node: usize,
+    left: usize,
+    row: usize,
+) -> Result<(), Refused>
+    requires regions_end_in_bounds { regions_end ≤ length work.old }
+    requires le_left { 1 ≤ left }
+    requires some_actuals { SomeActuals work.old environment node left row }
+    ensures actuals_carried { ActualsCarried work.old work.new environment node left row result }
+    ensures keeps { Keeps work.old work.new row most_cells }
+    ensures keeps_cells { KeepsCells work.old work.new most_cells }
+{
     let next = end(work, node);
     actuals(work, environment, next, left - 1, row + 1)?;
-    let value = expression(work, environment, node)?;
-    put_row(work, row, 0, 0, value);
-    Ok(())
+    match expression(work, environment, node) {
+        Ok(value) => {
+            put_row(work, row, 0, 0, value);
+            Ok(())
+        }
+        Err(refused) => Err(refused),
+    }
 }
 
 // So many Formals from a node on, each the name of its actual's row; the first row stands on the one at the pointer below. The answer is the pointer

@@ -1,7 +1,7 @@
 // Commands: what they leave in the cells. At a Cond whose test may be both, each command is carried from the cells before it.
 ghost use Rattle.std.specs.Prelude.{◌≡◌, ◌≤◌, length, get_or};
 ghost use Rattle.rules.specs.paper.Limits.{most_bindings, most_cells};
-ghost use Rattle.reader.specs.KindNumbers.{conditional_number};
+ghost use Rattle.reader.specs.KindNumbers.{assign_number, cseq_number, blk_number, call_number, conditional_number};
 ghost use Rattle.reader.specs.Pack.{packed_kind};
 ghost use Rattle.carrying.specs.Layout.{regions_end};
 ghost use Rattle.carrying.specs.Frames.{Keeps};
@@ -35,7 +35,8 @@ fn assign(work: &mut [u64], environment: usize, node: usize, value: Value)
     set_cell(work, at, value.low, value.high);
 }
 
-// The command at a node. No Loop is carried.
+// The command at a node. No Loop is carried. Each kind has a function of its own, which is written out here: so a call makes room only for the results
+// of its own kind, and each answer goes straight to the caller.
 #[cycle(command_conditional_either)]
 pub(crate) fn command(work: &mut [u64], held: Held, node: usize) -> Result<(), Refused>
     requires regions_end_in_bounds { regions_end ≤ length work.old }
@@ -47,31 +48,91 @@ pub(crate) fn command(work: &mut [u64], held: Held, node: usize) -> Result<(), R
         unreachable!();
     };
     match kind {
-        CommandKind::CSeq => {
-            command(work, held, node + 1)?;
-            let after = end(work, node + 1);
-            command(work, held, after)
-        }
-        CommandKind::Blk => {
-            let inner = declaration(work, held, node + 1)?;
-            let inside = end(work, node + 1);
-            command(work, inner, inside)
-        }
-        CommandKind::Call => {
-            let entered = enter(work, held, node)?;
-            command(work, entered.held, entered.block)
-        }
-        CommandKind::Assign => {
-            let value = expression(work, held.environment, node + 1)?;
-            assign(work, held.environment, node, value);
-            Ok(())
-        }
-        CommandKind::Cond => {
-            let test = expression(work, held.environment, node + 1)?;
-            conditional(work, held, node, test)
-        }
+        CommandKind::CSeq => return sequence(work, held, node),
+        CommandKind::Blk => return block(work, held, node),
+        CommandKind::Call => return call(work, held, node),
+        CommandKind::Assign => return assignment(work, held, node),
+        CommandKind::Cond => return choice(work, held, node),
         CommandKind::Loop => unreachable!(),
     }
+}
+
+// The CSeq at a node.
+#[cycle(command_conditional_either)]
+#[inline(always)]
+fn sequence(work: &mut [u64], held: Held, node: usize) -> Result<(), Refused>
+    requires regions_end_in_bounds { regions_end ≤ length work.old }
+    requires kind_is { packed_kind (get_or work.old node 0) ≡ cseq_number }
+    requires some_command { SomeCommand work.old held node }
+    ensures command_carried { CommandCarried work.old work.new held node result }
+    ensures keeps { Keeps work.old work.new held.bindings held.cells }
+{
+    command(work, held, node + 1)?;
+    let after = end(work, node + 1);
+    command(work, held, after)
+}
+
+// The Blk at a node. What its declaration leaves is lent on as it lies in the answer, with no copy: a `?` would copy it.
+#[cycle(command_conditional_either)]
+#[inline(always)]
+fn block(work: &mut [u64], held: Held, node: usize) -> Result<(), Refused>
+    requires regions_end_in_bounds { regions_end ≤ length work.old }
+    requires kind_is { packed_kind (get_or work.old node 0) ≡ blk_number }
+    requires some_command { SomeCommand work.old held node }
+    ensures command_carried { CommandCarried work.old work.new held node result }
+    ensures keeps { Keeps work.old work.new held.bindings held.cells }
+{
+    match declaration(work, held, node + 1) {
+        Ok(inner) => {
+            let inside = end(work, node + 1);
+            return command(work, inner, inside);
+        }
+        Err(refused) => return Err(refused),
+    }
+}
+
+// The Call at a node.
+#[cycle(command_conditional_either)]
+#[inline(always)]
+fn call(work: &mut [u64], held: Held, node: usize) -> Result<(), Refused>
+    requires regions_end_in_bounds { regions_end ≤ length work.old }
+    requires kind_is { packed_kind (get_or work.old node 0) ≡ call_number }
+    requires some_command { SomeCommand work.old held node }
+    ensures command_carried { CommandCarried work.old work.new held node result }
+    ensures keeps { Keeps work.old work.new held.bindings held.cells }
+{
+    match enter(work, held, node) {
+        Ok(entered) => return command(work, entered.held, entered.block),
+        Err(refused) => return Err(refused),
+    }
+}
+
+// The Assign at a node.
+#[inline(always)]
+fn assignment(work: &mut [u64], held: Held, node: usize) -> Result<(), Refused>
+    requires regions_end_in_bounds { regions_end ≤ length work.old }
+    requires kind_is { packed_kind (get_or work.old node 0) ≡ assign_number }
+    requires some_command { SomeCommand work.old held node }
+    ensures command_carried { CommandCarried work.old work.new held node result }
+    ensures keeps { Keeps work.old work.new held.bindings held.cells }
+{
+    let value = expression(work, held.environment, node + 1)?;
+    assign(work, held.environment, node, value);
+    Ok(())
+}
+
+// The Cond at a node.
+#[cycle(command_conditional_either)]
+#[inline(always)]
+fn choice(work: &mut [u64], held: Held, node: usize) -> Result<(), Refused>
+    requires regions_end_in_bounds { regions_end ≤ length work.old }
+    requires kind_is { packed_kind (get_or work.old node 0) ≡ conditional_number }
+    requires some_command { SomeCommand work.old held node }
+    ensures command_carried { CommandCarried work.old work.new held node result }
+    ensures keeps { Keeps work.old work.new held.bindings held.cells }
+{
+    let test = expression(work, held.environment, node + 1)?;
+    conditional(work, held, node, test)
 }
 
 // The Cond at a node, whose test is this.
