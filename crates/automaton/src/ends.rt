@@ -6,7 +6,7 @@ ghost use Rattle.automaton.specs.Starts.{RegistersTaken, ValueLeft, ValueTaken};
 use machine::Machine;
 use machine::layout::{CELL_PAYLOADS, TOP_PAYLOAD};
 
-// The registers are the contents of the first cells.
+// The registers are the contents of the first cells, taken one by one: `copy_from_slice` would ask the C host for `memmove`.
 pub fn take_registers(work: &[u64], registers: &mut [u64])
     requires work_words_in_bounds { work_words ≤ length work.now }
     requires registers_len_bound { length registers.old ≤ most_registers }

@@ -52,7 +52,7 @@ fn bind(work: &mut [u64], held: Held, node: usize) -> Result<Held, Refused>
     }
 }
 
-// The declaration at a node. The second of a DSeq sees the names of the first.
+// The declaration at a node. The second of a DSeq sees the names of the first. A `match` stands where `?` would copy the result byte by byte.
 pub fn declaration(work: &mut [u64], held: Held, node: usize) -> Result<Held, Refused>
     requires regions_end_in_bounds { regions_end ≤ length work.old }
     requires some_declaration { SomeDeclaration work.old held node }

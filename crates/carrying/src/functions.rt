@@ -42,7 +42,7 @@ fn actuals(
     }
 }
 
-// The same of at least one: the later ones, and then the first.
+// The same of at least one: the later ones, and then the first. A `match` stands where `?` would copy the result byte by byte.
 #[cycle(actuals_first_actual)]
 fn first_actual(
     work: &mut [u64],

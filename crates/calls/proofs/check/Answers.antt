@@ -3,8 +3,8 @@ use Rattle.std.proofs.Common.{rules}
 use Rattle.calls.proofs.CheckLaws.{little_room, passed_answered, refusal_answered}
 use Rattle.calls.proofs.check.Goals as goal
 
--- Under 8,192 work words nothing is touched.
--- With as many the answer is by the image, and they are cleared.
+-- Under 8,192 work words nothing is touched,
+-- and the refusal has place 0.
 pub returns-in_err-enough_words : goal.returns-in_err-enough_words
 returns-in_err-enough_words c = let both = little_room _ _ _ c.in_err-enough_words.ensures _ (search rules) in record {
   value = both.0;
