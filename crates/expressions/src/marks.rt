@@ -20,7 +20,7 @@ use reader::kinds;
 use rules::kinds::{Arithmetic, Logic, Operator, Order};
 use rules::refusals::Reason;
 
-// The two words that layout.rt names no mark for: a mark is a word of the machine's memory, made up of its kind's number.
+// Two words that layout.rt names no mark for: a mark is a word of the machine's memory, made up of its kind's number.
 const DIV_MARK: u64 = MARK + kinds::DIV as u64;
 
 const GE_MARK: u64 = MARK + kinds::GE as u64;

@@ -36,7 +36,7 @@ fn assign(work: &mut [u64], environment: usize, node: usize, value: Value)
 }
 
 // The command at a node. No Loop is carried. Each kind has a function of its own, which is written out here: so a call makes room only for the results
-// of its own kind, and each answer goes straight to the caller.
+// of its own kind. Each arm returns by itself: where the arms' answers meet in one place they are copied there.
 #[cycle(command_conditional_either)]
 pub(crate) fn command(work: &mut [u64], held: Held, node: usize) -> Result<(), Refused>
     requires regions_end_in_bounds { regions_end ≤ length work.old }

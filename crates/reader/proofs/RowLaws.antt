@@ -1,13 +1,13 @@
--- What a row of the table says of its kind: that its own sort is one of the kind's, what its operand is below, and the sorts of its children.
+-- The row with a number is its kind's row, and says what its operand is below; and what the checks come to, of a row and of its kind. That the own
+-- sort is one of the kind's, and which its children's sorts are, the check of `has_sort` and `children` finds from the rows alone.
 use Prim.Native.Nat.{ℕ}
 use mathlib.Core.Path.{◌≡◌, refl, sym, ap, ◌∙◌}
-use mathlib.Core.Bool.{true}
 use mathlib.Core.Option.{Option, none, some}
 use Rattle.std.specs.Prelude.{Some, None, Result, Ok, Err}
 use Rattle.std.specs.Prelude as Prelude
 use Rattle.rules.specs.declared.refusals.Refused.{Refused}
 use Rattle.rules.specs.declared.kinds.Kind.{Kind}
-use Rattle.rules.specs.paper.Kinds.{kind_of, operand_bound, is_of}
+use Rattle.rules.specs.paper.Kinds.{kind_of, operand_bound}
 use Rattle.rules.specs.declared.kinds.Kind.TheVariants.{Expression as expression_kind, Command as command_kind, Declaration as declaration_kind, Ref as ref, Abs as abs, Formal as formal}
 use Rattle.rules.specs.declared.kinds.ExpressionKind.TheVariants.{Num as num, Boo as boo, Id as id, DeRef as deref, ValRef as valref, Binary as binary, Not as negation}
 use Rattle.rules.specs.declared.kinds.CommandKind.TheVariants.{Assign as assign, Loop as loop, CSeq as cseq, Blk as blk, Call as call, Cond as conditional}
@@ -65,26 +65,6 @@ row_missing n q = by (kind_of n) q
 
 -- ---- What the row says.
 
-own_sort : (k : Kind) → is_of (row_for k).own k ≡ true
-own_sort (expression_kind num) = refl
-own_sort (expression_kind boo) = refl
-own_sort (expression_kind id) = refl
-own_sort (expression_kind (binary o)) = refl
-own_sort (expression_kind negation) = refl
-own_sort (expression_kind deref) = refl
-own_sort (expression_kind valref) = refl
-own_sort (command_kind assign) = refl
-own_sort (command_kind loop) = refl
-own_sort (command_kind cseq) = refl
-own_sort (command_kind blk) = refl
-own_sort (command_kind call) = refl
-own_sort (command_kind conditional) = refl
-own_sort (declaration_kind bind) = refl
-own_sort (declaration_kind dseq) = refl
-own_sort ref = refl
-own_sort abs = refl
-own_sort formal = refl
-
 bound : (k : Kind) → (row_for k).bound ≡ operand_bound k
 unfolding operand_bound
 bound (expression_kind num) = refl
@@ -105,9 +85,6 @@ bound (declaration_kind dseq) = refl
 bound ref = refl
 bound abs = refl
 bound formal = refl
-
-pub own_sort_of : (r : Row) → r ≡ row_for r.kind → is_of r.own r.kind ≡ true
-own_sort_of r q = ap (λ s. is_of s.own r.kind) q ∙ own_sort r.kind
 
 pub bound_of : (r : Row) → r ≡ row_for r.kind → r.bound ≡ operand_bound r.kind
 bound_of r q = ap (λ s. s.bound) q ∙ bound r.kind

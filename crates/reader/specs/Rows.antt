@@ -18,9 +18,13 @@ use Rattle.reader.specs.declared.tables.Row.{Row}
 abbrev pub not_counted : ℕ
 not_counted = 32
 
+-- How many bits of an operand a name takes, the lowest.
+abbrev pub name_bits : ℕ
+name_bits = 6
+
 -- A kind with no children.
-abbrev pub leaf : Kind → Sort → (bound : ℕ) → Row
-leaf k s n = record { kind = k; own = s; bound = n; firsts = 0; counted_from = not_counted; first = s; others = 0; other = s }
+abbrev pub childless : Kind → Sort → (bound : ℕ) → Row
+childless k s n = record { kind = k; own = s; bound = n; firsts = 0; counted_from = not_counted; first = s; others = 0; other = s }
 
 -- With so many children of a sort; behind them so many of another; with as many as the operand's bits from a place on say.
 abbrev pub each : (count : ℕ) → Sort → Row → Row
@@ -34,24 +38,24 @@ counted_by n s r = record { kind = r.kind; own = r.own; bound = r.bound; firsts 
 
 -- The row of each kind.
 abbrev pub row_for : Kind → Row
-row_for (expression_kind num) = leaf (expression_kind num) an_expression words
-row_for (expression_kind boo) = leaf (expression_kind boo) an_expression 2
-row_for (expression_kind id) = leaf (expression_kind id) an_expression names
-row_for (expression_kind (binary o)) = each 2 an_expression (leaf (expression_kind (binary o)) an_expression 1)
-row_for (expression_kind negation) = each 1 an_expression (leaf (expression_kind negation) an_expression 1)
-row_for (expression_kind deref) = leaf (expression_kind deref) an_expression names
-row_for (expression_kind valref) = leaf (expression_kind valref) an_expression names
-row_for (command_kind assign) = each 1 an_expression (leaf (command_kind assign) a_command names)
-row_for (command_kind loop) = followed 1 a_command (each 1 an_expression (leaf (command_kind loop) a_command 1))
-row_for (command_kind cseq) = each 2 a_command (leaf (command_kind cseq) a_command 1)
-row_for (command_kind blk) = followed 1 a_command (each 1 a_declaration (leaf (command_kind blk) a_command 1))
-row_for (command_kind call) = counted_by 6 an_expression (leaf (command_kind call) a_command (names * suc most_parameters))
-row_for (command_kind conditional) = followed 2 a_command (each 1 an_expression (leaf (command_kind conditional) a_command 1))
-row_for (declaration_kind bind) = each 1 a_bound (leaf (declaration_kind bind) a_declaration names)
-row_for (declaration_kind dseq) = each 2 a_declaration (leaf (declaration_kind dseq) a_declaration 1)
-row_for ref = each 1 an_expression (leaf ref a_bound 1)
-row_for abs = followed 1 a_Block (counted_by 0 a_formal (leaf abs a_bound (suc most_parameters)))
-row_for formal = leaf formal a_formal (names * codes)
+row_for (expression_kind num) = childless (expression_kind num) an_expression words
+row_for (expression_kind boo) = childless (expression_kind boo) an_expression 2
+row_for (expression_kind id) = childless (expression_kind id) an_expression names
+row_for (expression_kind (binary o)) = each 2 an_expression (childless (expression_kind (binary o)) an_expression 1)
+row_for (expression_kind negation) = each 1 an_expression (childless (expression_kind negation) an_expression 1)
+row_for (expression_kind deref) = childless (expression_kind deref) an_expression names
+row_for (expression_kind valref) = childless (expression_kind valref) an_expression names
+row_for (command_kind assign) = each 1 an_expression (childless (command_kind assign) a_command names)
+row_for (command_kind loop) = followed 1 a_command (each 1 an_expression (childless (command_kind loop) a_command 1))
+row_for (command_kind cseq) = each 2 a_command (childless (command_kind cseq) a_command 1)
+row_for (command_kind blk) = followed 1 a_command (each 1 a_declaration (childless (command_kind blk) a_command 1))
+row_for (command_kind call) = counted_by name_bits an_expression (childless (command_kind call) a_command (names * suc most_parameters))
+row_for (command_kind conditional) = followed 2 a_command (each 1 an_expression (childless (command_kind conditional) a_command 1))
+row_for (declaration_kind bind) = each 1 a_bound (childless (declaration_kind bind) a_declaration names)
+row_for (declaration_kind dseq) = each 2 a_declaration (childless (declaration_kind dseq) a_declaration 1)
+row_for ref = each 1 an_expression (childless ref a_bound 1)
+row_for abs = followed 1 a_Block (counted_by 0 a_formal (childless abs a_bound (suc most_parameters)))
+row_for formal = childless formal a_formal (names * codes)
 
 -- The row of the kind with a number, if there is one.
 abbrev pub found_row : Option Kind → Prelude.Option Row

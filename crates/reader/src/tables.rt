@@ -9,7 +9,7 @@ ghost use Rattle.rules.specs.declared.kinds.Kind.TheVariants.{Expression as expr
 ghost use Rattle.rules.specs.declared.kinds.Sort.TheVariants.{Expression as an_expression, Command as a_command, Declaration as a_declaration};
 ghost use Rattle.reader.specs.Scan.{kind_at, passing};
 ghost use Rattle.reader.specs.Children.{sorts_of_children};
-ghost use Rattle.reader.specs.Rows.{leaf, each, followed, counted_by, row_for, row_at, kind_answer};
+ghost use Rattle.reader.specs.Rows.{childless, each, followed, counted_by, row_for, row_at, kind_answer};
 
 use rules::kinds::{
     Arithmetic, CommandKind, DeclarationKind, ExpressionKind, Kind, Logic, Operator, Order, Sort,
@@ -113,9 +113,10 @@ pub(crate) struct Row {
 const NOT_COUNTED: u64 = 32;
 
 impl Row {
+    // A kind with no children.
     #[inline(always)]
-    fn leaf(kind: Kind, own: Sort, bound: u64) -> Row
-        ensures { result ≡ leaf kind own bound }
+    fn childless(kind: Kind, own: Sort, bound: u64) -> Row
+        ensures { result ≡ childless kind own bound }
     {
         Row {
             kind,
@@ -131,9 +132,9 @@ impl Row {
 
     #[inline(always)]
     fn expression(kind: ExpressionKind, bound: u64) -> Row
-        ensures { result ≡ leaf (expression_kind kind) an_expression bound }
+        ensures { result ≡ childless (expression_kind kind) an_expression bound }
     {
-        Row::leaf(Kind::Expression(kind), Sort::Expression, bound)
+        Row::childless(Kind::Expression(kind), Sort::Expression, bound)
     }
 
     #[inline(always)]
@@ -145,18 +146,19 @@ impl Row {
 
     #[inline(always)]
     fn command(kind: CommandKind, bound: u64) -> Row
-        ensures { result ≡ leaf (command_kind kind) a_command bound }
+        ensures { result ≡ childless (command_kind kind) a_command bound }
     {
-        Row::leaf(Kind::Command(kind), Sort::Command, bound)
+        Row::childless(Kind::Command(kind), Sort::Command, bound)
     }
 
     #[inline(always)]
     fn declaration(kind: DeclarationKind, bound: u64) -> Row
-        ensures { result ≡ leaf (declaration_kind kind) a_declaration bound }
+        ensures { result ≡ childless (declaration_kind kind) a_declaration bound }
     {
-        Row::leaf(Kind::Declaration(kind), Sort::Declaration, bound)
+        Row::childless(Kind::Declaration(kind), Sort::Declaration, bound)
     }
 
+    // With so many children of a sort.
     #[inline(always)]
     fn each(self, count: u64, sort: Sort) -> Row
         ensures { result ≡ each count sort self }
@@ -168,8 +170,9 @@ impl Row {
         }
     }
 
+    // Behind them so many of another sort.
     #[inline(always)]
-    fn then(self, count: u64, sort: Sort) -> Row
+    fn followed(self, count: u64, sort: Sort) -> Row
         ensures { result ≡ followed count sort self }
     {
         Row {
@@ -179,15 +182,17 @@ impl Row {
         }
     }
 
+    // With two children.
     #[inline(always)]
     fn two(self, first: Sort, second: Sort) -> Row
         ensures { result ≡ followed 1 second (each 1 first self) }
     {
-        self.each(1, first).then(1, second)
+        self.each(1, first).followed(1, second)
     }
 
+    // With as many children of a sort as the operand's bits from a place on say.
     #[inline(always)]
-    fn counted(self, from: u64, sort: Sort) -> Row
+    fn counted_by(self, from: u64, sort: Sort) -> Row
         ensures { result ≡ counted_by from sort self }
     {
         Row {
@@ -197,7 +202,7 @@ impl Row {
         }
     }
 
-    // Whether the kind is of this sort.
+    // Whether the kind is of this sort. Most nodes are asked for the kind's own.
     #[inline(always)]
     fn has_sort(self, sort: Sort) -> bool
         requires { self ≡ row_for self.kind }
@@ -252,21 +257,21 @@ fn row_numbered(number: u64) -> Option<Row>
         21 => Some(Row::command(CommandKind::Loop, 1).two(Sort::Expression, Sort::Command)),
         22 => Some(Row::command(CommandKind::CSeq, 1).each(2, Sort::Command)),
         23 => Some(Row::command(CommandKind::Blk, 1).two(Sort::Declaration, Sort::Command)),
-        24 => Some(Row::command(CommandKind::Call, CALLS).counted(NAME_BITS, Sort::Expression)),
+        24 => Some(Row::command(CommandKind::Call, CALLS).counted_by(NAME_BITS, Sort::Expression)),
         25 => Some(
             Row::command(CommandKind::Cond, 1)
                 .each(1, Sort::Expression)
-                .then(2, Sort::Command),
+                .followed(2, Sort::Command),
         ),
         30 => Some(Row::declaration(DeclarationKind::Bind, NAMES).each(1, Sort::Bound)),
         31 => Some(Row::declaration(DeclarationKind::DSeq, 1).each(2, Sort::Declaration)),
-        40 => Some(Row::leaf(Kind::Ref, Sort::Bound, 1).each(1, Sort::Expression)),
+        40 => Some(Row::childless(Kind::Ref, Sort::Bound, 1).each(1, Sort::Expression)),
         41 => Some(
-            Row::leaf(Kind::Abs, Sort::Bound, COUNTS)
-                .counted(0, Sort::Formal)
-                .then(1, Sort::Block),
+            Row::childless(Kind::Abs, Sort::Bound, COUNTS)
+                .counted_by(0, Sort::Formal)
+                .followed(1, Sort::Block),
         ),
-        42 => Some(Row::leaf(Kind::Formal, Sort::Formal, NAMES * CODES)),
+        42 => Some(Row::childless(Kind::Formal, Sort::Formal, NAMES * CODES)),
         _ => None,
     }
 }
